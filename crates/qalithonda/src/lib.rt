@@ -1,0 +1,46 @@
+// The C interface, for hosts in other languages: each function hands a call on and gives its answer in numbers.
+use answer::Answer;
+use utf7::Style;
+ghost use mathlib.Core.Path.{_≡_};
+ghost use Rattle.answer.specs.Answer.{inNumbers};
+ghost use Rattle.reading.specs.Reading.{readInto};
+ghost use Rattle.utf7.specs.Rule.{utf7};
+ghost use Rattle.utf7.specs.Writing.{writeInto};
+ghost use Rattle.utf7.specs.declared.Style.the-variants.{Header, Body};
+ghost use Rattle.qalithonda.specs.Numbers.{verdictIn, left};
+
+// An answer: its number, and its count or place.
+#[repr(C)]
+pub struct Numbers {
+    pub number: u32,
+    pub place: usize,
+}
+
+fn in_numbers(a: Answer) -> Numbers
+    ensures { λ r. ⌜ verdictIn r ≡ inNumbers a ⌝ }
+{
+    let number = answer::number(a);
+    let place = answer::place(a);
+    Numbers { number, place }
+}
+
+#[no_mangle]
+pub extern "C" fn qalithonda_utf7_read(text: &[u8], cells: &mut [u32]) -> Numbers
+    ensures { λ r. ⌜ left r (now (cells .exit)) ≡ readInto utf7 (now (text .entry)) (now (cells .entry)) ⌝ }
+{
+    in_numbers(utf7_read::read(text, cells))
+}
+
+#[no_mangle]
+pub extern "C" fn qalithonda_utf7_header_write(cells: &[u32], out: &mut [u8]) -> Numbers
+    ensures { λ r. ⌜ left r (now (out .exit)) ≡ writeInto Header (now (cells .entry)) (now (out .entry)) ⌝ }
+{
+    in_numbers(utf7_write::write(Style::Header, cells, out))
+}
+
+#[no_mangle]
+pub extern "C" fn qalithonda_utf7_body_write(cells: &[u32], out: &mut [u8]) -> Numbers
+    ensures { λ r. ⌜ left r (now (out .exit)) ≡ writeInto Body (now (cells .entry)) (now (out .entry)) ⌝ }
+{
+    in_numbers(utf7_write::write(Style::Body, cells, out))
+}

@@ -1,0 +1,5 @@
+pub mod Laws
+pub mod Filling
+pub mod Steps
+pub mod Cursors
+pub mod Walk

@@ -1,0 +1,63 @@
+-- What is written is outside a run after each CR or LF and at its end. Assumes nothing.
+use Prim.Native.Nat.{ℕ, _<_}
+use mathlib.Core.Path.{_≡_, refl, sym, _∙_}
+use mathlib.Core.Bool.{Bool, true, false, true≢false, not}
+use mathlib.Core.List.{List, [], _∷_, _++_, map, append-assoc}
+use lib.Dec.{lit<}
+use borrow.Author.Tests.{not-true}
+use Rattle.answer.specs.Lists.{Each}
+use Rattle.answer.proofs.Below.{allBelow, below}
+use Rattle.bits.specs.Bits.{bitsOf}
+use Rattle.base64.specs.Letters.{letterOf}
+use Rattle.reading.specs.Reading.{Does, give, go, bad}
+use Rattle.reading.proofs.Walk.{Walk, stay, gives, goes}
+use Rattle.utf7.specs.Rule.{Shift, outside, byteDoes, utf7}
+use Rattle.utf7.specs.Writing.{IsUnit, Piece, self, sign, stretch, pieces, letters, spell, spellAll, writing}
+use Rattle.utf7.specs.Lines.{lineEnd, OnLine, LinesClosed}
+use Rattle.utf7.specs.declared.Style.{Style}
+use Rattle.utf7.proofs.Round.{Good, AllGood, unitsOf, xs, xs-below, self-walk, piece-walk, pieces-good}
+
+-- bytes that end no line
+abbrev Inner : List ℕ → Type 0
+Inner bs = Each (λ b. lineEnd b ≡ false) bs
+
+no-end : {A : Type 0} (b : ℕ) → lineEnd b ≡ false → lineEnd b ≡ true → A
+no-end b f t = absurd (true≢false (sym t ∙ f))
+
+-- a walk over such bytes
+walk-lines :
+    {st end : Shift} {bs cs : List ℕ} → Walk utf7 st bs cs end → Inner bs → (rest : List ℕ) → LinesClosed rest end → LinesClosed (bs ++ rest) st
+unfolding LinesClosed
+walk-lines stay i rest h = h
+walk-lines (gives {b = b} e w) i rest h = rw e (no-end b (i .0), walk-lines w (i .1) rest h)
+walk-lines (goes {b = b} e w) i rest h = rw e (no-end b (i .0), walk-lines w (i .1) rest h)
+
+inner-append : (a c : List ℕ) → Inner a → Inner c → Inner (a ++ c)
+inner-append [] c h k = k
+inner-append (b ∷ a) c h k = (h .0, inner-append a c (h .1) k)
+
+letter-inner : (x : ℕ) → x < 64 → lineEnd (letterOf x) ≡ false
+unfolding letterOf allBelow
+letter-inner x h = not-true (lineEnd (letterOf x)) (below (λ k. not (lineEnd (letterOf k))) 64 refl x h)
+
+letters-inner : (xs : List ℕ) → Each (λ x. x < 64) xs → Inner (map letterOf xs)
+letters-inner [] h = tt
+letters-inner (x ∷ xs) h = (letter-inner x (h .0), letters-inner xs (h .1))
+
+piece-lines : (p : Piece) → Good p → (rest : List ℕ) → LinesClosed rest outside → LinesClosed (spell p ++ rest) outside
+unfolding LinesClosed spell letters
+piece-lines (self u) g rest h = rw (self-walk u g) ((λ _. refl), h)
+piece-lines sign g rest h = walk-lines (piece-walk sign tt) (refl, (refl, tt)) rest h
+piece-lines (stretch us) g rest h =
+    let ls = xs us (g .0) (g .1) in
+    let i = letters-inner ls (xs-below us (g .0) (g .1)) in
+    walk-lines (piece-walk (stretch us) g) (refl, inner-append (map letterOf ls) (45 ∷ []) i (refl, tt)) rest h
+
+all-lines : (ps : List Piece) → AllGood ps → LinesClosed (spellAll ps) outside
+unfolding spellAll LinesClosed
+all-lines [] g = refl
+all-lines (p ∷ ps) g = piece-lines p (g .0) (spellAll ps) (all-lines ps (g .1))
+
+pub lines-closed : (style : Style) (us : List ℕ) → Each IsUnit us → LinesClosed (writing style us) outside
+unfolding writing
+lines-closed style us h = all-lines (pieces style us) (pieces-good style us h)

@@ -1,0 +1,23 @@
+use Prim.Native.Nat.{ℕ}
+use mathlib.Core.Path.{_≡_, refl, sym, _∙_}
+use mathlib.Core.Bool.{or-false}
+use borrow.Author.Tests.{ne-eqb}
+use native.Mathlib.Omega.{arith}
+use Rattle.answer.proofs.Below.{allBelow}
+use Rattle.utf7.specs.declared.Style.the-variants.{Header, Body}
+use Rattle.utf7.specs.Sets.{own, direct, setD, setO, alphanumeric}
+use Rattle.utf7.proofs.Sets.{own-range, own-past, own-low}
+use Rattle.utf7.proofs.is_line_blank.Statement.{statement}
+use Rattle.utf7.proofs.is_line_blank.Tie as tie
+
+returns : tie.Need-returns
+returns c = rw (c .if1 .taken)
+
+returns-2 : tie.Need-returns-2
+returns-2 c = rw (c .if2 .taken)
+
+returns-3 : tie.Need-returns-3
+returns-3 c = simp (ne-eqb _ _ (c .before .if1 .left), ne-eqb _ _ (c .if2 .left), or-false)
+
+pub is-line-blank-spec : {M : Type 1} → statement M
+is-line-blank-spec = tie.close (tie.spec returns returns-2 returns-3)

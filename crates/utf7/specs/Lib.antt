@@ -1,0 +1,4 @@
+pub mod Sets
+pub mod Rule
+pub mod Writing
+pub mod Lines

@@ -1,0 +1,65 @@
+-- Document 01, "UTF-7": writing, in header and in body style.
+use Prim.Native.Nat.{ℕ, suc, _<_, _^_}
+use mathlib.Core.Bool.{Bool, cond}
+use mathlib.Core.List.{List, [], _∷_, _++_, map}
+use lib.ListN.{length}
+use lib.Dec.{ltb, eqb}
+use Rattle.answer.specs.Answer.{numbered, limit, tooLong}
+use Rattle.answer.specs.Output.{Outcome, refusing, deliver}
+use Rattle.bits.specs.Bits.{bitsOf, full, filler}
+use Rattle.base64.specs.Letters.{letterOf}
+use Rattle.utf7.specs.Sets.{own}
+use Rattle.utf7.specs.declared.Style.{Style}
+
+-- "UTF-7 cells are UTF-16 units, 0 to 65535"
+abbrev pub IsUnit : ℕ → Type 0
+IsUnit u = u < 2 ^ 16
+
+-- how units are spelled: one as itself, a '+', or a longest stretch of other units
+pub data Piece : Type 0 where
+  self : ℕ → Piece
+  sign : Piece
+  stretch : List ℕ → Piece
+
+-- another unit in front of pieces: it lengthens the stretch that they begin with, or is a stretch by itself
+abbrev pub extend : ℕ → List Piece → List Piece
+extend u [] = stretch (u ∷ []) ∷ []
+extend u (self v ∷ ps) = stretch (u ∷ []) ∷ self v ∷ ps
+extend u (sign ∷ ps) = stretch (u ∷ []) ∷ sign ∷ ps
+extend u (stretch us ∷ ps) = stretch (u ∷ us) ∷ ps
+
+-- "Each longest stretch of other units is one run"
+unfoldable pub pieces : Style → List ℕ → List Piece
+pieces style [] = []
+pieces style (u ∷ us) =
+    cond (own style u) (self u ∷ pieces style us)
+    (cond (eqb u 43) (sign ∷ pieces style us) (extend u (pieces style us)))
+
+-- "its letters with fewest zero bits as filler"
+unfoldable pub letters : List Bool → List ℕ
+letters bs = map letterOf (full 6 (bs ++ filler 6 bs))
+
+-- "+ is always +-"; a run is '+', the letters of its units' bits, sixteen for each, "and always -"
+unfoldable pub spell : Piece → List ℕ
+spell (self u) = u ∷ []
+spell sign = 43 ∷ 45 ∷ []
+spell (stretch us) = 43 ∷ (letters (bitsOf 16 us) ++ 45 ∷ [])
+
+unfoldable pub spellAll : List Piece → List ℕ
+spellAll [] = []
+spellAll (p ∷ ps) = spell p ++ spellAll ps
+
+-- the bytes that units are written as
+unfoldable pub writing : Style → List ℕ → List ℕ
+writing style us = spellAll (pieces style us)
+
+-- the index of the first cell that is no unit, or the length
+unfoldable pub firstOver : List ℕ → ℕ
+firstOver [] = 0
+firstOver (u ∷ us) = cond (ltb u (2 ^ 16)) (suc (firstOver us)) 0
+
+-- writing into an output: 16, then 10 with the cell's index, then 9
+unfoldable pub writeInto : Style → List ℕ → List ℕ → Outcome
+writeInto style us out =
+    cond (ltb limit (length us)) (refusing tooLong out)
+    (cond (ltb (firstOver us) (length us)) (refusing (numbered 10 (firstOver us)) out) (deliver (writing style us) out))

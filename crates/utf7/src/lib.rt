@@ -1,0 +1,100 @@
+// UTF-7 (RFC 2152) as document 01 states it: definitions, laws, and the tests that tell its sets apart.
+ghost use mathlib.Core.Path.{_≡_};
+ghost use Rattle.utf7.specs.declared.Style.the-variants.{Header};
+ghost use Rattle.utf7.specs.Sets.{member, lineBlanks, direct, own};
+
+// "Writing has two styles."
+pub enum Style {
+    Header,
+    Body,
+}
+
+// Outside a run the byte stands for itself.
+pub fn is_direct(u: u32) -> bool
+    ensures { λ r. ⌜ r ≡ direct u ⌝ }
+{
+    if 125 < u {
+        return false;
+    }
+    if 92 < u {
+        return true;
+    }
+    if 91 < u {
+        return false;
+    }
+    if 43 < u {
+        return true;
+    }
+    if 42 < u {
+        return false;
+    }
+    if 31 < u {
+        return true;
+    }
+    is_line_blank(u)
+}
+
+// The unit is written as itself in the style.
+pub fn is_own(style: Style, u: u32) -> bool
+    ensures { λ r. ⌜ r ≡ own style u ⌝ }
+{
+    match style {
+        Style::Header => is_header(u),
+        Style::Body => is_direct(u),
+    }
+}
+
+// Tab, LF, CR.
+fn is_line_blank(u: u32) -> bool
+    ensures { λ r. ⌜ r ≡ member lineBlanks u ⌝ }
+{
+    if u == 9 {
+        return true;
+    }
+    if u == 10 {
+        return true;
+    }
+    u == 13
+}
+
+fn is_header(u: u32) -> bool
+    ensures { λ r. ⌜ r ≡ own Header u ⌝ }
+{
+    if 122 < u {
+        return false;
+    }
+    if 96 < u {
+        return true;
+    }
+    if 90 < u {
+        return false;
+    }
+    if 64 < u {
+        return true;
+    }
+    if 63 < u {
+        return false;
+    }
+    if 62 < u {
+        return true;
+    }
+    if 58 < u {
+        return false;
+    }
+    if 43 < u {
+        return true;
+    }
+    if 41 < u {
+        return false;
+    }
+    if 38 < u {
+        return true;
+    }
+    if 32 < u {
+        return false;
+    }
+    if 31 < u {
+        return true;
+    }
+    is_line_blank(u)
+}

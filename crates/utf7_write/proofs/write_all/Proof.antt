@@ -1,0 +1,214 @@
+use Prim.Native.Nat.{ℕ, _+_, _-_, _≤_}
+use mathlib.Core.Path.{sym, _∙_}
+use mathlib.Core.List.{List, _∷_, _++_}
+use native.Mathlib.Omega.{arith}
+use lib.ListN.{length, getD, take, drop, length-set}
+use Rattle.answer.proofs.Below.{each-take, each-drop}
+use Rattle.answer.proofs.Put.{Put, put-start, put-as, put-lt, put-next, put-lent-room, put-lent, put-done}
+use Rattle.utf7.specs.Writing.{IsUnit, stretch, spell, writing}
+use Rattle.utf7_write.proofs.Two.{Two, put-two}
+use Rattle.utf7_write.proofs.Stretches.{Stretched, Itself, stretched, write-end, write-sign, itself}
+use borrow.Author.Needs.{needs}
+use Rattle.utf7_write.proofs.write_all.Statement.{statement}
+use Rattle.utf7_write.proofs.write_all.Tie as tie
+
+abbrev Inv-loop : tie.InvT-loop
+Inv-loop style cells out₀ i₀ at₀ out i at = Put (writing style cells) out₀ out at (writing style (drop i cells)) × (i ≤ length cells)
+
+abbrev μ-loop : tie.MeasureT-loop
+μ-loop style cells out₀ i₀ at₀ out i at = length cells - i
+
+-- where the loop stands once a unit is told apart, what is put there, and the writing from a place on
+abbrev loop-at : tie.After-is-other Inv-loop μ-loop → tie.At-loop Inv-loop μ-loop
+loop-at c = c .before .before .before
+
+abbrev rest : tie.At-loop Inv-loop μ-loop → ℕ → List ℕ
+rest l i = writing (l .before .before .before .args .style) (drop i (l .before .before .before .args .cells .now))
+
+abbrev ToPut : tie.At-loop Inv-loop μ-loop → List ℕ → Type 0
+ToPut l todo = Put (rest l 0) (l .before .before .before .args .out .now) (l .loop .out) (l .loop .at) todo
+
+-- a stretch
+found :
+    (c : tie.After-stretch-end Inv-loop μ-loop) → let l = loop-at (c .before .before) in
+    let a = l .before .before .before .args in
+    Stretched (a .style) (a .cells .now) (l .loop .i) (c .stretch-end .result)
+found c =
+    let t = c .before .before in
+    stretched _ _ _ (t .before .before .loop-test .taken) _ (sym (t .is-other .ensures) ∙ c .before .if1 .taken) (c .stretch-end .ensures)
+
+abbrev run : tie.After-stretch-end Inv-loop μ-loop → List ℕ
+run c =
+    let l = loop-at (c .before .before) in
+    spell (stretch (take (c .stretch-end .result - l .loop .i) (drop (l .loop .i) (l .before .before .before .args .cells .now))))
+
+lent :
+    (c : tie.After-stretch-end Inv-loop μ-loop) → let l = loop-at (c .before .before) in ToPut l (run c ++ rest l (c .stretch-end .result))
+lent c = put-as (found c .cut) (loop-at (c .before .before) .loop .inv .0)
+
+-- a '+'
+signed :
+    (c : tie.Then2 Inv-loop μ-loop) → let l = loop-at (c .before .before) in
+    Two (rest l 0) (l .before .before .before .args .out .now) (l .loop .out) (l .loop .at) 43 45 (rest l (l .loop .i + 1))
+signed c =
+    let t = c .before .before in
+    put-two (put-as (write-sign _ _ _ (t .before .before .loop-test .taken) (c .if2 .taken)) (loop-at t .loop .inv .0))
+
+-- a unit that is written as itself
+own :
+    (c : tie.Else2 Inv-loop μ-loop) → let l = loop-at (c .before .before) in
+    let a = l .before .before .before .args in
+    Itself (a .style) (a .cells .now) (l .loop .i)
+own c =
+    let t = c .before .before in
+    itself _ _ _ (t .before .before .loop-test .taken) (sym (t .is-other .ensures) ∙ c .before .if1 .left) (c .if2 .left)
+
+owned :
+    (c : tie.Else2 Inv-loop μ-loop) → let l = loop-at (c .before .before) in
+    ToPut l (getD (l .before .before .before .args .cells .now) (l .loop .i) 0 ∷ rest l (l .loop .i + 1))
+owned c = put-as (own c .cut) (loop-at (c .before .before) .loop .inv .0)
+
+loop-holds : tie.Need-loop-holds Inv-loop μ-loop
+loop-holds c = (put-start _ _ (c .before .before .pre .1), omega arith)
+
+mul-u : tie.Need-mul-u Inv-loop μ-loop
+mul-u c = search needs
+
+shared-slice-read-u : tie.Need-shared-slice-read-u Inv-loop μ-loop
+shared-slice-read-u c = search needs
+
+is-other-requires : tie.Need-is-other-requires Inv-loop μ-loop
+is-other-requires c κs = search needs
+
+stretch-end-requires : tie.Need-stretch-end-requires Inv-loop μ-loop
+stretch-end-requires c κs = search needs
+
+mul-write-run : tie.Need-mul-write-run Inv-loop μ-loop
+mul-write-run c = search needs
+
+sub-write-run : tie.Need-sub-write-run Inv-loop μ-loop
+sub-write-run c = let s = found c in omega arith
+
+part-write-run-start : tie.Need-part-write-run-start Inv-loop μ-loop
+part-write-run-start c = let s = found c in omega arith
+
+part-write-run-end : tie.Need-part-write-run-end Inv-loop μ-loop
+part-write-run-end c = let s = found c in omega arith
+
+sub-write-run-2 : tie.Need-sub-write-run-2 Inv-loop μ-loop
+sub-write-run-2 c = search needs
+
+part-write-run-start-2 : tie.Need-part-write-run-start-2 Inv-loop μ-loop
+part-write-run-start-2 c = search needs
+
+part-write-run-end-2 : tie.Need-part-write-run-end-2 Inv-loop μ-loop
+part-write-run-end-2 c = search needs
+
+write-run-requires : tie.Need-write-run-requires Inv-loop μ-loop
+write-run-requires c κs =
+    let f = c .before .before in
+    let l = loop-at (f .before .before) in
+    let s = l .before .before .before in (
+      each-take IsUnit (drop (l .loop .i) (s .args .cells .now)) (f .stretch-end .result - l .loop .i) (each-drop IsUnit (s .args .cells .now) (l .loop .i) (s .pre .0)),
+      put-lent-room (run f) _ (lent f),
+    )
+
+add-at : tie.Need-add-at Inv-loop μ-loop
+add-at c =
+    let w = c .before .before in
+    let f = w .before .before .before in
+    let p = put-lent (run f) _ (lent f) (w .write-run .ensures .1) in
+    omega (arith, p .upto, p .room, w .write-run .ensures .0, loop-at (f .before .before) .before .before .before .good)
+
+loop-less : tie.Need-loop-less Inv-loop μ-loop
+loop-less c = let s = found (c .before .before .before .before .before) in omega arith
+
+loop-again : tie.Need-loop-again Inv-loop μ-loop
+loop-again c =
+    let w = c .before .before in
+    let f = w .before .before .before in
+    let p = put-lent (run f) _ (lent f) (w .write-run .ensures .1) in
+    (rw (w .write-run .ensures .0) p, found f .inside)
+
+slice-write-out : tie.Need-slice-write-out Inv-loop μ-loop
+slice-write-out c = let s = signed c in search needs
+
+add-out : tie.Need-add-out Inv-loop μ-loop
+add-out c = let s = signed c in search needs
+
+slice-write-out-2 : tie.Need-slice-write-out-2 Inv-loop μ-loop
+slice-write-out-2 c = simp length-set (signed c .room)
+
+add-at-2 : tie.Need-add-at-2 Inv-loop μ-loop
+add-at-2 c = let s = signed c in search needs
+
+add-i : tie.Need-add-i Inv-loop μ-loop
+add-i c = search needs
+
+loop-less-2 : tie.Need-loop-less-2 Inv-loop μ-loop
+loop-less-2 c = search needs
+
+loop-again-2 : tie.Need-loop-again-2 Inv-loop μ-loop
+loop-again-2 c = (signed c .put, omega arith)
+
+cast-out : tie.Need-cast-out Inv-loop μ-loop
+cast-out c = let o = own c in omega arith
+
+slice-write-out-3 : tie.Need-slice-write-out-3 Inv-loop μ-loop
+slice-write-out-3 c = put-lt (owned c)
+
+add-at-3 : tie.Need-add-at-3 Inv-loop μ-loop
+add-at-3 c = let h = put-lt (owned c) in search needs
+
+add-i-2 : tie.Need-add-i-2 Inv-loop μ-loop
+add-i-2 c = search needs
+
+loop-less-3 : tie.Need-loop-less-3 Inv-loop μ-loop
+loop-less-3 c = search needs
+
+loop-again-3 : tie.Need-loop-again-3 Inv-loop μ-loop
+loop-again-3 c = (put-next (owned c), omega arith)
+
+same-length : tie.Need-same-length Inv-loop μ-loop
+same-length c = c .before .loop .inv .0 .same
+
+returns : tie.Need-returns Inv-loop μ-loop
+returns c = put-done (put-as (write-end _ _ _ (c .loop-test .left)) (c .before .loop .inv .0))
+
+pub write-all-spec : {M : Type 1} → statement M
+write-all-spec =
+    tie.close
+    (tie.spec
+    Inv-loop
+    μ-loop
+    loop-holds
+    mul-u
+    shared-slice-read-u
+    is-other-requires
+    stretch-end-requires
+    mul-write-run
+    sub-write-run
+    part-write-run-start
+    part-write-run-end
+    sub-write-run-2
+    part-write-run-start-2
+    part-write-run-end-2
+    write-run-requires
+    add-at
+    loop-less
+    loop-again
+    slice-write-out
+    add-out
+    slice-write-out-2
+    add-at-2
+    add-i
+    loop-less-2
+    loop-again-2
+    cast-out
+    slice-write-out-3
+    add-at-3
+    add-i-2
+    loop-less-3
+    loop-again-3
+    same-length
+    returns)

@@ -1,0 +1,44 @@
+//! Runs a built lister.
+
+use std::env;
+use std::io::Write;
+use std::os::unix::process::ExitStatusExt;
+use std::path::{Path, PathBuf};
+use std::process::{Command, Stdio};
+use std::thread;
+
+pub struct Lister {
+    pub name: &'static str,
+    path: PathBuf,
+}
+
+impl Lister {
+    /// The program of this name in the folder QALITHONDA_BIN, or `target/bin`.
+    pub fn new(name: &'static str) -> Lister {
+        let folder = env::var("QALITHONDA_BIN").unwrap_or_else(|_| "target/bin".to_string());
+        Lister { name, path: Path::new(&folder).join(name) }
+    }
+
+    /// What the lister prints when this text is its standard input.
+    pub fn list(&self, text: &[u8]) -> Result<Vec<u8>, String> {
+        let failed = |problem: String| format!("cannot run {}: {problem}", self.path.display());
+        let mut child = Command::new(&self.path)
+            .stdin(Stdio::piped())
+            .stdout(Stdio::piped())
+            .spawn()
+            .map_err(|error| failed(error.to_string()))?;
+        let mut stdin = child.stdin.take().expect("a pipe");
+        let output = thread::scope(|scope| {
+            scope.spawn(move || {
+                // The lister stops reading a text that is too long: a broken pipe is no fault.
+                let _ = stdin.write_all(text);
+            });
+            child.wait_with_output()
+        });
+        let output = output.map_err(|error| failed(error.to_string()))?;
+        match output.status.signal() {
+            Some(signal) => Err(failed(format!("ended by signal {signal}"))),
+            None => Ok(output.stdout),
+        }
+    }
+}

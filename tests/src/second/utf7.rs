@@ -1,0 +1,231 @@
+//! UTF-7, after the section "UTF-7" of document 01.
+
+use super::{refuse, within_limit, Answer, Elements};
+
+/// "Writing has two styles."
+#[derive(Clone, Copy, Debug, PartialEq, Eq)]
+pub enum Style {
+    Header,
+    Body,
+}
+
+const PLUS_SIGN: u32 = 0x2B;
+
+/// "Set D: letters, digits, and `' ( ) , - . / : ?`."
+fn in_set_d(byte: u8) -> bool {
+    byte.is_ascii_alphanumeric() || b"'(),-./:?".contains(&byte)
+}
+
+/// "Set O: ``! " # $ % & * ; < = > @ [ ] ^ _ ` { | }``."
+fn in_set_o(byte: u8) -> bool {
+    b"!\"#$%&*;<=>@[]^_`{|}".contains(&byte)
+}
+
+/// "Header style writes D, space, tab, CR and LF as themselves; body style adds O."
+fn is_direct(style: Style, byte: u8) -> bool {
+    in_set_d(byte) || b" \t\r\n".contains(&byte) || (style == Style::Body && in_set_o(byte))
+}
+
+/// "Set B: letters, digits, `+`, `/`, with their RFC 2045 values 0 to 63": the set in the order of the values.
+fn set_b() -> impl Iterator<Item = u8> {
+    (b'A'..=b'Z').chain(b'a'..=b'z').chain(b'0'..=b'9').chain([b'+', b'/'])
+}
+
+/// The value of a byte, if it is in set B.
+fn value(byte: u8) -> Option<usize> {
+    set_b().position(|letter| letter == byte)
+}
+
+/// The number that these bits write, high bit first.
+fn number(bits: &[u8]) -> usize {
+    bits.iter().fold(0, |number, &bit| 2 * number + usize::from(bit == b'1'))
+}
+
+/// Reads a text. "In reading, the earliest place decides; at one byte 1, then 2 or 4, then 3, 5 or 6."
+pub fn read(text: &[u8]) -> Elements<u32> {
+    within_limit(text.len())?;
+    let pieces = cut(text);
+    let faults = high_bytes(text).chain(pieces.iter().filter_map(Piece::fault));
+    match faults.min_by_key(|fault| (fault.place, rank(fault.number))) {
+        Some(fault) => Err(fault),
+        None => Ok(pieces.iter().flat_map(Piece::cells).collect()),
+    }
+}
+
+/// The order of the faults at one byte.
+fn rank(number: u32) -> usize {
+    [1, 2, 4, 3].iter().position(|&other| other == number).expect("a fault of reading")
+}
+
+/// "1 | byte of 128 or more | that byte"
+fn high_bytes(text: &[u8]) -> impl Iterator<Item = Answer> + '_ {
+    let places = (0..text.len()).filter(|&place| text[place] >= 128);
+    places.map(|place| Answer { number: 1, place })
+}
+
+/// A part of a text that is read by itself. `end` is where it is noticed that the part is over: "the index of the byte
+/// in hand, or the text length at the end".
+enum Piece {
+    Outside { byte: u8, place: usize },
+    PlusSign,
+    BarePlus { end: usize },
+    Run { bits: Vec<u8>, end: usize },
+}
+
+/// Cuts a text into its pieces, from left to right.
+fn cut(text: &[u8]) -> Vec<Piece> {
+    let mut pieces = Vec::new();
+    let mut place = 0;
+    while place < text.len() {
+        let (piece, length) = first_piece(&text[place..], place);
+        pieces.push(piece);
+        place += length;
+    }
+    pieces
+}
+
+/// The first piece of what is left of a text from this place on, and how many bytes it takes.
+fn first_piece(rest: &[u8], place: usize) -> (Piece, usize) {
+    if rest[0] != b'+' {
+        return (Piece::Outside { byte: rest[0], place }, 1);
+    }
+    // "`+` and a byte of B opens a run." "Any byte outside B ends it." "The end of the text ends a run too."
+    let letters: Vec<usize> = rest[1..].iter().map_while(|&byte| value(byte)).collect();
+    let length = 1 + letters.len();
+    // "`-` is then absorbed; another byte is read as outside a run."
+    let absorbed = rest.get(length) == Some(&b'-');
+    let end = place + length;
+    let piece = match (letters.is_empty(), absorbed) {
+        (true, true) => Piece::PlusSign,
+        (true, false) => Piece::BarePlus { end },
+        // "A run's letters give six bits each, high bit first."
+        (false, _) => {
+            Piece::Run { bits: letters.iter().flat_map(|letter| format!("{letter:06b}").into_bytes()).collect(), end }
+        }
+    };
+    (piece, length + usize::from(absorbed))
+}
+
+impl Piece {
+    fn cells(&self) -> Vec<u32> {
+        match self {
+            // "Outside a run, bytes of D, O, space, tab, CR and LF are themselves."
+            Piece::Outside { byte, .. } => vec![u32::from(*byte)],
+            // "`+-` is 002B."
+            Piece::PlusSign => vec![PLUS_SIGN],
+            Piece::BarePlus { .. } => vec![],
+            // "Each full 16 bits are a unit."
+            Piece::Run { bits, .. } => bits.chunks_exact(16).map(|unit| number(unit) as u32).collect(),
+        }
+    }
+
+    fn fault(&self) -> Option<Answer> {
+        match self {
+            // "3 | byte that no rule allows there | that byte"
+            Piece::Outside { byte, place } if !is_direct(Style::Body, *byte) => {
+                Some(Answer { number: 3, place: *place })
+            }
+            // "2 | `+` followed by neither B nor `-`, or by the end | as noticed"
+            Piece::BarePlus { end } => Some(Answer { number: 2, place: *end }),
+            // "Bits left over when a run ends must all be zero, however many they are."
+            // "4 | left-over bits not zero | as noticed"
+            Piece::Run { bits, end } if bits.chunks_exact(16).remainder().contains(&b'1') => {
+                Some(Answer { number: 4, place: *end })
+            }
+            _ => None,
+        }
+    }
+}
+
+/// Writes cells in a style. "Writing: first 10, then 9."
+pub fn write(style: Style, cells: &[u32]) -> Elements<u8> {
+    within_limit(cells.len())?;
+    // "UTF-7 cells are UTF-16 units, 0 to 65535." "10 | cell not writable in this kind | its index"
+    if let Some(index) = cells.iter().position(|&cell| cell > 65_535) {
+        return refuse(10, index);
+    }
+    // "Each longest stretch of other units is one run."
+    let stretches = cells.chunk_by(|&left, &right| alone(style, left).is_none() && alone(style, right).is_none());
+    Ok(stretches.flat_map(|stretch| alone(style, stretch[0]).unwrap_or_else(|| run(stretch))).collect())
+}
+
+/// How a unit that needs no run is written: as itself, and "`+` is always `+-`".
+fn alone(style: Style, unit: u32) -> Option<Vec<u8>> {
+    match u8::try_from(unit) {
+        Ok(b'+') => Some(b"+-".to_vec()),
+        Ok(byte) if is_direct(style, byte) => Some(vec![byte]),
+        _ => None,
+    }
+}
+
+/// "one run: `+`, its letters with fewest zero bits as filler, and always `-`."
+pub fn run(units: &[u32]) -> Vec<u8> {
+    let mut bits: Vec<u8> = units.iter().flat_map(|unit| format!("{unit:016b}").into_bytes()).collect();
+    while !bits.len().is_multiple_of(6) {
+        bits.push(b'0');
+    }
+    let letters = bits.chunks(6).map(|six| set_b().nth(number(six)).expect("six bits"));
+    [b'+'].into_iter().chain(letters).chain([b'-']).collect()
+}
+
+#[cfg(test)]
+mod tests {
+    use super::super::{listing, outcome, Outcome};
+    use super::*;
+    use crate::examples;
+
+    #[test]
+    fn reads_the_examples() {
+        for example in examples::readings().into_iter().flat_map(|group| group.examples) {
+            assert_eq!(read(&example.text), example.cells, "{example}");
+        }
+    }
+
+    #[test]
+    fn writes_the_examples() {
+        for example in examples::writings().into_iter().flat_map(|group| group.examples) {
+            assert_eq!(write(example.style, &example.cells), Ok(example.text.clone()), "{example}");
+        }
+    }
+
+    #[test]
+    fn prints_the_listings() {
+        for example in examples::LISTINGS {
+            assert_eq!(listing(read, example.text.as_bytes()), example.printed);
+        }
+    }
+
+    #[test]
+    fn every_unit_reads_back() {
+        for style in [Style::Header, Style::Body] {
+            for unit in 0..=65_535 {
+                let written = write(style, &[unit]).expect("a writable cell");
+                assert_eq!(read(&written), Ok(vec![unit]));
+            }
+        }
+    }
+
+    #[test]
+    fn refuses_over_the_limit_and_cells_that_are_no_units() {
+        assert_eq!(read(&[b'~'; 65_537]), refuse(16, 65_536));
+        assert_eq!(read(&[b'a'; 65_536]), Ok(vec![0x61; 65_536]));
+        assert_eq!(write(Style::Body, &[65_536; 65_537]), refuse(16, 65_536));
+        assert_eq!(write(Style::Body, &[0x61, 65_536, 70_000]), refuse(10, 1));
+        assert_eq!(listing(read, &[b'+'; 16_385]), "status=16\nplace=16384\n");
+    }
+
+    #[test]
+    fn a_refusal_leaves_the_output() {
+        let (short, exact, long) = ([7, 7], [7, 7, 7, 7], [7, 7, 7, 7, 7, 7]);
+        let cells = read(b"A+ImIDkQ.");
+        let call = |output: &[u32]| outcome(&cells, output);
+        assert_eq!(call(&short), Outcome { answer: Answer { number: 9, place: 4 }, output: short.to_vec() });
+        let accepted = Answer { number: 0, place: 4 };
+        assert_eq!(call(&exact), Outcome { answer: accepted, output: vec![0x41, 0x2262, 0x391, 0x2E] });
+        assert_eq!(call(&long), Outcome { answer: accepted, output: vec![0x41, 0x2262, 0x391, 0x2E, 7, 7] });
+        assert_eq!(
+            outcome(&read(b"ab~"), &long),
+            Outcome { answer: Answer { number: 3, place: 2 }, output: long.to_vec() }
+        );
+    }
+}

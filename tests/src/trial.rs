@@ -1,0 +1,113 @@
+//! Tries many inputs, makes one that fails smaller, and writes inputs and differences so that they can be read.
+
+use std::fmt::{Display, UpperHex};
+
+/// How often a failing input is tried with a part left out.
+const ATTEMPTS: usize = 500;
+
+/// How many elements of a list are written out.
+const SHOWN: usize = 200;
+
+/// Compares on every example, and names the first that fails; the count is that of the examples.
+pub fn try_examples<E: Display>(
+    examples: &[E],
+    mut compare: impl FnMut(&E) -> Result<(), String>,
+) -> Result<usize, String> {
+    for example in examples {
+        compare(example).map_err(|difference| format!("on {example}: {difference}"))?;
+    }
+    Ok(examples.len())
+}
+
+/// Compares on every input, and describes the first that fails; the count is that of the inputs.
+pub fn try_all<T, I>(inputs: I, mut compare: impl FnMut(&[T]) -> Result<(), String>) -> Result<usize, String>
+where
+    T: Copy + UpperHex,
+    I: IntoIterator<Item = Vec<T>>,
+{
+    let mut count = 0;
+    for input in inputs {
+        if let Err(difference) = compare(&input) {
+            let (small, difference) = shrink(input, difference, compare);
+            return Err(format!("on {}: {difference}", show(&small)));
+        }
+        count += 1;
+    }
+    Ok(count)
+}
+
+/// A part of a failing input that fails too, with its difference: parts are left out, large ones first, while it fails.
+fn shrink<T: Copy>(
+    input: Vec<T>,
+    difference: String,
+    mut compare: impl FnMut(&[T]) -> Result<(), String>,
+) -> (Vec<T>, String) {
+    let mut found = (input, difference);
+    let mut attempts = 0;
+    let mut size = found.0.len();
+    while size > 0 {
+        let mut start = 0;
+        while start < found.0.len() && attempts < ATTEMPTS {
+            let end = (start + size).min(found.0.len());
+            let part = [&found.0[..start], &found.0[end..]].concat();
+            match compare(&part) {
+                Err(difference) => found = (part, difference),
+                Ok(()) => start += size,
+            }
+            attempts += 1;
+        }
+        size /= 2;
+    }
+    found
+}
+
+/// The first elements of a list in hex, and its length.
+pub fn show<T: UpperHex>(list: &[T]) -> String {
+    let digits: Vec<String> = list.iter().take(SHOWN).map(hex).collect();
+    let rest = if list.len() > SHOWN { " .." } else { "" };
+    format!("[{}{rest}] (length {})", digits.join(" "), list.len())
+}
+
+fn hex<T: UpperHex>(element: &T) -> String {
+    format!("{element:0width$X}", width = 2 * size_of::<T>())
+}
+
+/// That two lists of one length are equal, or where they first differ; their first element has this index.
+pub fn same<T: UpperHex + PartialEq>(expected: &[T], found: &[T], first_index: isize) -> Result<(), String> {
+    match expected.iter().zip(found).zip(first_index..).find(|((left, right), _)| left != right) {
+        Some(((left, right), index)) => Err(format!("element {index} is {} and not {}", hex(right), hex(left))),
+        None => Ok(()),
+    }
+}
+
+#[cfg(test)]
+mod tests {
+    use super::*;
+
+    fn without_seven(list: &[u8]) -> Result<(), String> {
+        if list.contains(&7) {
+            Err("a seven".to_string())
+        } else {
+            Ok(())
+        }
+    }
+
+    #[test]
+    fn a_failing_input_is_made_small() {
+        let inputs = [vec![1, 2, 3], vec![4, 5, 6, 7, 8, 9], vec![7]];
+        assert_eq!(try_all(inputs, without_seven), Err("on [07] (length 1): a seven".to_string()));
+    }
+
+    #[test]
+    fn inputs_are_counted() {
+        assert_eq!(try_all([vec![1], vec![]], without_seven), Ok(2));
+    }
+
+    #[test]
+    fn the_first_difference_is_named() {
+        let difference = Err("element 1 is 00000005 and not 00000002".to_string());
+        assert_eq!(same(&[1u32, 2, 3], &[1, 5, 6], 0), difference);
+        assert_eq!(same(&[1u8, 2], &[1, 3], -1), Err("element 0 is 03 and not 02".to_string()));
+        assert_eq!(same(&[1u8, 2], &[1, 2], 0), Ok(()));
+    }
+}
