@@ -1,6 +1,5 @@
 //! The C interface of libqalithonda.a, in safe functions on slices.
 
-use crate::second::utf7::Style;
 use crate::second::Answer;
 
 #[repr(C)]
@@ -19,28 +18,46 @@ extern "C" {
     fn qalithonda_utf7_read(text: *const u8, text_len: usize, cells: *mut u32, cells_len: usize) -> RawAnswer;
     fn qalithonda_utf7_header_write(cells: *const u32, cells_len: usize, out: *mut u8, out_len: usize) -> RawAnswer;
     fn qalithonda_utf7_body_write(cells: *const u32, cells_len: usize, out: *mut u8, out_len: usize) -> RawAnswer;
+    fn qalithonda_jp2_read(text: *const u8, text_len: usize, cells: *mut u32, cells_len: usize) -> RawAnswer;
+    fn qalithonda_jp2_write(cells: *const u32, cells_len: usize, out: *mut u8, out_len: usize) -> RawAnswer;
+    fn qalithonda_jp2_tally(cells: *const u32, cells_len: usize, counts: *mut [u32; 9]) -> RawAnswer;
 }
 
-pub const UTF7_READ: &str = "qalithonda_utf7_read";
+/// A reader or writer: it is lent a list and an output.
+pub struct Function<I, O> {
+    pub name: &'static str,
+    raw: unsafe extern "C" fn(*const I, usize, *mut O, usize) -> RawAnswer,
+}
 
-/// The name of the writer of a style.
-pub fn utf7_writer(style: Style) -> &'static str {
-    match style {
-        Style::Header => "qalithonda_utf7_header_write",
-        Style::Body => "qalithonda_utf7_body_write",
+impl<I, O> Function<I, O> {
+    pub fn call(&self, input: &[I], output: &mut [O]) -> Answer {
+        // SAFETY: each pointer comes with the length of its slice, and only `output` is written to.
+        unsafe { (self.raw)(input.as_ptr(), input.len(), output.as_mut_ptr(), output.len()) }.into()
     }
 }
 
-pub fn utf7_read(text: &[u8], cells: &mut [u32]) -> Answer {
-    // SAFETY: each pointer comes with the length of its slice, and only `cells` is written to.
-    unsafe { qalithonda_utf7_read(text.as_ptr(), text.len(), cells.as_mut_ptr(), cells.len()) }.into()
+/// The functions of a format; the writers are in the order of `Format::writers`.
+pub struct Functions {
+    pub read: Function<u8, u32>,
+    pub write: &'static [Function<u32, u8>],
 }
 
-pub fn utf7_write(style: Style, cells: &[u32], output: &mut [u8]) -> Answer {
-    let write = match style {
-        Style::Header => qalithonda_utf7_header_write,
-        Style::Body => qalithonda_utf7_body_write,
-    };
-    // SAFETY: each pointer comes with the length of its slice, and only `output` is written to.
-    unsafe { write(cells.as_ptr(), cells.len(), output.as_mut_ptr(), output.len()) }.into()
+pub const UTF7: Functions = Functions {
+    read: Function { name: "qalithonda_utf7_read", raw: qalithonda_utf7_read },
+    write: &[
+        Function { name: "qalithonda_utf7_header_write", raw: qalithonda_utf7_header_write },
+        Function { name: "qalithonda_utf7_body_write", raw: qalithonda_utf7_body_write },
+    ],
+};
+
+pub const JP2: Functions = Functions {
+    read: Function { name: "qalithonda_jp2_read", raw: qalithonda_jp2_read },
+    write: &[Function { name: "qalithonda_jp2_write", raw: qalithonda_jp2_write }],
+};
+
+pub const JP2_TALLY: &str = "qalithonda_jp2_tally";
+
+pub fn jp2_tally(cells: &[u32], counts: &mut [u32; 9]) -> Answer {
+    // SAFETY: the pointer comes with the length of its slice, and only `counts` is written to.
+    unsafe { qalithonda_jp2_tally(cells.as_ptr(), cells.len(), counts) }.into()
 }

@@ -5,6 +5,7 @@
 
 mod checks;
 mod examples;
+mod formats;
 mod library;
 mod lister;
 mod report;
@@ -16,8 +17,6 @@ mod trial;
 use std::env;
 use std::process::ExitCode;
 
-use second::utf7::Style;
-
 const DEFAULT_SEED: u64 = 2152;
 
 fn main() -> ExitCode {
@@ -27,16 +26,8 @@ fn main() -> ExitCode {
     };
     println!("seed {seed} (QALITHONDA_SEED sets another)");
 
-    let seeded = texts::utf7_texts(seed, "texts", 3_000);
     let mut report = report::Report::default();
-    checks::lister::run(&mut report, &seeded, seed);
-    checks::reading::run(&mut report, &seeded, seed);
-    checks::writing::run(&mut report, seed);
-
-    report.check_statuses(checks::lister::NAME, &[0, 1, 2, 3, 4, 16]);
-    report.check_statuses(library::UTF7_READ, &[0, 1, 2, 3, 4, 9, 16]);
-    for style in [Style::Header, Style::Body] {
-        report.check_statuses(library::utf7_writer(style), &[0, 9, 10, 16]);
-    }
+    checks::utf7(&mut report, seed);
+    checks::jp2(&mut report, seed);
     report.finish()
 }

@@ -1,1 +1,4 @@
+pub mod ByKind
+pub mod Worked
+pub mod Sizes
 pub mod Cases

@@ -5,8 +5,12 @@ use mathlib.Core.List.{List}
 use Rattle.answer.specs.Answer.{Verdict, inNumbers}
 use Rattle.answer.specs.Output.{Outcome, leaves}
 use Rattle.answer.specs.declared.Answer.{Answer}
-use Rattle.qalithonda.specs.Numbers.{verdictIn, left}
+use Rattle.jp2.specs.Tally.{Counts}
+use Rattle.qalithonda.specs.Numbers.{verdictIn, left, counted}
 use Rattle.qalithonda.specs.declared.Numbers.{Numbers}
 
 pub handed-on : (r : Numbers) (a : Answer) {out : List ℕ} {x : Outcome} → verdictIn r ≡ inNumbers a → leaves a out ≡ x → left r out ≡ x
 handed-on r a {out = out} e q = ap (λ (v : Verdict). record { verdict = v; out = out }) e ∙ q
+
+pub counted-on : (r : Numbers) {counts : List ℕ} (x : Counts) → verdictIn r ≡ x .verdict → counts ≡ x .counts → counted r counts ≡ x
+counted-on r x e q = λ i. record { verdict = e i; counts = q i }

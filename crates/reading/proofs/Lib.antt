@@ -3,3 +3,4 @@ pub mod Filling
 pub mod Steps
 pub mod Cursors
 pub mod Walk
+pub mod Matches

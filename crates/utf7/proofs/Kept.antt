@@ -63,15 +63,15 @@ byte-kept : (shift : Shift) (b : ℕ) → SoundShift shift → Sound (byteDoes s
 unfolding byteDoes
 byte-kept shift b h = cond-case Sound (ltb b 128) (λ _. low-kept shift b h) (λ _. lit< tt)
 
-ends-kept : (size : ℕ) (shift : Shift) → SoundShift shift → SoundEnd (endsIn size shift)
+pub ends-sound : (size : ℕ) (shift : Shift) → SoundEnd (endsIn size shift)
 unfolding endsIn
-ends-kept size outside h = tt
-ends-kept size opening h = lit< tt
-ends-kept size (run pending) h = cond-case SoundEnd (allZero pending) (λ _. tt) (λ _. lit< tt)
+ends-sound size outside = tt
+ends-sound size opening = lit< tt
+ends-sound size (run pending) = cond-case SoundEnd (allZero pending) (λ _. tt) (λ _. lit< tt)
 
 -- every state that a text leads to is sound, every cell is a unit, and no fault has the number 0
 pub utf7-kept : Kept utf7 SoundShift IsUnit
-utf7-kept = record { starts = tt; keeps = byte-kept; ends = ends-kept }
+utf7-kept = record { starts = tt; keeps = byte-kept; ends = λ size shift _. ends-sound size shift }
 
 -- "UTF-7 cells are UTF-16 units": every cell that any text reads as
 pub units-read : (s : List ℕ) → Each IsUnit (reading utf7 s .cells)

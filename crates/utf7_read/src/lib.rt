@@ -11,6 +11,7 @@ ghost use Rattle.answer.specs.Answer.{inNumbers};
 ghost use Rattle.answer.specs.Output.{leaves, filled};
 ghost use Rattle.reading.specs.Reading.{closing, verdictOf, reading, readInto};
 ghost use Rattle.reading.specs.Stepping.{atStart};
+ghost use Rattle.reading.specs.Matching.{readsAs};
 ghost use Rattle.utf7.specs.Rule.{utf7, outsideDoes, unitDoes, endDoes, lowDoes, byteDoes, endsIn};
 ghost use Rattle.utf7_read.specs.Cursor.{shiftOf, cursorOf, least, told, stepOf, Settled, Moves};
 
@@ -285,5 +286,40 @@ pub fn read(text: &[u8], out: &mut [u32]) -> Answer
             fill(text, out);
             found
         }
+    }
+}
+
+// The text is accepted and reads as the cells. Nothing is lent to be written.
+pub fn reads_as(text: &[u8], cells: &[u32]) -> bool
+    ensures { λ r. ⌜ r ≡ readsAs utf7 (now (text .entry)) (now (cells .entry)) ⌝ }
+{
+    let mut at: usize = 0;
+    let mut n: usize = 0;
+    let mut st = State::Outside;
+    while at < text.len() {
+        match feed(st, text[at]) {
+            Move::Give(value, state) => {
+                if cells.len() <= n {
+                    return false;
+                }
+                if cells[n] != value {
+                    return false;
+                }
+                st = state;
+                n += 1;
+                at += 1;
+            }
+            Move::Go(state) => {
+                st = state;
+                at += 1;
+            }
+            Move::Bad(_) => {
+                return false;
+            }
+        }
+    }
+    match finish(at, n, st) {
+        Answer::Accepted(_) => n == cells.len(),
+        Answer::Refused(_, _) => false,
     }
 }

@@ -129,7 +129,7 @@ fn write_all(style: Style, cells: &[u32], out: &mut [u8])
 }
 
 // The index of the first cell that is no unit, or the length.
-fn first_over(cells: &[u32]) -> usize
+pub fn first_over(cells: &[u32]) -> usize
     ensures { λ r. ⌜ r ≡ firstOver (now (cells .entry)) ⌝ }
 {
     let mut i: usize = 0;

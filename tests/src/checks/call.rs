@@ -1,9 +1,12 @@
-//! One call of the library on a lent output, compared whole with the second program's outcome.
+//! Calls of the library, with all of the lent memory compared with what the second program says is left in it.
 
 use std::collections::BTreeSet;
 use std::fmt::UpperHex;
 
-use crate::second::{outcome, Answer, Elements};
+use super::subject::Subject;
+use crate::library::Function;
+use crate::report::Statuses;
+use crate::second::{outcome, Answer, Elements, Outcome};
 use crate::trial::same;
 
 /// Elements before and after the lent output, which no call may touch.
@@ -27,30 +30,65 @@ impl Element for u32 {
     }
 }
 
+/// A reader or writer of the library, and the second program's.
+pub struct Call<'a, I, O> {
+    /// How its checks are named.
+    pub name: String,
+    pub function: &'a Function<I, O>,
+    pub second: fn(&[I]) -> Elements<O>,
+    /// The elements of output that suffice for so many of input.
+    pub enough: fn(usize) -> usize,
+}
+
+impl<I: Copy + UpperHex, O: Element> Subject for Call<'_, I, O> {
+    type Element = I;
+    type Expected = Elements<O>;
+
+    fn name(&self) -> &str {
+        &self.name
+    }
+
+    fn second(&self, input: &[I]) -> Elements<O> {
+        (self.second)(input)
+    }
+
+    /// Compares with output of several lengths.
+    fn compare(&self, input: &[I], elements: &Elements<O>, statuses: &mut Statuses) -> Result<(), String> {
+        let needed = elements.as_ref().map_or((self.enough)(input.len()), Vec::len);
+        for room in rooms(needed) {
+            let expected = |before: &[O]| outcome(elements, before);
+            let found = lend(room, |output| self.function.call(input, output), expected)?;
+            statuses.count(self.function.name, found.answer.number);
+        }
+        Ok(())
+    }
+}
+
 /// Lengths of output to try: none, too short, exact and longer.
-pub fn rooms(needed: usize) -> BTreeSet<usize> {
+fn rooms(needed: usize) -> BTreeSet<usize> {
     BTreeSet::from([0, 1, needed.saturating_sub(1), needed, needed + 1, needed + 9])
 }
 
-/// Calls with an output of this length, and compares the answer and all of the memory; gives the answer's number.
-pub fn compare<T: Element>(
-    elements: &Elements<T>,
+/// Lends a call an output of this length, and compares the answer and all of the memory with the outcome expected for
+/// the output as it was.
+pub fn lend<T: Element>(
     room: usize,
     call: impl FnOnce(&mut [T]) -> Answer,
-) -> Result<u32, String> {
+    expected: impl FnOnce(&[T]) -> Outcome<T>,
+) -> Result<Outcome<T>, String> {
     let before: Vec<T> = (0..room + 2 * MARGIN).map(T::filler).collect();
     let lent = MARGIN..MARGIN + room;
     let mut after = before.clone();
     let answer = call(&mut after[lent.clone()]);
 
-    let expected = outcome(elements, &before[lent.clone()]);
+    let expected = expected(&before[lent.clone()]);
     if answer != expected.answer {
         return Err(format!("with room for {room} the answer is {} and not {}", brief(answer), brief(expected.answer)));
     }
     let whole = [&before[..lent.start], &expected.output, &before[lent.end..]].concat();
     same(&whole, &after, -(MARGIN as isize))
         .map_err(|difference| format!("with room for {room} the answer is {}, and then {difference}", brief(answer)))?;
-    Ok(answer.number)
+    Ok(Outcome { answer, output: after[lent].to_vec() })
 }
 
 fn brief(answer: Answer) -> String {

@@ -1,69 +1,76 @@
-//! The UTF-7 lister.
+//! The listers.
 
-use crate::examples::{self, Group};
+use super::subject::Subject;
+use crate::formats::Format;
 use crate::lister::Lister;
 use crate::report::{Report, Statuses};
 use crate::rng::Rng;
-use crate::second::utf7;
-use crate::second::{listing, print_listing, LIMIT, LISTER_LIMIT};
-use crate::texts;
-use crate::trial::{try_all, try_examples};
-
-pub const NAME: &str = "utf7_lister";
+use crate::second::{listed, print_listing, Elements, LIMIT, LISTER_LIMIT};
+use crate::texts::{self, Source};
+use crate::trial::try_examples;
 
 /// How many bytes of a listing are written out where it is wrong.
 const SHOWN: usize = 120;
 
-pub fn run(report: &mut Report, seeded: &[Vec<u8>], seed: u64) {
-    let lister = Lister::new(NAME);
-    report.check("lister-printed", "listings printed out in document 01 and like them", |statuses| {
-        try_examples(&examples::LISTINGS, |example| {
-            compare(&lister, example.text.as_bytes(), example.printed, statuses)
+/// A lister, and the second program's reader of its format.
+struct Listing {
+    /// How its checks are named.
+    name: String,
+    lister: Lister,
+    read: fn(&[u8]) -> Elements<u32>,
+}
+
+impl Subject for Listing {
+    type Element = u8;
+    type Expected = Elements<u32>;
+
+    fn name(&self) -> &str {
+        &self.name
+    }
+
+    fn second(&self, text: &[u8]) -> Elements<u32> {
+        listed(self.read, text)
+    }
+
+    fn compare(&self, text: &[u8], cells: &Elements<u32>, statuses: &mut Statuses) -> Result<(), String> {
+        compare_printed(&self.lister, text, &print_listing(cells), statuses)
+    }
+}
+
+pub fn run(report: &mut Report, format: &Format, seeded: &[Vec<u8>], seed: u64) {
+    let lister = Lister::new(format.lister);
+    let subject = Listing { name: format!("{}-lister", format.name), lister, read: format.read };
+    let name = format!("{}-printed", subject.name);
+    report.check(&name, "listings printed out in document 01 and like them", |statuses| {
+        try_examples(&format.listings, |example| {
+            compare_printed(&subject.lister, &example.input, example.expected, statuses)
         })
     });
-    for Group { name, what, examples } in examples::readings() {
-        report.check(&format!("lister-{name}"), what, |statuses| {
-            try_examples(&examples, |example| compare(&lister, &example.text, &print_listing(&example.cells), statuses))
-        });
-    }
-    report.check("lister-limit", "texts at the lister's limit and beyond it", |statuses| {
-        against_second(&lister, at_limit(), statuses)
-    });
-    report.check("lister-one-byte", "every text of no byte and of one", |statuses| {
-        against_second(&lister, texts::up_to_two_bytes().take(1 + 256), statuses)
-    });
-    report.check("lister-two-bytes", "seeded texts of two bytes, and each byte after a plus", |statuses| {
-        let mut rng = Rng::new(seed, "two bytes");
-        let two = (0..2_000).map(|_| vec![rng.below(256) as u8, rng.below(256) as u8]);
-        let after_plus = (0..=255).map(|byte| vec![b'+', byte]);
-        against_second(&lister, after_plus.chain(two), statuses)
-    });
-    report.check("lister-seeded", "seeded texts, whole and damaged", |statuses| {
-        against_second(&lister, seeded.iter().cloned(), statuses)
-    });
+    subject.check_groups(report, &format.readings);
+    subject.check(report, "limit", "texts at the lister's limit and beyond it", at_limit(format.source));
+    let short = texts::up_to_two_bytes().take(1 + 256);
+    subject.check(report, "one-byte", "every text of no byte and of one", short);
+    let what = "seeded texts of two bytes, and each byte after the one that opens an escape or run";
+    subject.check(report, "two-bytes", what, two_bytes(format.source.opener, seed));
+    subject.check(report, "seeded", "seeded texts, whole and damaged", seeded.iter().cloned());
+    report.check_statuses(format.lister, &[format.faults, &[0, 16]].concat());
 }
 
 /// Texts around the greatest length, with faults early, late and none.
-fn at_limit() -> Vec<Vec<u8>> {
-    let mut found = Vec::new();
-    for length in [LISTER_LIMIT - 1, LISTER_LIMIT, LISTER_LIMIT + 1] {
-        found.extend(texts::of_length(length));
-    }
-    found.extend([LIMIT, LIMIT + 1, 200_000].map(|length| vec![b'a'; length]));
-    found
+fn at_limit(source: &Source) -> impl Iterator<Item = Vec<u8>> + '_ {
+    let near = [LISTER_LIMIT - 1, LISTER_LIMIT, LISTER_LIMIT + 1];
+    let far = [LIMIT, LIMIT + 1, 200_000].map(|length| vec![b'a'; length]);
+    near.into_iter().flat_map(|length| source.texts_of_length(length)).chain(far)
 }
 
-/// Compares with the second program.
-fn against_second(
-    lister: &Lister,
-    texts: impl IntoIterator<Item = Vec<u8>>,
-    statuses: &mut Statuses,
-) -> Result<usize, String> {
-    try_all(texts, |text| compare(lister, text, &listing(utf7::read, text), statuses))
+fn two_bytes(opener: u8, seed: u64) -> impl Iterator<Item = Vec<u8>> {
+    let mut rng = Rng::new(seed, "two bytes");
+    let any = (0..2_000).map(move |_| vec![rng.below(256) as u8, rng.below(256) as u8]);
+    (0..=255).map(move |byte| vec![opener, byte]).chain(any)
 }
 
 /// Compares what the lister prints with what it is to print.
-fn compare(lister: &Lister, text: &[u8], expected: &str, statuses: &mut Statuses) -> Result<(), String> {
+fn compare_printed(lister: &Lister, text: &[u8], expected: &str, statuses: &mut Statuses) -> Result<(), String> {
     let printed = lister.list(text)?;
     if let Some(status) = printed_status(&printed) {
         statuses.count(lister.name, status);

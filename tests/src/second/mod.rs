@@ -1,7 +1,9 @@
-//! The second program: reading and writing as document 01 states them. It was written from that paper alone, without a
-//! look at the proved code, and by other means: texts are cut into pieces and bits are text made of '0' and '1'.
+//! The second program: reading, writing and counting as document 01 states them. It was written from that paper, as
+//! docs/DECISIONS.md reads it, without a look at the proved code, and by other means: texts are cut into parts by
+//! looking ahead, all their faults are gathered and the first is chosen, and bits are text made of '0' and '1'.
 //! Quotations in comments are sentences of document 01.
 
+pub mod jp2;
 pub mod utf7;
 
 /// "over 65,536": the longest text or list that a function takes.
@@ -21,7 +23,7 @@ pub struct Answer {
 pub type Elements<T> = Result<Vec<T>, Answer>;
 
 /// What a call leaves: its answer, and the whole of the output lent to it.
-#[derive(Debug, PartialEq, Eq)]
+#[derive(Clone, Debug, PartialEq, Eq)]
 pub struct Outcome<T> {
     pub answer: Answer,
     pub output: Vec<T>,
@@ -38,6 +40,27 @@ fn within_limit(length: usize) -> Result<(), Answer> {
         return refuse(16, LIMIT);
     }
     Ok(())
+}
+
+/// The fault that reading a text gives, of those that its format finds in it and of its high bytes. "In reading, the
+/// earliest place decides; at one byte 1, then 2 or 4, then 3, 5 or 6; 7 precedes 8."
+fn first_fault(text: &[u8], faults: impl Iterator<Item = Answer>) -> Option<Answer> {
+    let rank = |number: u32| [1, 2, 4, 3, 5, 6, 7, 8].iter().position(|&other| other == number);
+    high_bytes(text).chain(faults).min_by_key(|fault| (fault.place, rank(fault.number)))
+}
+
+/// "1 | byte of 128 or more | that byte"
+fn high_bytes(text: &[u8]) -> impl Iterator<Item = Answer> + '_ {
+    let places = (0..text.len()).filter(|&place| text[place] >= 128);
+    places.map(|place| Answer { number: 1, place })
+}
+
+/// "Writing: first 10, then 9." "10 | cell not writable in this kind | its index"
+fn all_writable(cells: &[u32], is_writable: impl Fn(u32) -> bool) -> Result<(), Answer> {
+    match cells.iter().position(|&cell| !is_writable(cell)) {
+        Some(index) => refuse(10, index),
+        None => Ok(()),
+    }
 }
 
 /// The outcome of a call that is to give these elements and is lent this output.
@@ -58,11 +81,13 @@ pub fn outcome<T: Copy>(elements: &Elements<T>, output: &[T]) -> Outcome<T> {
     Outcome { answer, output }
 }
 
-/// What a lister prints for a text, with this reader of its format.
-pub fn listing(read: fn(&[u8]) -> Elements<u32>, text: &[u8]) -> String {
+/// The cells that a lister prints for a text, or its refusal, with this reader of its format.
+pub fn listed(read: fn(&[u8]) -> Elements<u32>, text: &[u8]) -> Elements<u32> {
     // "at most 16,384 bytes (longer: status 16, place 16384)"
-    let cells = if text.len() > LISTER_LIMIT { refuse(16, LISTER_LIMIT) } else { read(text) };
-    print_listing(&cells)
+    if text.len() > LISTER_LIMIT {
+        return refuse(16, LISTER_LIMIT);
+    }
+    read(text)
 }
 
 /// "number and place or count in decimal, cells as eight capital hex digits with one space between, every line ended by
@@ -74,5 +99,84 @@ pub fn print_listing(cells: &Elements<u32>) -> String {
             let digits: Vec<String> = cells.iter().map(|cell| format!("{cell:08X}")).collect();
             format!("status=0\ncount={}\ncells={}\n", cells.len(), digits.join(" "))
         }
+    }
+}
+
+#[cfg(test)]
+mod tests {
+    use super::*;
+    use crate::formats::{self, Format};
+
+    fn formats() -> [Format; 2] {
+        [formats::utf7(), formats::jp2()]
+    }
+
+    #[test]
+    fn reads_the_examples() {
+        for format in formats() {
+            for example in format.readings.iter().flat_map(|group| &group.examples) {
+                assert_eq!((format.read)(&example.input), example.expected, "{example}");
+            }
+        }
+    }
+
+    #[test]
+    fn writes_the_examples() {
+        for writer in formats().into_iter().flat_map(|format| format.writers) {
+            for example in writer.writings.iter().flat_map(|group| &group.examples) {
+                assert_eq!((writer.write)(&example.input), example.expected, "{example}");
+            }
+        }
+    }
+
+    #[test]
+    fn prints_the_listings() {
+        for format in formats() {
+            for example in &format.listings {
+                assert_eq!(print_listing(&listed(format.read, &example.input)), example.expected, "{example}");
+            }
+            assert_eq!(print_listing(&listed(format.read, &[0x80; 16_385])), "status=16\nplace=16384\n");
+        }
+    }
+
+    #[test]
+    fn every_writable_cell_reads_back() {
+        for format in formats() {
+            for cell in (format.source.lone_cells)() {
+                for writer in &format.writers {
+                    if let Ok(written) = (writer.write)(&[cell]) {
+                        assert!(written.len() <= (writer.enough)(1));
+                        assert_eq!((format.read)(&written), Ok(vec![cell]));
+                    }
+                }
+            }
+        }
+    }
+
+    #[test]
+    fn refuses_over_the_limit() {
+        for format in formats() {
+            assert_eq!((format.read)(&[0x80; 65_537]), refuse(16, 65_536));
+            assert_eq!((format.read)(&[b'a'; 65_536]).map(|cells| cells.len()), Ok(65_536));
+            for writer in format.writers {
+                assert_eq!((writer.write)(&[u32::MAX; 65_537]), refuse(16, 65_536));
+                assert_eq!((writer.write)(&[u32::MAX; 65_536]), refuse(10, 0));
+            }
+        }
+    }
+
+    #[test]
+    fn a_refusal_leaves_the_output() {
+        let (short, exact, long) = ([7, 7], [7, 7, 7, 7], [7, 7, 7, 7, 7, 7]);
+        let cells = utf7::read(b"A+ImIDkQ.");
+        let call = |output: &[u32]| outcome(&cells, output);
+        assert_eq!(call(&short), Outcome { answer: Answer { number: 9, place: 4 }, output: short.to_vec() });
+        let accepted = Answer { number: 0, place: 4 };
+        assert_eq!(call(&exact), Outcome { answer: accepted, output: vec![0x41, 0x2262, 0x391, 0x2E] });
+        assert_eq!(call(&long), Outcome { answer: accepted, output: vec![0x41, 0x2262, 0x391, 0x2E, 7, 7] });
+        assert_eq!(
+            outcome(&utf7::read(b"ab~"), &long),
+            Outcome { answer: Answer { number: 3, place: 2 }, output: long.to_vec() }
+        );
     }
 }

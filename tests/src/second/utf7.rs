@@ -1,6 +1,6 @@
 //! UTF-7, after the section "UTF-7" of document 01.
 
-use super::{refuse, within_limit, Answer, Elements};
+use super::{all_writable, first_fault, within_limit, Answer, Elements};
 
 /// "Writing has two styles."
 #[derive(Clone, Copy, Debug, PartialEq, Eq)]
@@ -41,26 +41,14 @@ fn number(bits: &[u8]) -> usize {
     bits.iter().fold(0, |number, &bit| 2 * number + usize::from(bit == b'1'))
 }
 
-/// Reads a text. "In reading, the earliest place decides; at one byte 1, then 2 or 4, then 3, 5 or 6."
+/// Reads a text.
 pub fn read(text: &[u8]) -> Elements<u32> {
     within_limit(text.len())?;
     let pieces = cut(text);
-    let faults = high_bytes(text).chain(pieces.iter().filter_map(Piece::fault));
-    match faults.min_by_key(|fault| (fault.place, rank(fault.number))) {
+    match first_fault(text, pieces.iter().filter_map(Piece::fault)) {
         Some(fault) => Err(fault),
         None => Ok(pieces.iter().flat_map(Piece::cells).collect()),
     }
-}
-
-/// The order of the faults at one byte.
-fn rank(number: u32) -> usize {
-    [1, 2, 4, 3].iter().position(|&other| other == number).expect("a fault of reading")
-}
-
-/// "1 | byte of 128 or more | that byte"
-fn high_bytes(text: &[u8]) -> impl Iterator<Item = Answer> + '_ {
-    let places = (0..text.len()).filter(|&place| text[place] >= 128);
-    places.map(|place| Answer { number: 1, place })
 }
 
 /// A part of a text that is read by itself. `end` is where it is noticed that the part is over: "the index of the byte
@@ -137,13 +125,11 @@ impl Piece {
     }
 }
 
-/// Writes cells in a style. "Writing: first 10, then 9."
+/// Writes cells in a style.
 pub fn write(style: Style, cells: &[u32]) -> Elements<u8> {
     within_limit(cells.len())?;
-    // "UTF-7 cells are UTF-16 units, 0 to 65535." "10 | cell not writable in this kind | its index"
-    if let Some(index) = cells.iter().position(|&cell| cell > 65_535) {
-        return refuse(10, index);
-    }
+    // "UTF-7 cells are UTF-16 units, 0 to 65535."
+    all_writable(cells, |cell| cell <= 65_535)?;
     // "Each longest stretch of other units is one run."
     let stretches = cells.chunk_by(|&left, &right| alone(style, left).is_none() && alone(style, right).is_none());
     Ok(stretches.flat_map(|stretch| alone(style, stretch[0]).unwrap_or_else(|| run(stretch))).collect())
@@ -166,66 +152,4 @@ pub fn run(units: &[u32]) -> Vec<u8> {
     }
     let letters = bits.chunks(6).map(|six| set_b().nth(number(six)).expect("six bits"));
     [b'+'].into_iter().chain(letters).chain([b'-']).collect()
-}
-
-#[cfg(test)]
-mod tests {
-    use super::super::{listing, outcome, Outcome};
-    use super::*;
-    use crate::examples;
-
-    #[test]
-    fn reads_the_examples() {
-        for example in examples::readings().into_iter().flat_map(|group| group.examples) {
-            assert_eq!(read(&example.text), example.cells, "{example}");
-        }
-    }
-
-    #[test]
-    fn writes_the_examples() {
-        for example in examples::writings().into_iter().flat_map(|group| group.examples) {
-            assert_eq!(write(example.style, &example.cells), Ok(example.text.clone()), "{example}");
-        }
-    }
-
-    #[test]
-    fn prints_the_listings() {
-        for example in examples::LISTINGS {
-            assert_eq!(listing(read, example.text.as_bytes()), example.printed);
-        }
-    }
-
-    #[test]
-    fn every_unit_reads_back() {
-        for style in [Style::Header, Style::Body] {
-            for unit in 0..=65_535 {
-                let written = write(style, &[unit]).expect("a writable cell");
-                assert_eq!(read(&written), Ok(vec![unit]));
-            }
-        }
-    }
-
-    #[test]
-    fn refuses_over_the_limit_and_cells_that_are_no_units() {
-        assert_eq!(read(&[b'~'; 65_537]), refuse(16, 65_536));
-        assert_eq!(read(&[b'a'; 65_536]), Ok(vec![0x61; 65_536]));
-        assert_eq!(write(Style::Body, &[65_536; 65_537]), refuse(16, 65_536));
-        assert_eq!(write(Style::Body, &[0x61, 65_536, 70_000]), refuse(10, 1));
-        assert_eq!(listing(read, &[b'+'; 16_385]), "status=16\nplace=16384\n");
-    }
-
-    #[test]
-    fn a_refusal_leaves_the_output() {
-        let (short, exact, long) = ([7, 7], [7, 7, 7, 7], [7, 7, 7, 7, 7, 7]);
-        let cells = read(b"A+ImIDkQ.");
-        let call = |output: &[u32]| outcome(&cells, output);
-        assert_eq!(call(&short), Outcome { answer: Answer { number: 9, place: 4 }, output: short.to_vec() });
-        let accepted = Answer { number: 0, place: 4 };
-        assert_eq!(call(&exact), Outcome { answer: accepted, output: vec![0x41, 0x2262, 0x391, 0x2E] });
-        assert_eq!(call(&long), Outcome { answer: accepted, output: vec![0x41, 0x2262, 0x391, 0x2E, 7, 7] });
-        assert_eq!(
-            outcome(&read(b"ab~"), &long),
-            Outcome { answer: Answer { number: 3, place: 2 }, output: long.to_vec() }
-        );
-    }
 }

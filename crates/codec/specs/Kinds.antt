@@ -1,0 +1,78 @@
+-- Reading by format, and writing by the kind of a page.
+use Prim.Native.Nat.{ℕ}
+use mathlib.Core.Bool.{Bool, cond}
+use mathlib.Core.List.{List}
+use lib.ListN.{length}
+use lib.Dec.{ltb}
+use Rattle.answer.specs.Answer.{numbered, limit, tooLong}
+use Rattle.answer.specs.Output.{Outcome, refusing, deliver}
+use Rattle.reading.specs.Reading.{Reading, reading, onEnding}
+use Rattle.reading.specs.Matching.{gave}
+use Rattle.utf7.specs.Rule.{utf7}
+use Rattle.utf7.specs.Writing.{firstOver}
+use Rattle.utf7.specs.Writing as utf7-writing
+use Rattle.utf7.specs.declared.Style.the-variants.{Header, Body}
+use Rattle.jp2.specs.Rule.{jp2}
+use Rattle.jp2.specs.Writable.{firstForeign}
+use Rattle.jp2.specs.Writing as jp2-writing
+use Rattle.codec.specs.declared.Format.{Format}
+use Rattle.codec.specs.declared.Format.the-variants as format
+use Rattle.codec.specs.declared.Kind.{Kind}
+use Rattle.codec.specs.declared.Kind.the-variants.{Utf7Header, Utf7Body, Jp2}
+
+-- a page's texts are of one of the formats
+unfoldable pub formatOf : Kind → Format
+formatOf Utf7Header = format.Utf7
+formatOf Utf7Body = format.Utf7
+formatOf Jp2 = format.Jp2
+
+-- "its own greatest number of bytes for one cell, 5, 5 and 6, and its bytes at the end, 0, 0 and 3"
+unfoldable pub bytesPerCell : Kind → ℕ
+bytesPerCell Utf7Header = 5
+bytesPerCell Utf7Body = 5
+bytesPerCell Jp2 = 6
+
+unfoldable pub bytesAtEnd : Kind → ℕ
+bytesAtEnd Utf7Header = 0
+bytesAtEnd Utf7Body = 0
+bytesAtEnd Jp2 = 3
+
+-- the reading of a text of a format
+unfoldable pub readingOf : Format → List ℕ → Reading
+readingOf format.Utf7 text = reading utf7 text
+readingOf format.Jp2 text = reading jp2 text
+
+-- reading into an output: 16, the earliest fault, 9
+unfoldable pub readIn : Format → List ℕ → List ℕ → Outcome
+readIn f text out =
+    cond (ltb limit (length text)) (refusing tooLong out) (onEnding (readingOf f text .ending) (readingOf f text .cells) out)
+
+-- the text is accepted and reads as the cells
+unfoldable pub readsIn : Format → List ℕ → List ℕ → Bool
+readsIn f text cells = gave (readingOf f text) cells
+
+-- the index of the first cell that is not writable in a kind, or the length
+unfoldable pub firstUnwritable : Kind → List ℕ → ℕ
+firstUnwritable Utf7Header cells = firstOver cells
+firstUnwritable Utf7Body cells = firstOver cells
+firstUnwritable Jp2 cells = firstForeign cells
+
+-- the bytes that cells are written as in a kind
+unfoldable pub writingIn : Kind → List ℕ → List ℕ
+writingIn Utf7Header cells = utf7-writing.writing Header cells
+writingIn Utf7Body cells = utf7-writing.writing Body cells
+writingIn Jp2 cells = jp2-writing.writing cells
+
+-- writing into an output: 16, 10 with the cell's index, 9
+unfoldable pub writeIn : Kind → List ℕ → List ℕ → Outcome
+writeIn kind cells out =
+    cond (ltb limit (length cells)) (refusing tooLong out)
+    (cond (ltb (firstUnwritable kind cells) (length cells)) (refusing (numbered 10 (firstUnwritable kind cells)) out)
+    (deliver (writingIn kind cells) out))
+
+-- the page's words for its kind
+abbrev pub readingIn : Kind → List ℕ → Reading
+readingIn kind text = readingOf (formatOf kind) text
+
+abbrev pub readsAs : Kind → List ℕ → List ℕ → Bool
+readsAs kind text cells = readsIn (formatOf kind) text cells

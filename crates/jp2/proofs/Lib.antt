@@ -1,0 +1,11 @@
+pub mod Search
+pub mod Begins
+pub mod Table
+pub mod Sets
+pub mod Rows
+pub mod Kept
+pub mod Ends
+pub mod Round
+pub mod Size
+pub mod Counts
+pub mod Foreign

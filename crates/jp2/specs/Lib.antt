@@ -1,0 +1,5 @@
+pub mod Table
+pub mod Rule
+pub mod Writable
+pub mod Writing
+pub mod Tally

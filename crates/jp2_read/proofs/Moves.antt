@@ -1,0 +1,84 @@
+-- The code's phases, states and moves are those of the definitions. Assumes nothing.
+use Prim.Native.Nat.{ℕ, _<_, _≤_}
+use mathlib.Core.Path.{_≡_, refl, sym, ap, _∙_}
+use mathlib.Core.Bool.{Bool, true, false, cond, _&&_, and-false}
+use mathlib.Core.List.{List, [], _∷_}
+use native.Mathlib.Omega.{arith}
+use lib.ListN.{length, getD}
+use lib.Dec.{ltb, eqb}
+use borrow.Author.Tests.{ltb-false, ne-eqb}
+use Rattle.answer.proofs.Below.{cond-case}
+use Rattle.reading.specs.Reading.{Does}
+use Rattle.reading.specs.Stepping.{Spot, Next, cell, onward}
+use Rattle.jp2.specs.Table.{begins, isList}
+use Rattle.jp2.specs.Rule as rule
+use Rattle.jp2.specs.Rule.{escape}
+use Rattle.jp2_read.specs.Cursor.{phaseOf, stateOf, inEscape, phaseFor, least, cursorOf, doesOf}
+use Rattle.jp2_read.specs.declared.Phase.{Phase}
+use Rattle.jp2_read.specs.declared.Phase.the-variants.{Plain, Return, First, Shifted, Escape, Escape1, Escape2}
+use Rattle.jp2_read.specs.declared.State.{State}
+use Rattle.jp2_read.specs.declared.Move.{Move}
+
+phase-back : (p : Phase) → phaseFor (phaseOf p) ≡ p
+phase-back Plain = refl
+phase-back Return = refl
+phase-back (First a) = refl
+phase-back Shifted = refl
+phase-back Escape = refl
+phase-back (Escape1 x) = refl
+phase-back (Escape2 x y) = refl
+
+-- a step's cell is the definition's
+pub cell-told :
+    {value at handed : ℕ} {st : State} {x : Next (Spot rule.State)} → cell value (record { at = at; handed = handed; state = stateOf st }) ≡ x →
+    cell value (record { at = at; handed = handed; state = st }) ≡ onward cursorOf x
+cell-told {st = st} e = rw (← e, phase-back (st .phase))
+
+-- what an arm that found the move `m` knows
+pub moved : {r m : Move} {does : Does rule.State} → doesOf r ≡ does → r ≡ m → does ≡ doesOf m
+moved h e = sym h ∙ ap doesOf e
+
+-- the phase inside an escape, by how many bytes there are
+pub inside-one : (bytes : List ℕ) → length bytes < 2 → Escape ≡ inEscape bytes
+inside-one [] h = refl
+inside-one (e ∷ []) h = refl
+inside-one (e ∷ x ∷ more) h = absurd (omega arith)
+
+pub inside-two : (bytes : List ℕ) → length bytes ≡ 2 → Escape1 (getD bytes 1 0) ≡ inEscape bytes
+inside-two [] h = absurd (omega arith)
+inside-two (e ∷ []) h = absurd (omega arith)
+inside-two (e ∷ x ∷ []) h = refl
+inside-two (e ∷ x ∷ y ∷ more) h = absurd (omega arith)
+
+pub inside-more : (bytes : List ℕ) → 2 < length bytes → Escape2 (getD bytes 1 0) (getD bytes 2 0) ≡ inEscape bytes
+inside-more [] h = absurd (omega arith)
+inside-more (e ∷ []) h = absurd (omega arith)
+inside-more (e ∷ x ∷ []) h = absurd (omega arith)
+inside-more (e ∷ x ∷ y ∷ more) h = refl
+
+-- ESC and at most two bytes more are written whole
+pub escape-back : (bytes : List ℕ) → 0 < length bytes → length bytes < 4 → getD bytes 0 0 ≡ 27 → phaseOf (inEscape bytes) ≡ escape bytes
+escape-back [] h k q = absurd (omega arith)
+escape-back (e ∷ []) h k q = rw q
+escape-back (e ∷ x ∷ []) h k q = rw q
+escape-back (e ∷ x ∷ y ∷ []) h k q = rw q
+escape-back (e ∷ x ∷ y ∷ z ∷ more) h k q = absurd (omega arith)
+
+-- two bytes are a list of two by their tests
+both-tests : (s t : Bool) → (cond s (cond t true false) false && true) ≡ (s && t)
+both-tests true true = refl
+both-tests true false = refl
+both-tests false t = refl
+
+pub two-bytes : (bytes : List ℕ) → length bytes ≡ 2 → isList bytes (27 ∷ 78 ∷ []) ≡ (eqb (getD bytes 0 0) 27 && eqb (getD bytes 1 0) 78)
+unfolding begins
+two-bytes [] h = absurd (omega arith)
+two-bytes (a ∷ []) h = absurd (omega arith)
+two-bytes (a ∷ b ∷ []) h = both-tests (eqb a 27) (eqb b 78)
+two-bytes (a ∷ b ∷ c ∷ more) h = absurd (omega arith)
+
+pub not-two : (bytes : List ℕ) → (length bytes ≡ 2 → ⊥) → isList bytes (27 ∷ 78 ∷ []) ≡ false
+not-two bytes h = rw (ne-eqb (length bytes) 2 h, and-false (begins bytes (27 ∷ 78 ∷ [])))
+
+pub least-at : (a b : ℕ) → least a b ≤ b
+least-at a b = cond-case (λ (k : ℕ). k ≤ b) (ltb b a) (λ t. omega arith) (λ t. omega (arith, ltb-false b a t))

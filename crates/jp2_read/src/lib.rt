@@ -1,0 +1,498 @@
+// Reading ISO-2022-JP-2: a byte, a cell, and a whole text at a time.
+use answer::Answer;
+use answer::Refusal;
+ghost use mathlib.Core.Path.{_≡_};
+ghost use mathlib.Core.Bool.{cond, _&&_};
+ghost use mathlib.Core.List.{[], _∷_};
+ghost use Prim.Native.Nat.{_<_, _≤_};
+ghost use lib.ListN.{length};
+ghost use lib.Dec.{eqb};
+ghost use Rattle.answer.specs.Answer.{inNumbers};
+ghost use Rattle.answer.specs.Output.{leaves, filled};
+ghost use Rattle.reading.specs.Reading.{closing, verdictOf, reading, readInto};
+ghost use Rattle.reading.specs.Stepping.{atStart};
+ghost use Rattle.reading.specs.Matching.{readsAs};
+ghost use Rattle.jp2.specs.Table.{rowAt, isList};
+ghost use Rattle.jp2.specs.Rule.{plain, return, graphic, designated, inPhase, endPhase, jp2, singleDoes, firstDoes, secondDoes, betweenDoes, shiftedDoes, escapeDoes, byteDoes, endsIn};
+ghost use Rattle.jp2_read.specs.Cursor.{phaseOf, stateOf, inEscape, stateFor, doesOf, cursorOf, least, told, stepOf};
+
+// Where a reader stands to cells and escapes.
+pub enum Phase {
+    // between cells
+    Plain,
+    // directly after a CR
+    Return,
+    // after the first byte of a pair
+    First(u8),
+    // after ESC N
+    Shifted,
+    // inside an escape, with its bytes after ESC
+    Escape,
+    Escape1(u8),
+    Escape2(u8, u8),
+}
+
+// The numbers of the sets in G0 and G2 (0: nothing), and the phase.
+pub struct State {
+    pub g0: u16,
+    pub g2: u16,
+    pub phase: Phase,
+}
+
+// Where a reader stands in its text.
+pub struct Cursor {
+    pub at: usize,
+    // how many cells were handed out
+    pub handed: usize,
+    pub state: State,
+}
+
+pub struct Given {
+    pub value: u32,
+    pub next: Cursor,
+}
+
+// What a step gives: the next cell, or the answer of reading the whole text with room enough.
+pub enum Stepped {
+    Cell(Given),
+    Final(Answer),
+}
+
+// What a byte does.
+pub enum Move {
+    // completes a cell
+    Give(u32, State),
+    Go(State),
+    Bad(Refusal),
+}
+
+// The number that a single byte carries.
+fn carried(g0: u16, b: u8) -> u16
+    ensures { λ r. ⌜ r ≡ cond (graphic b) g0 6 ⌝ }
+{
+    if jp2::is_graphic(b as u32) {
+        return g0;
+    }
+    6
+}
+
+// G2 after a single byte.
+fn uncleared(g2: u16, cr: bool, b: u8) -> u16
+    ensures { λ r. ⌜ r ≡ cond (cr && eqb b 10) 0 g2 ⌝ }
+{
+    if cr {
+        if b == 10 {
+            return 0;
+        }
+    }
+    g2
+}
+
+// The phase after a single byte.
+fn after_single(b: u8) -> Phase
+    ensures { λ r. ⌜ phaseOf r ≡ cond (eqb b 13) return plain ⌝ }
+{
+    if b == 13 {
+        return Phase::Return;
+    }
+    Phase::Plain
+}
+
+// A byte of a set of single bytes, also directly after a CR.
+fn single(g0: u16, g2: u16, cr: bool, b: u8) -> Move
+    ensures { λ r. ⌜ doesOf r ≡ singleDoes g0 g2 cr b ⌝ }
+{
+    if b == 14 {
+        return Move::Bad(Refusal::StrayByte);
+    }
+    if b == 15 {
+        return Move::Bad(Refusal::StrayByte);
+    }
+    let number = carried(g0, b);
+    let left = uncleared(g2, cr, b);
+    let phase = after_single(b);
+    Move::Give(
+        (number as u32) * 65536 + (b as u32),
+        State {
+            g0,
+            g2: left,
+            phase,
+        },
+    )
+}
+
+// The first byte of a pair.
+fn first(g0: u16, g2: u16, b: u8) -> Move
+    ensures { λ r. ⌜ doesOf r ≡ firstDoes g0 g2 b ⌝ }
+{
+    if jp2::is_graphic(b as u32) {
+        return Move::Go(State {
+            g0,
+            g2,
+            phase: Phase::First(b),
+        });
+    }
+    Move::Bad(Refusal::StrayByte)
+}
+
+// The second byte of a pair, after the first, a.
+fn second(g0: u16, g2: u16, a: u8, b: u8) -> Move
+    ensures { λ r. ⌜ doesOf r ≡ secondDoes g0 g2 a b ⌝ }
+{
+    if jp2::is_graphic(b as u32) {
+        return Move::Give(
+            (g0 as u32) * 65536 + ((a as u32) * 256 + (b as u32)),
+            State {
+                g0,
+                g2,
+                phase: Phase::Plain,
+            },
+        );
+    }
+    Move::Bad(Refusal::StrayByte)
+}
+
+// A byte where a cell or an escape starts.
+fn between(g0: u16, g2: u16, cr: bool, b: u8) -> Move
+    ensures { λ r. ⌜ doesOf r ≡ betweenDoes g0 g2 cr b ⌝ }
+{
+    if b == 27 {
+        return Move::Go(State {
+            g0,
+            g2,
+            phase: Phase::Escape,
+        });
+    }
+    if g0 == 6 {
+        return single(g0, g2, cr, b);
+    }
+    if g0 == 14 {
+        return single(g0, g2, cr, b);
+    }
+    first(g0, g2, b)
+}
+
+// A byte after ESC N.
+fn shifted(g0: u16, g2: u16, b: u8) -> Move
+    ensures { λ r. ⌜ doesOf r ≡ shiftedDoes g0 g2 b ⌝ }
+{
+    if b < 32 {
+        return Move::Bad(Refusal::StrayByte);
+    }
+    Move::Give(
+        (g2 as u32) * 65536 + (b as u32),
+        State {
+            g0,
+            g2,
+            phase: Phase::Plain,
+        },
+    )
+}
+
+// These bytes are ESC N.
+fn is_shift(bytes: &[u8]) -> bool
+    ensures { λ r. ⌜ r ≡ isList (now (bytes .entry)) (27 ∷ 78 ∷ []) ⌝ }
+{
+    if bytes.len() != 2 {
+        return false;
+    }
+    if bytes[0] != 27 {
+        return false;
+    }
+    bytes[1] == 78
+}
+
+// The state that a row of the table leads to.
+fn designate(g0: u16, g2: u16, row: usize) -> State
+    ensures { λ r. ⌜ stateOf r ≡ designated g0 g2 (rowAt row) ⌝ }
+{
+    let d = jp2::row_at(row);
+    if d.to == 2 {
+        return State {
+            g0,
+            g2: d.number,
+            phase: Phase::Plain,
+        };
+    }
+    State {
+        g0: d.number,
+        g2,
+        phase: Phase::Plain,
+    }
+}
+
+// The phase inside an escape.
+fn inside(bytes: &[u8]) -> Phase
+    ensures { λ r. ⌜ r ≡ inEscape (now (bytes .entry)) ⌝ }
+{
+    if bytes.len() < 2 {
+        return Phase::Escape;
+    }
+    if bytes.len() == 2 {
+        return Phase::Escape1(bytes[1]);
+    }
+    Phase::Escape2(bytes[1], bytes[2])
+}
+
+// The last of the bytes since ESC.
+fn escape(g0: u16, g2: u16, bytes: &[u8]) -> Move
+    requires { ⌜ 0 < length (now bytes) ⌝ }
+    ensures { λ r. ⌜ doesOf r ≡ escapeDoes g0 g2 (now (bytes .entry)) ⌝ }
+{
+    if is_shift(bytes) {
+        if g2 == 0 {
+            return Move::Bad(Refusal::EmptyG2);
+        }
+        return Move::Go(State {
+            g0,
+            g2,
+            phase: Phase::Shifted,
+        });
+    }
+    let row = jp2::row_of_escape(bytes);
+    if row < 9 {
+        let state = designate(g0, g2, row);
+        return Move::Go(state);
+    }
+    if jp2::row_begun_by(bytes) < 9 {
+        let phase = inside(bytes);
+        return Move::Go(State { g0, g2, phase });
+    }
+    Move::Bad(Refusal::UnknownEscape)
+}
+
+// A byte below 128.
+fn low(st: State, b: u8) -> Move
+    ensures { λ r. ⌜ doesOf r ≡ inPhase (phaseOf (st .phase)) (st .g0) (st .g2) b ⌝ }
+{
+    let g0 = st.g0;
+    let g2 = st.g2;
+    let phase = st.phase;
+    match phase {
+        Phase::Plain => between(g0, g2, false, b),
+        Phase::Return => between(g0, g2, true, b),
+        Phase::First(a) => second(g0, g2, a, b),
+        Phase::Shifted => shifted(g0, g2, b),
+        Phase::Escape => {
+            let bytes = [27, b];
+            escape(g0, g2, &bytes)
+        }
+        Phase::Escape1(x) => {
+            let bytes = [27, x, b];
+            escape(g0, g2, &bytes)
+        }
+        Phase::Escape2(x, y) => {
+            let bytes = [27, x, y, b];
+            escape(g0, g2, &bytes)
+        }
+    }
+}
+
+// What a byte does in a state.
+fn feed(st: State, b: u8) -> Move
+    ensures { λ r. ⌜ doesOf r ≡ byteDoes (stateOf st) b ⌝ }
+{
+    if b < 128 {
+        return low(st, b);
+    }
+    Move::Bad(Refusal::HighByte)
+}
+
+// The answer of a text of some size that ends between cells.
+fn finish_plain(size: usize, handed: usize, g0: u16) -> Answer
+    ensures { λ r. ⌜ inNumbers r ≡ closing (endPhase plain g0 size) handed ⌝ }
+{
+    if g0 == 6 {
+        return Answer::Accepted(handed);
+    }
+    Answer::Refused(Refusal::NotAscii, size)
+}
+
+// The answer of a text of some size that ends in a state, after some cells.
+fn finish(size: usize, handed: usize, st: State) -> Answer
+    ensures { λ r. ⌜ inNumbers r ≡ closing (endsIn size (stateOf st)) handed ⌝ }
+{
+    let phase = st.phase;
+    match phase {
+        Phase::Plain => finish_plain(size, handed, st.g0),
+        Phase::Return => finish_plain(size, handed, st.g0),
+        Phase::First(_) => Answer::Refused(Refusal::CutShort, size),
+        Phase::Shifted => Answer::Refused(Refusal::CutShort, size),
+        Phase::Escape => Answer::Refused(Refusal::CutShort, size),
+        Phase::Escape1(_) => Answer::Refused(Refusal::CutShort, size),
+        Phase::Escape2(_, _) => Answer::Refused(Refusal::CutShort, size),
+    }
+}
+
+fn lesser(a: usize, b: usize) -> usize
+    ensures { λ r. ⌜ r ≡ least a b ⌝ }
+{
+    if b < a {
+        return b;
+    }
+    a
+}
+
+// The state at the start of a text.
+fn begin() -> State
+    ensures { λ r. ⌜ r ≡ stateFor (jp2 .start) ⌝ }
+{
+    State {
+        g0: 6,
+        g2: 0,
+        phase: Phase::Plain,
+    }
+}
+
+// The cursor of a reader that has read nothing.
+pub fn start() -> Cursor
+    ensures { λ r. ⌜ r ≡ cursorOf (atStart jp2) ⌝ }
+{
+    Cursor {
+        at: 0,
+        handed: 0,
+        state: begin(),
+    }
+}
+
+// The step from any cursor over a text.
+pub fn step(text: &[u8], c: Cursor) -> Stepped
+    ensures { λ r. ⌜ told r ≡ stepOf (now (text .entry)) c ⌝ }
+{
+    if answer::over_limit(text.len()) {
+        return Stepped::Final(answer::too_long());
+    }
+    let mut at = c.at;
+    let handed = lesser(c.handed, at);
+    let mut st = c.state;
+    while at < text.len() {
+        match feed(st, text[at]) {
+            Move::Give(value, state) => {
+                let next = Cursor {
+                    at: at + 1,
+                    handed: handed + 1,
+                    state,
+                };
+                return Stepped::Cell(Given { value, next });
+            }
+            Move::Go(state) => {
+                st = state;
+                at += 1;
+            }
+            Move::Bad(why) => {
+                return Stepped::Final(Answer::Refused(why, at));
+            }
+        }
+    }
+    Stepped::Final(finish(text.len(), handed, st))
+}
+
+// The answer of reading a text with room enough.
+fn count(text: &[u8]) -> Answer
+    ensures { λ r. ⌜ inNumbers r ≡ verdictOf (reading jp2 (now (text .entry))) ⌝ }
+{
+    let mut at: usize = 0;
+    let mut n: usize = 0;
+    let mut st = begin();
+    while at < text.len() {
+        match feed(st, text[at]) {
+            Move::Give(_, state) => {
+                st = state;
+                n += 1;
+                at += 1;
+            }
+            Move::Go(state) => {
+                st = state;
+                at += 1;
+            }
+            Move::Bad(why) => {
+                return Answer::Refused(why, at);
+            }
+        }
+    }
+    finish(at, n, st)
+}
+
+// The cells of a text go to the front of the output.
+fn fill(text: &[u8], out: &mut [u32])
+    requires { ⌜ length (reading jp2 (now text) .cells) ≤ length (now out) ⌝ }
+    ensures { λ _. ⌜ now (out .exit) ≡ filled (reading jp2 (now (text .entry)) .cells) (now (out .entry)) ⌝ }
+{
+    let mut at: usize = 0;
+    let mut n: usize = 0;
+    let mut st = begin();
+    while at < text.len() {
+        match feed(st, text[at]) {
+            Move::Give(value, state) => {
+                out[n] = value;
+                st = state;
+                n += 1;
+                at += 1;
+            }
+            Move::Go(state) => {
+                st = state;
+                at += 1;
+            }
+            Move::Bad(_) => {
+                return;
+            }
+        }
+    }
+}
+
+// Reads a text into an output. The whole text is judged before a cell is written.
+pub fn read(text: &[u8], out: &mut [u32]) -> Answer
+    ensures { λ r. ⌜ leaves r (now (out .exit)) ≡ readInto jp2 (now (text .entry)) (now (out .entry)) ⌝ }
+{
+    if answer::over_limit(text.len()) {
+        return answer::too_long();
+    }
+    let found = count(text);
+    match found {
+        Answer::Refused(_, _) => {
+            return found;
+        }
+        Answer::Accepted(n) => {
+            if out.len() < n {
+                return Answer::Refused(Refusal::NoRoom, n);
+            }
+            fill(text, out);
+            found
+        }
+    }
+}
+
+// The text is accepted and reads as the cells. Nothing is lent to be written.
+pub fn reads_as(text: &[u8], cells: &[u32]) -> bool
+    ensures { λ r. ⌜ r ≡ readsAs jp2 (now (text .entry)) (now (cells .entry)) ⌝ }
+{
+    let mut at: usize = 0;
+    let mut n: usize = 0;
+    let mut st = begin();
+    while at < text.len() {
+        match feed(st, text[at]) {
+            Move::Give(value, state) => {
+                if cells.len() <= n {
+                    return false;
+                }
+                if cells[n] != value {
+                    return false;
+                }
+                st = state;
+                n += 1;
+                at += 1;
+            }
+            Move::Go(state) => {
+                st = state;
+                at += 1;
+            }
+            Move::Bad(_) => {
+                return false;
+            }
+        }
+    }
+    match finish(at, n, st) {
+        Answer::Accepted(_) => n == cells.len(),
+        Answer::Refused(_, _) => false,
+    }
+}

@@ -1,0 +1,78 @@
+-- Document 01's worked page, "Body page on P2, one cell at 1 replaced by 003D", and pages damaged by hand, computed. Assumes nothing.
+use Prim.Native.Nat.{ℕ}
+use mathlib.Core.Path.{_≡_, refl}
+use mathlib.Core.List.{List, [], _∷_, _++_}
+use lib.ListN.{replicate}
+use Rattle.answer.specs.Answer.{numbered, limit}
+use Rattle.codec.specs.declared.Kind.the-variants.{Utf7Body}
+use Rattle.codec.proofs.Worked.{letter, cellsRead, cellsEdited, written, letter-reads, letter-reads-as, sign-writable, edited-writable, edited-writes}
+use Rattle.ledger.specs.Words.{recordsIn, reached, lengthsFit, partAt, zeros}
+use Rattle.ledger.specs.Page.{State, stateOf, framed, reachedAtDone, fitting, records, Outcome}
+use Rattle.ledger.specs.Calls.{undoLast, undoParted, undoOf, redoNext, redoParted, redoOf, replaceFitting, replaceSound, replaceParted, replaceOf, savedAs, saveStanding, saveParted, saveOf, openRead, openOf}
+
+-- a body page of four cells, with its words used and done, beside these buffers
+abbrev pub page : ℕ → ℕ → List ℕ → List ℕ → State
+page used done text history = stateOf (record { kind = Utf7Body; opening = 4; length = 4; used = used; done = done }) text history
+
+abbrev pub accepts : ℕ → State → List ℕ → Outcome
+accepts count s out = record { verdict = numbered 0 count; state = s; output = out }
+
+abbrev pub step : List ℕ
+step = 1 ∷ 1 ∷ 1 ∷ 0x2262 ∷ 0x3D ∷ []
+
+-- each call is made on the state that the one before it leaves, in buffers of five cells and five words
+abbrev pub onOpen : State
+onOpen = page 0 0 (cellsRead ++ 0 ∷ []) (replicate 5 0)
+
+abbrev pub onReplace : State
+onReplace = page 5 5 (cellsEdited ++ 0 ∷ []) step
+
+abbrev pub onUndo : State
+onUndo = page 5 0 (cellsRead ++ 0 ∷ []) step
+
+pub record Worked : Type 0 where
+  pub opens : openOf Utf7Body letter (replicate 5 9) (replicate 5 9) ≡ accepts 4 onOpen []
+  pub replaces : replaceOf onOpen 1 1 (0x3D ∷ []) ≡ accepts 4 onReplace []
+  pub saves : saveOf onReplace letter (replicate 9 9) ≡ accepts 8 onReplace (written ++ 9 ∷ [])
+  pub undoes : undoOf onReplace ≡ accepts 4 onUndo []
+  pub redoes : redoOf onUndo ≡ accepts 4 onReplace []
+  pub saves-letter : saveOf onUndo letter (replicate 9 9) ≡ accepts 9 onUndo letter
+  pub undoes-none : undoOf onUndo .verdict ≡ numbered 13 0
+  pub four-words : replaceOf (page 0 0 (cellsRead ++ 0 ∷ []) (replicate 4 0)) 1 1 (0x3D ∷ []) .verdict ≡ numbered 12 5
+
+pub worked : Worked
+unfolding limit recordsIn reached lengthsFit partAt zeros framed reachedAtDone fitting records undoLast undoParted undoOf redoNext redoParted redoOf replaceFitting replaceSound replaceParted replaceOf savedAs saveStanding saveParted saveOf openRead openOf
+worked =
+    record {
+      opens = rw letter-reads;
+      replaces = rw sign-writable;
+      saves = rw (edited-writable, edited-writes);
+      undoes = refl;
+      redoes = refl;
+      saves-letter = rw letter-reads-as;
+      undoes-none = refl;
+      four-words = rw sign-writable;
+    }
+
+-- pages that are not sound, by the parts of soundness
+pub record Damaged : Type 0 where
+  pub text-past-length : undoOf (page 5 5 (cellsEdited ++ 7 ∷ []) step) .verdict ≡ numbered 14 0
+  pub history-past-used : undoOf (page 5 5 (cellsEdited ++ 0 ∷ []) (step ++ 7 ∷ [])) .verdict ≡ numbered 14 0
+  pub done-in-record : undoOf (page 5 3 (cellsEdited ++ 0 ∷ []) step) .verdict ≡ numbered 14 0
+  pub undone-cut : undoOf (page 4 0 (cellsRead ++ 0 ∷ []) (1 ∷ 1 ∷ 1 ∷ 0x2262 ∷ [])) .verdict ≡ numbered 14 0
+  pub undone-beyond : undoOf (page 5 0 (cellsRead ++ 0 ∷ []) (4 ∷ 1 ∷ 1 ∷ 0x2262 ∷ 0x3D ∷ [])) .verdict ≡ numbered 14 0
+  pub undone-too-long : undoOf (page 5 0 cellsRead (0 ∷ 0 ∷ 2 ∷ 0x3D ∷ 0x3D ∷ [])) .verdict ≡ numbered 14 0
+  pub other-length : undoOf (page 5 5 (cellsEdited ++ 0 ∷ []) (1 ∷ 0 ∷ 2 ∷ 0x3D ∷ 0x3D ∷ [])) .verdict ≡ numbered 14 0
+
+pub damaged : Damaged
+unfolding limit recordsIn reached lengthsFit partAt zeros framed reachedAtDone fitting records undoLast undoParted undoOf
+damaged =
+    record {
+      text-past-length = refl;
+      history-past-used = refl;
+      done-in-record = refl;
+      undone-cut = refl;
+      undone-beyond = refl;
+      undone-too-long = refl;
+      other-length = refl;
+    }

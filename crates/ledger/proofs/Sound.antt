@@ -1,0 +1,61 @@
+-- A page's records are found exactly when they meet the parts of soundness that document 01 lists. Assumes nothing.
+use Prim.Native.Nat.{_≤_}
+use mathlib.Core.Path.{_≡_, _∙_}
+use mathlib.Core.Bool.{true}
+use mathlib.Core.List.{List, [], reverseAux, reverse}
+use mathlib.Core.Option.{Option, none, some}
+use native.Mathlib.Nat.{add-zero}
+use native.Mathlib.Omega.{arith}
+use lib.ListN.{length, take, length-take}
+use lib.Dec.{eqb}
+use borrow.Author.Tests.{eq-eqb, eqb-true}
+use Rattle.answer.proofs.Below.{cond-case}
+use Rattle.ledger.specs.Words.{Entry, Parted, recordsIn, lengthsFit, reached, partAt}
+use Rattle.ledger.specs.Page.{State, framed, reachedAtDone, fitting, records}
+use Rattle.ledger.proofs.Words.{Whole, words, sizes, records-words, exact, PartedAs, parted-at, parted-here, parted-whole}
+
+pub record Sound (s : State) (v : Parted) : Type 0 where
+  pub frame : framed s ≡ true
+  pub tiles : words (reverseAux (v .standing) (v .undone)) ≡ take (s .page .used) (s .history)
+  pub end : sizes (v .standing) ≡ s .page .done
+  pub fits : lengthsFit (length (s .text)) (s .page .opening) (reverseAux (v .standing) (v .undone)) ≡ true
+  pub reach : reached (s .page .opening) (reverse (v .standing)) ≡ s .page .length
+
+module _ (s : State) where
+  pub sound-records : (v : Parted) → Sound s v → records s ≡ some v
+  unfolding records fitting reachedAtDone
+  sound-records v h =
+      let all : List Entry = reverseAux (v .standing) (v .undone) in
+      let few : length (words all) ≤ s .page .used = rw (h .tiles) (simp length-take (omega arith)) in
+      let parted : partAt all (s .page .done) [] ≡ some v =
+      rw (← h .end, ← add-zero (sizes (v .standing))) (parted-at (v .standing) (v .undone) 0 ∙ parted-here (v .standing) (v .undone)) in
+      rw (
+        h .frame,
+        ← h .tiles,
+        records-words (s .page .used) all few,
+        h .fits,
+        parted,
+        eq-eqb (reached (s .page .opening) (reverse (v .standing))) (s .page .length) (h .reach),
+      )
+
+  module _ (f : framed s ≡ true) where
+    module _ (es : List Entry) (w : words es ≡ take (s .page .used) (s .history)) (l : lengthsFit (length (s .text)) (s .page .opening) es ≡ true) where
+      reached-sound : (x : Option Parted) → Whole (PartedAs es (s .page .done)) x → Whole (Sound s) (reachedAtDone (s .page) x)
+      unfolding reachedAtDone
+      reached-sound none p = tt
+      reached-sound (some v) p =
+          cond-case (Whole (Sound s)) (eqb (reached (s .page .opening) (reverse (v .standing))) (s .page .length))
+          (λ t. record { frame = f; tiles = rw (p .0) w; end = p .1; fits = rw (p .0) l; reach = eqb-true _ _ t }) (λ _. tt)
+
+    fitting-sound : (x : Option (List Entry)) → Whole (λ es. words es ≡ take (s .page .used) (s .history)) x → Whole (Sound s) (fitting s x)
+    unfolding fitting
+    fitting-sound none w = tt
+    fitting-sound (some es) w =
+        cond-case (Whole (Sound s)) (lengthsFit (length (s .text)) (s .page .opening) es)
+        (λ t. reached-sound es w t (partAt es (s .page .done) []) (parted-whole es (s .page .done) [] (s .page .done) (omega arith))) (λ _. tt)
+
+  pub records-sound : Whole (Sound s) (records s)
+  unfolding records
+  records-sound =
+      cond-case (Whole (Sound s)) (framed s)
+      (λ t. fitting-sound t (recordsIn (s .page .used) (take (s .page .used) (s .history))) (exact (s .page .used) (take (s .page .used) (s .history)))) (λ _. tt)

@@ -1,0 +1,7 @@
+pub mod Words
+pub mod Page
+pub mod Parts
+pub mod Calls
+pub mod Ledger
+pub mod Running
+pub mod Demand

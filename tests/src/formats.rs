@@ -1,0 +1,75 @@
+//! The formats: what the second program and the papers have of each, and what its programs are tried on.
+
+use crate::examples::{self, Group, Listing, Reading, Writing};
+use crate::second::utf7::Style;
+use crate::second::{jp2, utf7, Elements};
+use crate::texts::{self, Source};
+
+pub struct Format {
+    /// How its checks are named.
+    pub name: &'static str,
+    /// The name of its lister.
+    pub lister: &'static str,
+    /// The faults of its texts.
+    pub faults: &'static [u32],
+    /// The second program's reader.
+    pub read: fn(&[u8]) -> Elements<u32>,
+    pub readings: Vec<Group<Reading>>,
+    pub listings: Vec<Listing>,
+    pub writers: Vec<Writer>,
+    /// Makes texts and lists.
+    pub source: &'static Source,
+}
+
+pub struct Writer {
+    /// How its checks are named.
+    pub name: &'static str,
+    /// The second program's writer.
+    pub write: fn(&[u32]) -> Elements<u8>,
+    /// The bytes that suffice for so many cells.
+    pub enough: fn(usize) -> usize,
+    pub writings: Vec<Group<Writing>>,
+}
+
+pub fn utf7() -> Format {
+    let writer = |name, write, style| Writer {
+        name,
+        write,
+        // "n units need at most 5n bytes."
+        enough: |units| 5 * units,
+        writings: examples::utf7::writings(style),
+    };
+    Format {
+        name: "utf7",
+        lister: "utf7_lister",
+        faults: &[1, 2, 3, 4],
+        read: utf7::read,
+        readings: examples::utf7::readings(),
+        listings: examples::utf7::listings(),
+        writers: vec![
+            writer("utf7-header", |cells| utf7::write(Style::Header, cells), Style::Header),
+            writer("utf7-body", |cells| utf7::write(Style::Body, cells), Style::Body),
+        ],
+        source: &texts::utf7::SOURCE,
+    }
+}
+
+pub fn jp2() -> Format {
+    let writer = Writer {
+        name: "jp2",
+        write: jp2::write,
+        // "n cells need at most 6n + 3 bytes."
+        enough: |cells| 6 * cells + 3,
+        writings: examples::jp2::writings(),
+    };
+    Format {
+        name: "jp2",
+        lister: "jp2_lister",
+        faults: &[1, 3, 5, 6, 7, 8],
+        read: jp2::read,
+        readings: examples::jp2::readings(),
+        listings: examples::jp2::listings(),
+        writers: vec![writer],
+        source: &texts::jp2::SOURCE,
+    }
+}

@@ -1,0 +1,236 @@
+//! Seeded texts and lists of cells to try the readers and writers on.
+
+pub mod jp2;
+pub mod utf7;
+
+use crate::rng::Rng;
+use crate::second::LISTER_LIMIT;
+
+/// The longest seeded text: one byte more than a lister takes.
+const LONGEST: usize = LISTER_LIMIT + 1;
+
+/// How texts and lists of a format are made.
+pub struct Source {
+    /// Bytes of every kind that the rules tell apart.
+    pub telling_bytes: &'static [u8],
+    /// Parts of texts of every kind that the rules tell apart.
+    pub telling_parts: &'static [&'static [u8]],
+    /// The byte that opens what is more than one byte.
+    pub opener: u8,
+    /// Makes a text that is accepted. Its length is the one asked for, or a little less.
+    pub whole: fn(&mut Rng, usize) -> Vec<u8>,
+    /// Texts of any length: with no fault, and with a fault of each kind, early or late.
+    pub frames: &'static [Frame],
+    /// Parts of which every short text is tried.
+    pub alphabets: &'static [Alphabet],
+    /// Makes so many writable cells.
+    pub cells: fn(&mut Rng, usize) -> Vec<u32>,
+    /// Makes a cell that is not writable.
+    pub unwritable: fn(&mut Rng) -> u32,
+    /// Cells that are tried each by itself.
+    pub lone_cells: fn() -> Vec<u32>,
+    /// Lists of writable cells that, over and over, make a long list.
+    pub patterns: &'static [&'static [u32]],
+}
+
+/// A text of any length: its start, a filling over and over, and its end.
+pub struct Frame(pub &'static [u8], pub &'static [u8], pub &'static [u8]);
+
+/// Parts of texts, and of how many of them every text is tried.
+pub struct Alphabet {
+    pub name: &'static str,
+    pub what: &'static str,
+    pub parts: &'static [&'static [u8]],
+    pub longest: u32,
+}
+
+/// Every text of no byte, then every one of one byte, then every one of two.
+pub fn up_to_two_bytes() -> impl Iterator<Item = Vec<u8>> {
+    let one = (0..=255).map(|byte| vec![byte]);
+    let two = (0..=65_535u16).map(|pair| pair.to_be_bytes().to_vec());
+    [vec![]].into_iter().chain(one).chain(two)
+}
+
+impl Alphabet {
+    /// Every text of so many parts, from none to the longest.
+    pub fn texts(&self) -> impl Iterator<Item = Vec<u8>> + '_ {
+        (0..=self.longest).flat_map(move |count| {
+            let size = self.parts.len();
+            let part = move |number: usize, place: u32| self.parts[number / size.pow(place) % size];
+            (0..size.pow(count)).map(move |number| (0..count).flat_map(|place| part(number, place)).copied().collect())
+        })
+    }
+}
+
+impl Source {
+    /// So many texts: whole, damaged, and of anything that the rules tell apart.
+    pub fn texts(&self, seed: u64, purpose: &str, count: usize) -> impl Iterator<Item = Vec<u8>> + '_ {
+        let mut rng = Rng::new(seed, purpose);
+        (0..count).map(move |_| self.text(&mut rng))
+    }
+
+    fn text(&self, rng: &mut Rng) -> Vec<u8> {
+        let length = text_length(rng);
+        match rng.below(9) {
+            0..=2 => (self.whole)(rng, length),
+            3..=5 => self.damaged(rng, length),
+            6 => self.of_few_bytes(rng, length),
+            7 => (0..length).map(|_| rng.pick(self.telling_bytes)).collect(),
+            _ => (0..length / 3).flat_map(|_| rng.pick(self.telling_parts)).copied().take(length).collect(),
+        }
+    }
+
+    /// A whole text with one to three changes.
+    fn damaged(&self, rng: &mut Rng, length: usize) -> Vec<u8> {
+        let mut text = (self.whole)(rng, length);
+        for _ in 0..rng.between(1, 3) {
+            self.damage(rng, &mut text);
+        }
+        text.truncate(LONGEST);
+        text
+    }
+
+    /// Changes a byte of a text, puts something in, takes something out, or cuts the text short.
+    fn damage(&self, rng: &mut Rng, text: &mut Vec<u8>) {
+        let place = self.damage_place(rng, text);
+        if place == text.len() {
+            text.push(rng.pick(self.telling_bytes));
+            return;
+        }
+        let here = place..place;
+        let following = place..(place + rng.between(1, 3)).min(text.len());
+        match rng.below(8) {
+            0 => text[place] ^= 1 << rng.below(8),
+            1 => text[place] = rng.pick(self.telling_bytes),
+            2 => text[place] = rng.between(128, 255) as u8,
+            3 => text.insert(place, rng.between(128, 255) as u8),
+            4 => text.insert(place, rng.pick(self.telling_bytes)),
+            5 => drop(text.splice(here, rng.pick(self.telling_parts).iter().copied())),
+            6 => text.truncate(place),
+            _ => drop(text.drain(following)),
+        }
+    }
+
+    /// Any place in a text, or one near an opener.
+    fn damage_place(&self, rng: &mut Rng, text: &[u8]) -> usize {
+        let place = rng.below(text.len() + 1);
+        if rng.one_in(2) {
+            return place;
+        }
+        match text[place..].iter().position(|&byte| byte == self.opener) {
+            Some(distance) => (place + distance + rng.below(6)).min(text.len()),
+            None => place,
+        }
+    }
+
+    /// A text of two to five bytes that matter, over and over.
+    fn of_few_bytes(&self, rng: &mut Rng, length: usize) -> Vec<u8> {
+        let few: Vec<u8> = (0..rng.between(2, 5)).map(|_| rng.pick(self.telling_bytes)).collect();
+        (0..length).map(|_| rng.pick(&few)).collect()
+    }
+
+    /// A text of exactly this length from each frame.
+    pub fn texts_of_length(&self, length: usize) -> impl Iterator<Item = Vec<u8>> + '_ {
+        self.frames.iter().map(move |Frame(start, filling, end)| {
+            let filled = length - start.len() - end.len();
+            start.iter().chain(filling.iter().cycle().take(filled)).chain(*end).copied().collect()
+        })
+    }
+
+    /// So many lists, most of them writable.
+    pub fn lists(&self, seed: u64, purpose: &str, count: usize) -> impl Iterator<Item = Vec<u32>> + '_ {
+        let mut rng = Rng::new(seed, purpose);
+        (0..count).map(move |_| self.list(&mut rng))
+    }
+
+    fn list(&self, rng: &mut Rng) -> Vec<u32> {
+        let count = match rng.below(20) {
+            0..=11 => rng.below(12),
+            12..=18 => rng.below(150),
+            _ => rng.below(6_000),
+        };
+        let mut cells = (self.cells)(rng, count);
+        if count > 0 && rng.one_in(4) {
+            for _ in 0..rng.between(1, 2) {
+                let index = rng.below(count);
+                cells[index] = (self.unwritable)(rng);
+            }
+        }
+        cells
+    }
+
+    /// Lists of exactly this length: one from each pattern, and that with a cell at its end that is not writable.
+    pub fn lists_of_length(&self, length: usize) -> impl Iterator<Item = Vec<u32>> + '_ {
+        self.patterns.iter().flat_map(move |pattern| {
+            let list: Vec<u32> = pattern.iter().copied().cycle().take(length).collect();
+            let mut unwritable = list.clone();
+            unwritable[length - 1] = u32::MAX;
+            [list, unwritable]
+        })
+    }
+}
+
+/// Most texts are short; one in forty is near the lister's limit, on either side of it.
+fn text_length(rng: &mut Rng) -> usize {
+    match rng.below(40) {
+        0..=19 => rng.below(13),
+        20..=33 => rng.below(100),
+        34..=38 => rng.below(3_000),
+        _ => rng.between(LONGEST - 4, LONGEST),
+    }
+}
+
+#[cfg(test)]
+mod tests {
+    use super::*;
+    use crate::formats;
+
+    #[test]
+    fn whole_texts_are_accepted() {
+        let mut rng = Rng::new(1, "whole texts");
+        for format in [formats::utf7(), formats::jp2()] {
+            for _ in 0..2_000 {
+                let length = text_length(&mut rng);
+                let text = (format.source.whole)(&mut rng, length);
+                assert!(text.len() <= length);
+                assert!((format.read)(&text).is_ok(), "{}", text.escape_ascii());
+            }
+        }
+    }
+
+    #[test]
+    fn texts_have_every_length_asked_for() {
+        for source in [&utf7::SOURCE, &jp2::SOURCE] {
+            let texts: Vec<Vec<u8>> = source.texts(1, "lengths", 3_000).collect();
+            for length in [0, 1, 2, LISTER_LIMIT, LONGEST] {
+                assert!(texts.iter().any(|text| text.len() == length), "none of {length} bytes");
+            }
+            assert!(texts.iter().all(|text| text.len() <= LONGEST));
+            assert!(source.texts_of_length(40).all(|text| text.len() == 40));
+        }
+    }
+
+    #[test]
+    fn every_short_text_of_an_alphabet_is_made() {
+        let alphabet = Alphabet { name: "", what: "", parts: &[b"a", b"bc"], longest: 2 };
+        let texts: Vec<Vec<u8>> = alphabet.texts().collect();
+        let expected: [&[u8]; 7] = [b"", b"a", b"bc", b"aa", b"bca", b"abc", b"bcbc"];
+        assert_eq!(texts, expected);
+    }
+
+    #[test]
+    fn cells_are_writable_or_not_as_asked_for() {
+        let mut rng = Rng::new(1, "cells");
+        for format in [formats::utf7(), formats::jp2()] {
+            for count in 0..200 {
+                let cells = (format.source.cells)(&mut rng, count);
+                assert_eq!(cells.len(), count);
+                for writer in &format.writers {
+                    assert!((writer.write)(&cells).is_ok());
+                    assert!((writer.write)(&[(format.source.unwritable)(&mut rng)]).is_err());
+                }
+            }
+            assert_eq!(format.source.lists_of_length(20).count(), 2 * format.source.patterns.len());
+        }
+    }
+}
