@@ -4,7 +4,7 @@ use mathlib.Core.Bool.{cond}
 use mathlib.Core.List.{List, _++_}
 use lib.ListN.{length, drop}
 use lib.Dec.{ltb}
-use Rattle.answer.specs.Answer.{Verdict, numbered, inNumbers}
+use Rattle.answer.specs.Answer.{Verdict, numbered, inNumbers, limit, tooLong}
 use Rattle.answer.specs.declared.Answer.{Answer}
 
 pub record Outcome : Type 0 where
@@ -29,3 +29,9 @@ deliver elements out =
     cond (ltb (length out) (length elements))
     (refusing (numbered 9 (length elements)) out)
     (record { verdict = numbered 0 (length elements); out = filled elements out })
+
+-- "Writing: first 10, then 9", after 16: the cells, the index of the first that is not writable (or their count), and what they are written as
+abbrev pub written : List ℕ → ℕ → List ℕ → List ℕ → Outcome
+written cells first text out =
+    cond (ltb limit (length cells)) (refusing tooLong out)
+    (cond (ltb first (length cells)) (refusing (numbered 10 first) out) (deliver text out))

@@ -4,8 +4,8 @@ use mathlib.Core.Bool.{Bool, cond}
 use mathlib.Core.List.{List}
 use lib.ListN.{length}
 use lib.Dec.{ltb}
-use Rattle.answer.specs.Answer.{numbered, limit, tooLong}
-use Rattle.answer.specs.Output.{Outcome, refusing, deliver}
+use Rattle.answer.specs.Answer.{limit, tooLong}
+use Rattle.answer.specs.Output.{Outcome, refusing, written}
 use Rattle.reading.specs.Reading.{Reading, reading, onEnding}
 use Rattle.reading.specs.Matching.{gave}
 use Rattle.utf7.specs.Rule.{utf7}
@@ -65,10 +65,7 @@ writingIn Jp2 cells = jp2-writing.writing cells
 
 -- writing into an output: 16, 10 with the cell's index, 9
 unfoldable pub writeIn : Kind → List ℕ → List ℕ → Outcome
-writeIn kind cells out =
-    cond (ltb limit (length cells)) (refusing tooLong out)
-    (cond (ltb (firstUnwritable kind cells) (length cells)) (refusing (numbered 10 (firstUnwritable kind cells)) out)
-    (deliver (writingIn kind cells) out))
+writeIn kind cells out = written cells (firstUnwritable kind cells) (writingIn kind cells) out
 
 -- the page's words for its kind
 abbrev pub readingIn : Kind → List ℕ → Reading

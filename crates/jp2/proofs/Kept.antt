@@ -1,9 +1,10 @@
 -- What reading keeps: the sets in force are of the table, and every cell that is read is writable. Assumes nothing.
-use Prim.Native.Nat.{ℕ, _+_, _*_, _/_, _%_, _<_}
+use Prim.Native.Nat.{ℕ, _+_, _*_, _/_, _%_, _<_, _≤_}
 use mathlib.Core.Path.{_≡_, refl}
 use mathlib.Core.Bool.{Bool, true, false, cond, _&&_, _||_, or-true, or-assoc}
 use mathlib.Core.List.{List, [], _∷_, _++_}
 use native.Mathlib.Omega.{arith}
+use lib.ListN.{length, getD, length-append}
 use lib.Dec.{ltb, eqb, lit<}
 use borrow.Author.Tests.{ltb-true, ltb-false, le-leb, eqb-true}
 use Rattle.answer.specs.Lists.{Each}
@@ -13,6 +14,7 @@ use Rattle.reading.proofs.Laws.{SoundDoes, SoundEnd, Kept, good-reading}
 use Rattle.jp2.specs.Table.{rowAt, isList, rowOfEscape, rowBegunBy}
 use Rattle.jp2.specs.Rule.{Phase, plain, return, first, shifted, escape, State, state, designated, graphic, cellOf, singleDoes, firstDoes, secondDoes, betweenDoes, shiftedDoes, escapeDoes, inPhase, byteDoes, endPhase, endsIn, jp2}
 use Rattle.jp2.specs.Writable.{pairSet, shiftSet, ascii, codes}
+use Rattle.jp2.proofs.Table.{begun-starts, begun-short}
 use Rattle.jp2.proofs.Sets.{Writable, single, baseSet, either, graphic-range, codes-pair, codes-shift, cell-writable}
 use Rattle.jp2.proofs.Rows.{row-ruled}
 
@@ -20,13 +22,23 @@ use Rattle.jp2.proofs.Rows.{row-ruled}
 abbrev pub inG2 : ℕ → Bool
 inG2 n = eqb n 0 || shiftSet n
 
--- a pair is begun only while one of their sets is in G0, and ESC N is taken only while a set is in G2
+-- ESC and at most two bytes more
+pub record Short (bytes : List ℕ) : Type 0 where
+  pub some : 0 < length bytes
+  pub few : length bytes < 4
+  pub starts : getD bytes 0 0 ≡ 27
+
+-- a pair is begun only while one of their sets is in G0, ESC N is taken only while a set is in G2, and an escape is not whole
 abbrev pub SoundPhase : Phase → ℕ → ℕ → Type 0
 SoundPhase plain g0 g2 = Unit
 SoundPhase return g0 g2 = Unit
 SoundPhase (first a) g0 g2 = (graphic a ≡ true) × (pairSet g0 ≡ true)
 SoundPhase shifted g0 g2 = shiftSet g2 ≡ true
-SoundPhase (escape bytes) g0 g2 = Unit
+SoundPhase (escape bytes) g0 g2 = Short bytes
+
+-- bytes that begin a row and are none
+pub begun : (bytes : List ℕ) → 0 < length bytes → rowBegunBy bytes < 9 → 9 ≤ rowOfEscape bytes → Short bytes
+begun bytes some h k = record { some = some; few = begun-short bytes some h k; starts = begun-starts bytes some h }
 
 pub record SoundState (st : State) : Type 0 where
   pub lower : baseSet (st .g0) ≡ true
@@ -53,13 +65,13 @@ module _ (g0 g2 : ℕ) (h0 : baseSet g0 ≡ true) (h2 : inG2 g2 ≡ true) where
       let r = row-ruled i h in
       rw (r .goes-to) (sound-designated (shiftSet (rowAt i .number)) (rowAt i .number) refl (r .belongs))
 
-  keeps-escape : (bytes : List ℕ) → Keeps (escapeDoes g0 g2 bytes)
+  keeps-escape : (bytes : List ℕ) → 0 < length bytes → Keeps (escapeDoes g0 g2 bytes)
   unfolding escapeDoes
-  keeps-escape bytes =
+  keeps-escape bytes some =
       let i = rowOfEscape bytes in
       cond-case Keeps (isList bytes (27 ∷ 78 ∷ [])) (λ _. cond-case Keeps (eqb g2 0) (λ _. lit< tt) (λ e. sound shifted (rw e at h2)))
       (λ _. cond-case Keeps (ltb i 9) (λ e. sound-row i (ltb-true i 9 e))
-      (λ _. cond-case Keeps (ltb (rowBegunBy bytes) 9) (λ _. sound (escape bytes) tt) (λ _. lit< tt)))
+      (λ k. cond-case Keeps (ltb (rowBegunBy bytes) 9) (λ e. sound (escape bytes) (begun bytes some (ltb-true _ 9 e) (ltb-false _ 9 k))) (λ _. lit< tt)))
 
   module _ (b : ℕ) (low : b < 128) where
     single-writable : single g0 ≡ true → eqb b 27 ≡ false → (eqb b 14 || eqb b 15) ≡ false → Writable (cellOf (cond (graphic b) g0 6) b)
@@ -82,7 +94,7 @@ module _ (g0 g2 : ℕ) (h0 : baseSet g0 ≡ true) (h2 : inG2 g2 ≡ true) where
     keeps-between : (cr : Bool) → Keeps (betweenDoes g0 g2 cr b)
     unfolding betweenDoes firstDoes
     keeps-between cr =
-        cond-case Keeps (eqb b 27) (λ _. sound (escape (27 ∷ [])) tt)
+        cond-case Keeps (eqb b 27) (λ _. sound (escape (27 ∷ [])) (record { some = lit< tt; few = lit< tt; starts = refl }))
         (λ e. cond-case Keeps (single g0) (λ s. keeps-single cr s e)
         (λ s. cond-case Keeps (graphic b) (λ g. sound (first b) (g, rw s at h0)) (λ _. lit< tt)))
 
@@ -105,7 +117,7 @@ module _ (g0 g2 : ℕ) (h0 : baseSet g0 ≡ true) (h2 : inG2 g2 ≡ true) where
     keeps-phase return h = keeps-between true
     keeps-phase (first a) h = keeps-second a (h .0) (h .1)
     keeps-phase shifted h = keeps-shifted h
-    keeps-phase (escape bytes) h = keeps-escape (bytes ++ b ∷ [])
+    keeps-phase (escape bytes) h = keeps-escape (bytes ++ b ∷ []) (simp length-append (omega arith))
 
 keeps-byte : (st : State) (b : ℕ) → SoundState st → Keeps (byteDoes st b)
 unfolding byteDoes
@@ -119,13 +131,18 @@ keeps-end (first a) g0 size = lit< tt
 keeps-end shifted g0 size = lit< tt
 keeps-end (escape bytes) g0 size = lit< tt
 
+-- a fault at the end has a number
+pub ends-sound : (size : ℕ) (st : State) → SoundEnd (endsIn size st)
+unfolding endsIn
+ends-sound size st = keeps-end (st .phase) (st .g0) size
+
 pub jp2-kept : Kept jp2 SoundState Writable
 unfolding endsIn
 jp2-kept =
     record {
       starts = record { lower = refl; upper = refl; within = tt };
       keeps = keeps-byte;
-      ends = λ size st _. keeps-end (st .phase) (st .g0) size;
+      ends = λ size st _. ends-sound size st;
     }
 
 -- every cell that is read is writable

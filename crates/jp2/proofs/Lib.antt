@@ -9,3 +9,4 @@ pub mod Round
 pub mod Size
 pub mod Counts
 pub mod Foreign
+pub mod ReadsBack

@@ -1,13 +1,12 @@
 -- The rule of the table, by computed tests of its nine rows: a row is found by its number, and read as it is sent. Assumes nothing.
-use Prim.Native.Nat.{ℕ, suc, _+_, _<_, _≤_}
+use Prim.Native.Nat.{ℕ, _+_, _<_, _≤_}
 use mathlib.Core.Path.{_≡_, refl, _∙_}
 use mathlib.Core.Bool.{Bool, true, false, cond, _&&_, _||_, not, false≢true}
 use mathlib.Core.List.{List, [], _∷_, _++_, map}
-use native.Mathlib.Omega.{arith}
-use lib.ListN.{length, getD}
+use lib.ListN.{length}
 use lib.Dec.{leb, ltb, eqb, lit<}
 use borrow.Author.Tests.{leb-true, eqb-true, lt-ltb}
-use Rattle.answer.proofs.Below.{both, cond-case, allBelow, below, same, same-eq}
+use Rattle.answer.proofs.Below.{both, allBelow, below, same, same-eq}
 use Rattle.reading.specs.Reading.{go}
 use Rattle.reading.proofs.Walk.{Walk, stay, goes}
 use Rattle.jp2.specs.Table.{designations, rowAt, noRow, sent, begins, isList, firstWhere, rowOfNumber, rowOfEscape, rowBegunBy}
@@ -15,14 +14,8 @@ use Rattle.jp2.specs.Rule.{State, Phase, plain, return, escape, state, d
 use Rattle.jp2.specs.Writable.{pairSet, shiftSet, codes}
 use Rattle.jp2.specs.Tally.{sets}
 use Rattle.jp2.specs.declared.Designation.{Designation}
+use Rattle.jp2.proofs.Search.{found-passes}
 use Rattle.jp2.proofs.Sets.{Kind, of-ascii, of-roman, of-pair, of-shift, baseSet, kind-of, pair-case, shift-case}
-
--- what a search finds passes the test
-first-passes : {A : Type 0} (test : A → Bool) (xs : List A) (d : A) → firstWhere test xs < length xs → test (getD xs (firstWhere test xs) d) ≡ true
-unfolding firstWhere
-first-passes test [] d = λ h. absurd (omega arith)
-first-passes test (x ∷ xs) d =
-    cond-case (λ k. k < suc (length xs) → test (getD (x ∷ xs) k d) ≡ true) (test x) (λ e _. e) (λ _ h. first-passes test xs d (omega arith))
 
 -- the set of a writable cell has a row
 has-row : {n c : ℕ} → Kind n c → rowOfNumber n < 9
@@ -37,7 +30,7 @@ row-found n c h = has-row (kind-of n c h)
 
 pub row-number : (n : ℕ) → rowOfNumber n < 9 → rowAt (rowOfNumber n) .number ≡ n
 unfolding rowOfNumber designations
-row-number n h = eqb-true _ n (first-passes (λ d. eqb (d .number) n) designations noRow h)
+row-number n h = eqb-true _ n (found-passes (λ d. eqb (d .number) n) designations noRow h)
 
 -- bytes that are not ESC N: they are the row i; or they begin a row, and are none
 abbrev isShift : List ℕ → Bool

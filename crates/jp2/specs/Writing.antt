@@ -4,8 +4,7 @@ use mathlib.Core.Bool.{Bool, true, false, cond, _&&_}
 use mathlib.Core.List.{List, [], _∷_, _++_}
 use lib.ListN.{length}
 use lib.Dec.{ltb, eqb}
-use Rattle.answer.specs.Answer.{numbered, limit, tooLong}
-use Rattle.answer.specs.Output.{Outcome, refusing, deliver}
+use Rattle.answer.specs.Output.{Outcome, written}
 use Rattle.jp2.specs.Table.{rowAt, sent, rowOfNumber}
 use Rattle.jp2.specs.Writable.{setOf, codeOf, pairSet, shiftSet, firstForeign}
 
@@ -44,6 +43,4 @@ writing cells = writeFrom cells (force 6 0 false)
 
 -- writing into an output: 16, then 10 with the cell's index, then 9
 unfoldable pub writeInto : List ℕ → List ℕ → Outcome
-writeInto cells out =
-    cond (ltb limit (length cells)) (refusing tooLong out)
-    (cond (ltb (firstForeign cells) (length cells)) (refusing (numbered 10 (firstForeign cells)) out) (deliver (writing cells) out))
+writeInto cells out = written cells (firstForeign cells) (writing cells) out

@@ -6,14 +6,15 @@ use mathlib.Core.List.{List, [], _∷_}
 use native.Mathlib.Omega.{arith}
 use lib.ListN.{length, getD}
 use lib.Dec.{ltb, eqb}
-use borrow.Author.Tests.{ltb-false, ne-eqb}
+use borrow.Author.Tests.{le-ltb, ltb-false, ne-eqb}
 use Rattle.answer.proofs.Below.{cond-case}
 use Rattle.reading.specs.Reading.{Does}
 use Rattle.reading.specs.Stepping.{Spot, Next, cell, onward}
 use Rattle.jp2.specs.Table.{begins, isList}
 use Rattle.jp2.specs.Rule as rule
-use Rattle.jp2.specs.Rule.{escape}
-use Rattle.jp2_read.specs.Cursor.{phaseOf, stateOf, inEscape, phaseFor, least, cursorOf, doesOf}
+use Rattle.jp2.specs.Rule.{plain, return, first, shifted, escape}
+use Rattle.jp2.proofs.Kept.{Short, SoundPhase, SoundState}
+use Rattle.jp2_read.specs.Cursor.{phaseOf, stateOf, inEscape, phaseFor, least, spotOf, cursorOf, doesOf}
 use Rattle.jp2_read.specs.declared.Phase.{Phase}
 use Rattle.jp2_read.specs.declared.Phase.the-variants.{Plain, Return, First, Shifted, Escape, Escape1, Escape2}
 use Rattle.jp2_read.specs.declared.State.{State}
@@ -57,12 +58,23 @@ inside-more (e ∷ x ∷ []) h = absurd (omega arith)
 inside-more (e ∷ x ∷ y ∷ more) h = refl
 
 -- ESC and at most two bytes more are written whole
-pub escape-back : (bytes : List ℕ) → 0 < length bytes → length bytes < 4 → getD bytes 0 0 ≡ 27 → phaseOf (inEscape bytes) ≡ escape bytes
-escape-back [] h k q = absurd (omega arith)
-escape-back (e ∷ []) h k q = rw q
-escape-back (e ∷ x ∷ []) h k q = rw q
-escape-back (e ∷ x ∷ y ∷ []) h k q = rw q
-escape-back (e ∷ x ∷ y ∷ z ∷ more) h k q = absurd (omega arith)
+pub escape-back : (bytes : List ℕ) → Short bytes → phaseOf (inEscape bytes) ≡ escape bytes
+escape-back [] h = absurd (omega arith)
+escape-back (e ∷ []) h = rw (h .starts)
+escape-back (e ∷ x ∷ []) h = rw (h .starts)
+escape-back (e ∷ x ∷ y ∷ []) h = rw (h .starts)
+escape-back (e ∷ x ∷ y ∷ z ∷ more) h = absurd (omega arith)
+
+sound-back : (p : rule.Phase) (g0 g2 : ℕ) → SoundPhase p g0 g2 → phaseOf (phaseFor p) ≡ p
+sound-back plain g0 g2 h = refl
+sound-back return g0 g2 h = refl
+sound-back (first a) g0 g2 h = refl
+sound-back shifted g0 g2 h = refl
+sound-back (escape bytes) g0 g2 h = escape-back bytes h
+
+-- a cursor means the spot that it was made for
+pub sound-cursor : (p : Spot rule.State) → SoundState (p .state) → p .handed ≤ p .at → spotOf (cursorOf p) ≡ p
+sound-cursor p h k = rw (le-ltb (p .at) (p .handed) k, sound-back (p .state .phase) (p .state .g0) (p .state .g2) (h .within))
 
 -- two bytes are a list of two by their tests
 both-tests : (s t : Bool) → (cond s (cond t true false) false && true) ≡ (s && t)

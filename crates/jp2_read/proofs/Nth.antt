@@ -3,26 +3,27 @@ use Prim.Native.Nat.{ℕ, suc, _<_, _≤_}
 use mathlib.Core.Path.{_≡_}
 use mathlib.Core.List.{List}
 use lib.ListN.{length, getD}
-use borrow.Author.Tests.{le-ltb}
 use Rattle.answer.specs.Answer.{limit, tooLong}
 use Rattle.reading.specs.Reading.{verdictOf, reading}
 use Rattle.reading.specs.Stepping.{cell, final}
 use Rattle.reading.proofs.Cursors as cursors
 use Rattle.reading.proofs.Cursors.{Cursors, cursorAfter}
 use Rattle.jp2.specs.Rule.{jp2}
+use Rattle.jp2.proofs.Sets.{Writable}
+use Rattle.jp2.proofs.Kept.{SoundState, jp2-kept}
 use Rattle.jp2_read.specs.Cursor.{spotOf, cursorOf, stepOf}
 use Rattle.jp2_read.specs.declared.Cursor.{Cursor}
-use Rattle.jp2_read.proofs.Shape.{Shaped, Any, jp2-shaped}
+use Rattle.jp2_read.proofs.Moves.{sound-cursor}
 
 abbrev pub jp2-cursors : Cursors jp2 Cursor
 jp2-cursors =
     record {
-      Sound = Shaped;
-      Good = Any;
-      kept = jp2-shaped;
+      Sound = SoundState;
+      Good = Writable;
+      kept = jp2-kept;
       spot = spotOf;
       cursor = cursorOf;
-      back = λ p h. rw (le-ltb _ _ (h .1), h .0);
+      back = λ p h. sound-cursor p (h .0) (h .1);
     }
 
 module _ (text : List ℕ) where

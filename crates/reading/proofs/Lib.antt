@@ -4,3 +4,4 @@ pub mod Steps
 pub mod Cursors
 pub mod Walk
 pub mod Matches
+pub mod ReadsBack

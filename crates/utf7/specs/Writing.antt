@@ -4,8 +4,7 @@ use mathlib.Core.Bool.{Bool, cond}
 use mathlib.Core.List.{List, [], _∷_, _++_, map}
 use lib.ListN.{length}
 use lib.Dec.{ltb, eqb}
-use Rattle.answer.specs.Answer.{numbered, limit, tooLong}
-use Rattle.answer.specs.Output.{Outcome, refusing, deliver}
+use Rattle.answer.specs.Output.{Outcome, written}
 use Rattle.bits.specs.Bits.{bitsOf, full, filler}
 use Rattle.base64.specs.Letters.{letterOf}
 use Rattle.utf7.specs.Sets.{own}
@@ -60,6 +59,4 @@ firstOver (u ∷ us) = cond (ltb u (2 ^ 16)) (suc (firstOver us)) 0
 
 -- writing into an output: 16, then 10 with the cell's index, then 9
 unfoldable pub writeInto : Style → List ℕ → List ℕ → Outcome
-writeInto style us out =
-    cond (ltb limit (length us)) (refusing tooLong out)
-    (cond (ltb (firstOver us) (length us)) (refusing (numbered 10 (firstOver us)) out) (deliver (writing style us) out))
+writeInto style us out = written us (firstOver us) (writing style us) out

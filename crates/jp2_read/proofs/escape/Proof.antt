@@ -8,7 +8,8 @@ use borrow.Author.Tests.{eq-eqb, ne-eqb, lt-ltb, le-ltb}
 use Rattle.reading.specs.Reading.{go, bad}
 use Rattle.jp2.specs.Rule as rule
 use Rattle.jp2.specs.Rule.{escapeDoes}
-use Rattle.jp2_read.proofs.Shape.{begun-shaped}
+use Rattle.jp2.proofs.Kept.{begun}
+use Rattle.jp2_read.proofs.Moves.{escape-back}
 use Rattle.jp2_read.proofs.escape.Statement.{statement}
 use Rattle.jp2_read.proofs.escape.Tie as tie
 
@@ -59,7 +60,8 @@ returns-4 c =
     let r = n .before .before in
     let s = r .before .before .before .before in
     rw (other-bytes n, lt-ltb _ _ (c .before .if4 .taken), c .inside .ensures)
-    (ap go (begun-shaped _ _ (now (s .args .bytes)) (s .pre) (omega (arith, n .row-begun-by .ensures)) (omega (arith, r .row-of-escape .ensures))))
+    (ap (λ (p : rule.Phase). go (rule.state (s .args .g0) (s .args .g2) p))
+    (escape-back _ (begun (now (s .args .bytes)) (s .pre) (omega (arith, n .row-begun-by .ensures)) (omega (arith, r .row-of-escape .ensures)))))
 
 returns-5 : tie.Need-returns-5
 returns-5 c = rw (other-bytes (c .before), le-ltb _ _ (c .if4 .left))

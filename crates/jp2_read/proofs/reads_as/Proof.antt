@@ -5,9 +5,9 @@ use lib.ListN.{length}
 use borrow.Author.Needs.{needs}
 use Rattle.reading.proofs.Matches.{Matching, matching-start, matching-give, matching-other, matching-past, matching-go, matching-bad, matching-refused, matching-accepted}
 use Rattle.jp2.specs.Rule.{jp2}
+use Rattle.jp2.proofs.Kept.{ends-sound}
 use Rattle.jp2_read.specs.Cursor.{stateOf}
 use Rattle.jp2_read.proofs.Moves.{moved}
-use Rattle.jp2_read.proofs.Shape.{ends-sound}
 use Rattle.jp2_read.proofs.reads_as.Statement.{statement}
 use Rattle.jp2_read.proofs.reads_as.Tie as tie
 
