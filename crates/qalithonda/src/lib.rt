@@ -1,4 +1,6 @@
 // The C interface, for hosts in other languages: each function hands a call on and gives its answer in numbers.
+pub mod pages;
+
 use answer::Answer;
 use utf7::Style;
 ghost use mathlib.Core.Path.{_≡_};

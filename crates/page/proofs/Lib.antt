@@ -1,0 +1,5 @@
+pub mod Splices
+pub mod Turns
+pub mod Replacings
+pub mod Savings
+pub mod Openings

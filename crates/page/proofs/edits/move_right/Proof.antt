@@ -1,0 +1,78 @@
+use native.Mathlib.Omega.{arith}
+use borrow.Author.Needs.{needs}
+use Prim.Native.Nat.{_≤_, _+_, _-_}
+use mathlib.Core.Path.{_≡_, refl}
+use lib.ListN.{length, drop, length-set}
+use lib.Seq.{paste}
+use Rattle.page.proofs.Splices.{right-start, right-turn, right-end}
+use Rattle.page.proofs.edits.move_right.Statement.{statement}
+use Rattle.page.proofs.edits.move_right.Tie as tie
+
+abbrev Inv-loop : tie.InvT-loop
+Inv-loop s₀ from to n k₀ s k = (k ≤ n) × (length s ≡ length s₀) × (s ≡ paste s₀ (to + k) (drop (from + k) s₀) (n - k))
+
+abbrev μ-loop : tie.MeasureT-loop
+μ-loop s₀ from to n k₀ s k = k
+
+loop-holds : tie.Need-loop-holds Inv-loop μ-loop
+loop-holds c =
+    let a = c .args in
+    (omega arith, refl, right-start (a .s .now) (a .from) (a .to) (a .n))
+
+sub-k : tie.Need-sub-k Inv-loop μ-loop
+sub-k c = search needs
+
+add-s : tie.Need-add-s Inv-loop μ-loop
+add-s c = search needs
+
+mul-s : tie.Need-mul-s Inv-loop μ-loop
+mul-s c = search needs
+
+slice-read-s : tie.Need-slice-read-s Inv-loop μ-loop
+slice-read-s c = search needs
+
+add-s-2 : tie.Need-add-s-2 Inv-loop μ-loop
+add-s-2 c = search needs
+
+mul-s-2 : tie.Need-mul-s-2 Inv-loop μ-loop
+mul-s-2 c = search needs
+
+slice-write-s : tie.Need-slice-write-s Inv-loop μ-loop
+slice-write-s c = search needs
+
+loop-less : tie.Need-loop-less Inv-loop μ-loop
+loop-less c = search needs
+
+loop-again : tie.Need-loop-again Inv-loop μ-loop
+loop-again c =
+    let a = c .before .before .before .args in
+    let l = c .before .before .loop in
+    (omega arith, simp length-set (omega arith), right-turn (a .s .now) (a .from) (a .to) (a .n) (l .s) (l .k) (l .inv .2) (omega arith) (omega arith) (omega arith) (omega arith))
+
+same-length : tie.Need-same-length Inv-loop μ-loop
+same-length c = c .before .loop .inv .1
+
+returns : tie.Need-returns Inv-loop μ-loop
+returns c =
+    let a = c .before .before .args in
+    let l = c .before .loop in
+    right-end (a .s .now) (a .from) (a .to) (a .n) (l .s) (l .k) (l .inv .2) (omega arith)
+
+pub move-right-spec : {M : Type 1} → statement M
+move-right-spec =
+    tie.close
+    (tie.spec
+    Inv-loop
+    μ-loop
+    loop-holds
+    sub-k
+    add-s
+    mul-s
+    slice-read-s
+    add-s-2
+    mul-s-2
+    slice-write-s
+    loop-less
+    loop-again
+    same-length
+    returns)

@@ -1,0 +1,3 @@
+pub mod Edits
+pub mod Steps
+pub mod Outcomes

@@ -1,0 +1,15 @@
+use borrow.Author.Needs.{needs}
+use Rattle.qalithonda.proofs.pages.edited.Statement.{statement}
+use Rattle.qalithonda.proofs.pages.edited.Tie as tie
+
+in-numbers-requires : tie.Need-in-numbers-requires
+in-numbers-requires c κs = search needs
+
+kind-number-requires : tie.Need-kind-number-requires
+kind-number-requires c κs = search needs
+
+returns : tie.Need-returns
+returns c = (c .before .before .in-numbers .ensures, rw (c .kind-number .ensures))
+
+pub edited-spec : {M : Type 1} → statement M
+edited-spec = tie.close (tie.spec in-numbers-requires kind-number-requires returns)

@@ -1,0 +1,12 @@
+use borrow.Author.Needs.{needs}
+use Rattle.qalithonda.proofs.pages.page_in.Statement.{statement}
+use Rattle.qalithonda.proofs.pages.page_in.Tie as tie
+
+kind-of-requires : tie.Need-kind-of-requires
+kind-of-requires c κs = search needs
+
+returns : tie.Need-returns
+returns c = rw (c .kind-of .ensures)
+
+pub page-in-spec : {M : Type 1} → statement M
+page-in-spec = tie.close (tie.spec kind-of-requires returns)

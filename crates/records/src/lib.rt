@@ -1,0 +1,144 @@
+// Whether a page is sound: what every call on a page asks first.
+use answer::Answer;
+use answer::Refusal;
+use ledger::Page;
+ghost use mathlib.Core.Path.{_≡_};
+ghost use mathlib.Core.Bool.{_&&_};
+ghost use Prim.Native.Nat.{_≤_, _<_, _^_};
+ghost use lib.Dec.{leb};
+ghost use lib.ListN.{length, drop};
+ghost use lib.Seq.{slice};
+ghost use Rattle.answer.specs.Answer.{limit};
+ghost use Rattle.ledger.specs.Words.{zeros};
+ghost use Rattle.ledger.specs.Page.{stateOf, framed, records};
+ghost use Rattle.records.specs.Walking.{walkIn, unsound, judgedAs, judgeOf};
+
+// Where records one after another lead: the length reached, and the word where the last of them begins. Or they do not fit.
+enum Walk {
+    Broken,
+    Led(usize, usize),
+}
+
+// What is found of a page and its buffers: the refusal 16 or 14, or the word where the last standing record begins.
+pub enum Judged {
+    Unfit(Answer),
+    Sound(usize),
+}
+
+// A word as a number.
+pub fn wide(x: u32) -> usize
+    ensures { λ r. ⌜ (r ≡ x) × (r < 2 ^ 32) ⌝ }
+{
+    x as usize
+}
+
+// Whether every element from a place on is 0.
+fn zero_from(s: &[u32], at: usize) -> bool
+    ensures { λ r. ⌜ r ≡ zeros (drop at (now (s .entry))) ⌝ }
+{
+    let mut i = at;
+    while i < s.len() {
+        if s[i] != 0 {
+            return false;
+        }
+        i += 1;
+    }
+    true
+}
+
+// The records from one word to another, from a length on. No length may exceed the room.
+fn walk_records(history: &[u32], from: usize, to: usize, start: usize, room: usize) -> Walk
+    requires { ⌜ (from ≤ to) × (to ≤ length (now history)) × (length (now history) ≤ limit) × (start ≤ room) × (room ≤ limit) ⌝ }
+    ensures { λ r. ⌜ r ≡ walkIn room from start from (slice from to (now (history .entry))) ⌝ }
+{
+    let mut at = from;
+    let mut len = start;
+    let mut last = from;
+    while at < to {
+        if to - at < 3 {
+            return Walk::Broken;
+        }
+        let place = wide(history[at]);
+        let removed = wide(history[at + 1]);
+        let added = wide(history[at + 2]);
+        let size = 3 + removed + added;
+        if to - at < size {
+            return Walk::Broken;
+        }
+        if len < place + removed {
+            return Walk::Broken;
+        }
+        let after = len - removed + added;
+        if room < after {
+            return Walk::Broken;
+        }
+        last = at;
+        at += size;
+        len = after;
+    }
+    Walk::Led(len, last)
+}
+
+// Whether the lengths fit, everything past the ends is 0, and the words done are of those used.
+fn within(page: Page, text: &[u32], history: &[u32]) -> bool
+    ensures { λ r. ⌜ r ≡ (framed (stateOf page (now (text .entry)) (now (history .entry))) && leb (page .done) (page .used)) ⌝ }
+{
+    if text.len() < page.opening {
+        return false;
+    }
+    if text.len() < page.length {
+        return false;
+    }
+    if history.len() < page.used {
+        return false;
+    }
+    if !zero_from(text, page.length) {
+        return false;
+    }
+    if !zero_from(history, page.used) {
+        return false;
+    }
+    page.done <= page.used
+}
+
+fn not_sound() -> Judged
+    ensures { λ r. ⌜ r ≡ unsound ⌝ }
+{
+    Judged::Unfit(Answer::Refused(Refusal::Unsound, 0))
+}
+
+// The records that stand lead to the page's length, and those undone follow from there.
+fn survey(page: Page, text: &[u32], history: &[u32]) -> Judged
+    requires { ⌜ (length (now text) ≤ limit) × (length (now history) ≤ limit) ⌝ }
+    ensures { λ r. ⌜ r ≡ judgedAs (page .done) (records (stateOf page (now (text .entry)) (now (history .entry)))) ⌝ }
+{
+    if !within(page, text, history) {
+        return not_sound();
+    }
+    let room = text.len();
+    let standing = walk_records(history, 0, page.done, page.opening, room);
+    let Walk::Led(reached, last) = standing else {
+        return not_sound();
+    };
+    if reached != page.length {
+        return not_sound();
+    }
+    let undone = walk_records(history, page.done, page.used, page.length, room);
+    let Walk::Led(_, _) = undone else {
+        return not_sound();
+    };
+    Judged::Sound(last)
+}
+
+// 16, then 14, then where the last standing record begins.
+pub fn judge(page: Page, text: &[u32], history: &[u32]) -> Judged
+    ensures { λ r. ⌜ r ≡ judgeOf (stateOf page (now (text .entry)) (now (history .entry))) ⌝ }
+{
+    if answer::over_limit(text.len()) {
+        return Judged::Unfit(answer::too_long());
+    }
+    if answer::over_limit(history.len()) {
+        return Judged::Unfit(answer::too_long());
+    }
+    survey(page, text, history)
+}
