@@ -2,7 +2,7 @@
 
 use crate::examples::{self, Group, Listing, Reading, Writing};
 use crate::second::utf7::Style;
-use crate::second::{jp2, utf7, Elements};
+use crate::second::{jp2, utf7, Elements, Kind};
 use crate::texts::{self, Source};
 
 pub struct Format {
@@ -29,6 +29,14 @@ pub struct Writer {
     /// The bytes that suffice for so many cells.
     pub enough: fn(usize) -> usize,
     pub writings: Vec<Group<Writing>>,
+}
+
+/// The format of the texts of a kind of page.
+pub fn of_kind(kind: Kind) -> Format {
+    match kind {
+        Kind::Utf7Header | Kind::Utf7Body => utf7(),
+        Kind::Jp2 => jp2(),
+    }
 }
 
 pub fn utf7() -> Format {

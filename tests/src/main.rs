@@ -3,9 +3,11 @@
 //! Run it from the root of the repository, after the listers and libqalithonda.a are built. QALITHONDA_SEED sets
 //! another seed. The last line is `N passed, M failed`.
 
+mod calls;
 mod checks;
 mod examples;
 mod formats;
+mod lent;
 mod library;
 mod lister;
 mod report;
@@ -29,5 +31,6 @@ fn main() -> ExitCode {
     let mut report = report::Report::default();
     checks::utf7(&mut report, seed);
     checks::jp2(&mut report, seed);
+    checks::page(&mut report, seed);
     report.finish()
 }

@@ -1,6 +1,7 @@
 //! Tries many inputs, makes one that fails smaller, and writes inputs and differences so that they can be read.
 
 use std::fmt::{Display, UpperHex};
+use std::ops::Range;
 
 /// How often a failing input is tried with a part left out.
 const ATTEMPTS: usize = 500;
@@ -19,17 +20,47 @@ pub fn try_examples<E: Display>(
     Ok(examples.len())
 }
 
+/// An input that parts can be left out of.
+pub trait Input: Sized {
+    /// How many parts it has.
+    fn length(&self) -> usize;
+
+    /// The input without these parts.
+    fn without(&self, parts: Range<usize>) -> Self;
+
+    /// The input, so that it can be read.
+    fn show(&self) -> String;
+}
+
+impl<T: Copy + UpperHex> Input for Vec<T> {
+    fn length(&self) -> usize {
+        self.len()
+    }
+
+    fn without(&self, parts: Range<usize>) -> Vec<T> {
+        without(self, parts)
+    }
+
+    fn show(&self) -> String {
+        show(self)
+    }
+}
+
+/// A list without these elements.
+pub fn without<T: Clone>(list: &[T], parts: Range<usize>) -> Vec<T> {
+    [&list[..parts.start], &list[parts.end..]].concat()
+}
+
 /// Compares on every input, and describes the first that fails; the count is that of the inputs.
-pub fn try_all<T, I>(inputs: I, mut compare: impl FnMut(&[T]) -> Result<(), String>) -> Result<usize, String>
-where
-    T: Copy + UpperHex,
-    I: IntoIterator<Item = Vec<T>>,
-{
+pub fn try_all<I: Input>(
+    inputs: impl IntoIterator<Item = I>,
+    mut compare: impl FnMut(&I) -> Result<(), String>,
+) -> Result<usize, String> {
     let mut count = 0;
     for input in inputs {
         if let Err(difference) = compare(&input) {
             let (small, difference) = shrink(input, difference, compare);
-            return Err(format!("on {}: {difference}", show(&small)));
+            return Err(format!("on {}: {difference}", small.show()));
         }
         count += 1;
     }
@@ -37,21 +68,17 @@ where
 }
 
 /// A part of a failing input that fails too, with its difference: parts are left out, large ones first, while it fails.
-fn shrink<T: Copy>(
-    input: Vec<T>,
-    difference: String,
-    mut compare: impl FnMut(&[T]) -> Result<(), String>,
-) -> (Vec<T>, String) {
+fn shrink<I: Input>(input: I, difference: String, mut compare: impl FnMut(&I) -> Result<(), String>) -> (I, String) {
     let mut found = (input, difference);
     let mut attempts = 0;
-    let mut size = found.0.len();
+    let mut size = found.0.length();
     while size > 0 {
         let mut start = 0;
-        while start < found.0.len() && attempts < ATTEMPTS {
-            let end = (start + size).min(found.0.len());
-            let part = [&found.0[..start], &found.0[end..]].concat();
-            match compare(&part) {
-                Err(difference) => found = (part, difference),
+        while start < found.0.length() && attempts < ATTEMPTS {
+            let end = (start + size).min(found.0.length());
+            let smaller = found.0.without(start..end);
+            match compare(&smaller) {
+                Err(difference) => found = (smaller, difference),
                 Ok(()) => start += size,
             }
             attempts += 1;
@@ -66,6 +93,15 @@ pub fn show<T: UpperHex>(list: &[T]) -> String {
     let digits: Vec<String> = list.iter().take(SHOWN).map(hex).collect();
     let rest = if list.len() > SHOWN { " .." } else { "" };
     format!("[{}{rest}] (length {})", digits.join(" "), list.len())
+}
+
+/// How many bytes of what is printed or lent are written out.
+pub const QUOTED: usize = 120;
+
+/// The first bytes of what is printed or lent, on one line.
+pub fn quote(bytes: &[u8]) -> String {
+    let rest = if bytes.len() > QUOTED { " .." } else { "" };
+    format!("\"{}\"{rest}", bytes[..bytes.len().min(QUOTED)].escape_ascii())
 }
 
 fn hex<T: UpperHex>(element: &T) -> String {
@@ -95,12 +131,13 @@ mod tests {
     #[test]
     fn a_failing_input_is_made_small() {
         let inputs = [vec![1, 2, 3], vec![4, 5, 6, 7, 8, 9], vec![7]];
-        assert_eq!(try_all(inputs, without_seven), Err("on [07] (length 1): a seven".to_string()));
+        let found = try_all(inputs, |input| without_seven(input));
+        assert_eq!(found, Err("on [07] (length 1): a seven".to_string()));
     }
 
     #[test]
     fn inputs_are_counted() {
-        assert_eq!(try_all([vec![1], vec![]], without_seven), Ok(2));
+        assert_eq!(try_all([vec![1], vec![]], |input| without_seven(input)), Ok(2));
     }
 
     #[test]

@@ -4,31 +4,11 @@ use std::collections::BTreeSet;
 use std::fmt::UpperHex;
 
 use super::subject::Subject;
+use crate::lent::{filled, Element, Lent};
 use crate::library::Function;
 use crate::report::Statuses;
 use crate::second::{outcome, Answer, Elements, Outcome};
 use crate::trial::same;
-
-/// Elements before and after the lent output, which no call may touch.
-const MARGIN: usize = 16;
-
-/// An element that can be lent as output.
-pub trait Element: Copy + PartialEq + UpperHex {
-    /// What stands in the output before a call, at this index: nothing that a call writes there.
-    fn filler(index: usize) -> Self;
-}
-
-impl Element for u8 {
-    fn filler(index: usize) -> u8 {
-        (128 + index % 128) as u8
-    }
-}
-
-impl Element for u32 {
-    fn filler(index: usize) -> u32 {
-        0xDEAD_0000 + (index % 65_536) as u32
-    }
-}
 
 /// A reader or writer of the library, and the second program's.
 pub struct Call<'a, I, O> {
@@ -65,7 +45,7 @@ impl<I: Copy + UpperHex, O: Element> Subject for Call<'_, I, O> {
 }
 
 /// Lengths of output to try: none, too short, exact and longer.
-fn rooms(needed: usize) -> BTreeSet<usize> {
+pub fn rooms(needed: usize) -> BTreeSet<usize> {
     BTreeSet::from([0, 1, needed.saturating_sub(1), needed, needed + 1, needed + 9])
 }
 
@@ -76,21 +56,16 @@ pub fn lend<T: Element>(
     call: impl FnOnce(&mut [T]) -> Answer,
     expected: impl FnOnce(&[T]) -> Outcome<T>,
 ) -> Result<Outcome<T>, String> {
-    let before: Vec<T> = (0..room + 2 * MARGIN).map(T::filler).collect();
-    let lent = MARGIN..MARGIN + room;
-    let mut after = before.clone();
-    let answer = call(&mut after[lent.clone()]);
+    let before = filled(room);
+    let mut lent = Lent::new(&before);
+    let answer = call(lent.contents());
 
-    let expected = expected(&before[lent.clone()]);
+    let expected = expected(&before);
     if answer != expected.answer {
-        return Err(format!("with room for {room} the answer is {} and not {}", brief(answer), brief(expected.answer)));
+        return Err(format!("with room for {room} the answer is {answer} and not {}", expected.answer));
     }
-    let whole = [&before[..lent.start], &expected.output, &before[lent.end..]].concat();
-    same(&whole, &after, -(MARGIN as isize))
-        .map_err(|difference| format!("with room for {room} the answer is {}, and then {difference}", brief(answer)))?;
-    Ok(Outcome { answer, output: after[lent].to_vec() })
-}
-
-fn brief(answer: Answer) -> String {
-    format!("{} at {}", answer.number, answer.place)
+    let returned = lent.take_back().and_then(|output| same(&expected.output, &output, 0).map(|()| output));
+    let output =
+        returned.map_err(|difference| format!("with room for {room} the answer is {answer}, and then {difference}"))?;
+    Ok(Outcome { answer, output })
 }

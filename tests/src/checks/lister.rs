@@ -7,10 +7,7 @@ use crate::report::{Report, Statuses};
 use crate::rng::Rng;
 use crate::second::{listed, print_listing, Elements, LIMIT, LISTER_LIMIT};
 use crate::texts::{self, Source};
-use crate::trial::try_examples;
-
-/// How many bytes of a listing are written out where it is wrong.
-const SHOWN: usize = 120;
+use crate::trial::{quote, try_examples, QUOTED};
 
 /// A lister, and the second program's reader of its format.
 struct Listing {
@@ -80,7 +77,7 @@ fn compare_printed(lister: &Lister, text: &[u8], expected: &str, statuses: &mut 
         return Ok(());
     }
     let same = printed.iter().zip(expected).take_while(|(left, right)| left == right).count();
-    let start = same.saturating_sub(SHOWN / 2);
+    let start = same.saturating_sub(QUOTED / 2);
     Err(format!("from byte {start} on it printed {} and not {}", quote(&printed[start..]), quote(&expected[start..])))
 }
 
@@ -88,10 +85,4 @@ fn compare_printed(lister: &Lister, text: &[u8], expected: &str, statuses: &mut 
 fn printed_status(printed: &[u8]) -> Option<u32> {
     let text = std::str::from_utf8(printed).ok()?;
     text.lines().next()?.strip_prefix("status=")?.parse().ok()
-}
-
-/// The start of what was printed, on one line.
-fn quote(printed: &[u8]) -> String {
-    let rest = if printed.len() > SHOWN { " .." } else { "" };
-    format!("\"{}\"{rest}", printed[..printed.len().min(SHOWN)].escape_ascii())
 }

@@ -2,6 +2,7 @@
 
 mod call;
 mod lister;
+mod page;
 mod reading;
 mod subject;
 mod tally;
@@ -24,6 +25,11 @@ pub fn jp2(report: &mut Report, seed: u64) {
     let format = formats::jp2();
     readers_and_writers(report, &format, &library::JP2, seed);
     tally::run(report, format.source, seed);
+}
+
+/// Every check of the page, in all its kinds.
+pub fn page(report: &mut Report, seed: u64) {
+    page::run(report, seed);
 }
 
 fn readers_and_writers(report: &mut Report, format: &Format, library: &Functions, seed: u64) {

@@ -1,6 +1,7 @@
 //! Texts and cells for which the papers say what is given, so that no program is needed to know it.
 
 pub mod jp2;
+pub mod page;
 pub mod utf7;
 
 use std::fmt::{self, Display, Formatter, UpperHex};

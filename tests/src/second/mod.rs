@@ -1,10 +1,20 @@
-//! The second program: reading, writing and counting as document 01 states them. It was written from that paper, as
-//! docs/DECISIONS.md reads it, without a look at the proved code, and by other means: texts are cut into parts by
-//! looking ahead, all their faults are gathered and the first is chosen, and bits are text made of '0' and '1'.
-//! Quotations in comments are sentences of document 01.
+//! The second program: reading, writing, counting, the page and its ledger as document 01 states them. It was written
+//! from that paper, as docs/DECISIONS.md reads it, without a look at the proved code, and by other means: texts are cut
+//! into parts by looking ahead, all their faults are gathered and the first is chosen, bits are text made of '0' and
+//! '1', and a call on a page makes new lists of all that it leaves. Quotations in comments are sentences of document
+//! 01.
 
+mod call;
 pub mod jp2;
+mod kind;
+pub mod ledger;
+pub mod page;
 pub mod utf7;
+
+use std::fmt::{self, Display, Formatter};
+
+pub use call::Call;
+pub use kind::Kind;
 
 /// "over 65,536": the longest text or list that a function takes.
 pub const LIMIT: usize = 65_536;
@@ -17,6 +27,12 @@ pub const LISTER_LIMIT: usize = 16_384;
 pub struct Answer {
     pub number: u32,
     pub place: usize,
+}
+
+impl Display for Answer {
+    fn fmt(&self, f: &mut Formatter) -> fmt::Result {
+        write!(f, "{} at {}", self.number, self.place)
+    }
 }
 
 /// The elements that a reader or writer gives, or its refusal, where there is room enough.

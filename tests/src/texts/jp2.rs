@@ -8,6 +8,7 @@ pub static SOURCE: Source = Source {
     telling_bytes: b"\x1B\x1B\x1B\x1B(($$..NNBBAAJ@CDFIa!~ \r\r\n\n\x00\x0E\x0F\x1F\x7F\x80\xA4\xFF",
     telling_parts: PARTS,
     opener: b'\x1B',
+    needless: b"\x1B(B",
     whole,
     frames: &[
         Frame(b"", b"a", b""),

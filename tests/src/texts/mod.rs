@@ -4,7 +4,7 @@ pub mod jp2;
 pub mod utf7;
 
 use crate::rng::Rng;
-use crate::second::LISTER_LIMIT;
+use crate::second::{Kind, LISTER_LIMIT};
 
 /// The longest seeded text: one byte more than a lister takes.
 const LONGEST: usize = LISTER_LIMIT + 1;
@@ -17,6 +17,8 @@ pub struct Source {
     pub telling_parts: &'static [&'static [u8]],
     /// The byte that opens what is more than one byte.
     pub opener: u8,
+    /// Bytes that change nothing where they stand before a text.
+    pub needless: &'static [u8],
     /// Makes a text that is accepted. Its length is the one asked for, or a little less.
     pub whole: fn(&mut Rng, usize) -> Vec<u8>,
     /// Texts of any length: with no fault, and with a fault of each kind, early or late.
@@ -44,6 +46,14 @@ pub struct Alphabet {
     pub longest: u32,
 }
 
+/// How the texts and lists of a kind of page are made.
+pub fn of_kind(kind: Kind) -> &'static Source {
+    match kind {
+        Kind::Utf7Header | Kind::Utf7Body => &utf7::SOURCE,
+        Kind::Jp2 => &jp2::SOURCE,
+    }
+}
+
 /// Every text of no byte, then every one of one byte, then every one of two.
 pub fn up_to_two_bytes() -> impl Iterator<Item = Vec<u8>> {
     let one = (0..=255).map(|byte| vec![byte]);
@@ -66,11 +76,14 @@ impl Source {
     /// So many texts: whole, damaged, and of anything that the rules tell apart.
     pub fn texts(&self, seed: u64, purpose: &str, count: usize) -> impl Iterator<Item = Vec<u8>> + '_ {
         let mut rng = Rng::new(seed, purpose);
-        (0..count).map(move |_| self.text(&mut rng))
+        (0..count).map(move |_| {
+            let length = text_length(&mut rng);
+            self.text(&mut rng, length)
+        })
     }
 
-    fn text(&self, rng: &mut Rng) -> Vec<u8> {
-        let length = text_length(rng);
+    /// A text of this length, or near it.
+    pub fn text(&self, rng: &mut Rng, length: usize) -> Vec<u8> {
         match rng.below(9) {
             0..=2 => (self.whole)(rng, length),
             3..=5 => self.damaged(rng, length),
@@ -91,7 +104,7 @@ impl Source {
     }
 
     /// Changes a byte of a text, puts something in, takes something out, or cuts the text short.
-    fn damage(&self, rng: &mut Rng, text: &mut Vec<u8>) {
+    pub fn damage(&self, rng: &mut Rng, text: &mut Vec<u8>) {
         let place = self.damage_place(rng, text);
         if place == text.len() {
             text.push(rng.pick(self.telling_bytes));
@@ -194,6 +207,16 @@ mod tests {
                 let text = (format.source.whole)(&mut rng, length);
                 assert!(text.len() <= length);
                 assert!((format.read)(&text).is_ok(), "{}", text.escape_ascii());
+            }
+        }
+    }
+
+    #[test]
+    fn needless_bytes_change_nothing() {
+        for format in [formats::utf7(), formats::jp2()] {
+            for text in format.source.texts(1, "texts", 2_000).filter(|text| text.len() < LISTER_LIMIT) {
+                let longer = [format.source.needless, &text].concat();
+                assert_eq!((format.read)(&longer).ok(), (format.read)(&text).ok(), "{}", text.escape_ascii());
             }
         }
     }

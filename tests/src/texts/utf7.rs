@@ -8,6 +8,7 @@ pub static SOURCE: Source = Source {
     telling_bytes: b"++--//AABQgwZaz09'.:?!\"=@`{}~\\ \t\r\n\x00\x1B\x7F\x80\xA3\xFF",
     telling_parts: &[b"+", b"-", b"+-", b"+A", b"+AKM", b"+AKM-", b"+AKN-", b"AAA", b".", b"!", b"\r\n"],
     opener: b'+',
+    needless: b"+A-",
     whole,
     frames: &[
         Frame(b"", b"a", b""),

@@ -1,5 +1,7 @@
 //! The C interface of libqalithonda.a, in safe functions on slices.
 
+pub mod page;
+
 use crate::second::Answer;
 
 #[repr(C)]

@@ -1,0 +1,81 @@
+//! Lists of calls with as much as can be lent, and with more.
+
+use super::{blank, calls, List};
+use crate::second::page::{Page, State};
+use crate::second::{Call, Kind, LIMIT};
+
+/// The byte that the texts are made of, and the cell that it is read as.
+const BYTE: u8 = b'a';
+
+fn cell(kind: Kind) -> u32 {
+    kind.read(&[BYTE]).expect("a whole text")[0]
+}
+
+pub fn lists(kind: Kind) -> impl Iterator<Item = List> {
+    let sound = Page::opened(kind, 0);
+    let pages = [sound, Page { done: 1, ..sound }, Page { kind: 3, ..sound }];
+    let lengths = [(LIMIT + 1, 0), (0, LIMIT + 1), (LIMIT, LIMIT)];
+    let on_zeros = move |page| lengths.map(|(cells, words)| on_zeros(kind, page, cells, words));
+    [full(kind), many_records(kind)].into_iter().chain(refused(kind)).chain(pages.into_iter().flat_map(on_zeros))
+}
+
+/// Opens with one thing too long, and with a fault beside it.
+fn refused(kind: Kind) -> impl Iterator<Item = List> {
+    let open = move |cells, words, arrived| calls(blank(cells, words), [Call::Open { kind, arrived }]);
+    [
+        open(LIMIT + 1, 0, vec![BYTE]),
+        open(0, LIMIT + 1, vec![0x80]),
+        open(0, 0, vec![0x80; LIMIT + 1]),
+        open(LIMIT, LIMIT, vec![BYTE; LIMIT + 1]),
+        open(LIMIT - 1, LIMIT, vec![BYTE; LIMIT]),
+    ]
+    .into_iter()
+}
+
+/// A page as long as can be, with calls that it just takes and calls that it just does not.
+pub fn full(kind: Kind) -> List {
+    let arrived = vec![BYTE; LIMIT];
+    let replace = |place, count, added| Call::Replace { place, count, cells: vec![cell(kind); added] };
+    let save = |length, room| Call::Save { arrived: vec![BYTE; length], room };
+    calls(
+        blank(LIMIT, LIMIT),
+        [
+            Call::Open { kind, arrived },
+            save(LIMIT, LIMIT + 4_000),
+            save(LIMIT + 1, LIMIT + 1),
+            replace(0, 0, 1),
+            replace(0, LIMIT, 0),
+            replace(0, LIMIT - 3, 0),
+            replace(0, LIMIT, LIMIT),
+            replace(0, 0, LIMIT + 1),
+            save(LIMIT + 1, LIMIT + 1),
+            save(LIMIT, 3),
+            Call::Undo,
+            replace(0, 0, LIMIT),
+            replace(LIMIT, 0, 0),
+            Call::Redo,
+            save(0, LIMIT + 1),
+            Call::Undo,
+            save(LIMIT, LIMIT),
+        ],
+    )
+}
+
+/// As many steps as can be recorded, each of which removes nothing and adds nothing.
+fn many_records(kind: Kind) -> List {
+    let used = LIMIT / 3 * 3;
+    let page = Page { used, done: used, ..Page::opened(kind, 0) };
+    let replace = Call::Replace { place: 0, count: 0, cells: vec![cell(kind)] };
+    let undone = [Call::Undo, Call::Undo, Call::Redo, Call::Undo];
+    calls(State { page, text: vec![0; 5], history: vec![0; LIMIT] }, undone.into_iter().chain([replace, Call::Redo]))
+}
+
+/// Calls on a page with buffers of zeros, also with lists that are too long, and that have faults.
+fn on_zeros(kind: Kind, page: Page, cells: usize, words: usize) -> List {
+    let replace = |length| Call::Replace { place: 1, count: 0, cells: vec![u32::MAX; length] };
+    let save = |length| Call::Save { arrived: vec![BYTE; length], room: 2 };
+    let moves = [Call::Undo, Call::Redo, replace(1), replace(LIMIT), replace(LIMIT + 1), save(1), save(LIMIT + 1)];
+    let append = Call::Replace { place: 0, count: 0, cells: vec![cell(kind)] };
+    let start = State { page, text: vec![0; cells], history: vec![0; words] };
+    calls(start, moves.into_iter().chain([append, save(0), save(LIMIT + 1)]))
+}

@@ -1,0 +1,245 @@
+//! Demand 3 of document 01, by the ledger: what holds after each call of a list, and after the list.
+
+use crate::calls::{List, Move};
+use crate::second::ledger::{Ledger, Step};
+use crate::second::page::{self, Left, Record, State};
+use crate::second::{Call, Kind};
+use crate::trial::show;
+
+/// Makes a call on a program.
+type Make = fn(&State, &Call) -> Result<Left, String>;
+
+/// What was opened: the bytes that arrived, and the ledger of the calls since.
+struct Opened {
+    arrived: Vec<u8>,
+    ledger: Ledger,
+}
+
+/// Makes the calls of a list on a program, and asks after each whether what demand 3 says holds of it.
+pub fn follow(list: &List, make: Make) -> Result<(), String> {
+    let mut state = list.start.clone();
+    let mut opened = None;
+    for (number, item) in (1..).zip(&list.moves) {
+        match item {
+            // The ledger hears nothing of it: demand 3 does not speak of what follows.
+            Move::Change(change) => {
+                change.make(&mut state);
+                opened = None;
+            }
+            Move::Call(call) => {
+                let after = |difference| format!("after {number}, {difference}");
+                state = follow_call(&mut opened, &state, call, make).map_err(after)?;
+            }
+        }
+    }
+    let at_the_bottom = |difference| format!("after the list, undone until it is refused, {difference}");
+    opened.map_or(Ok(()), |opened| opened.holds_at_the_bottom(state, make).map_err(at_the_bottom))
+}
+
+/// Makes a call, and asks what holds of its answer and of the state that it leaves.
+fn follow_call(opened: &mut Option<Opened>, state: &State, call: &Call, make: Make) -> Result<State, String> {
+    let left = make(state, call)?;
+    let accepted = left.answer.number == 0;
+    if let Call::Open { kind, arrived } = call {
+        *opened = if accepted { Some(Opened::new(*kind, arrived)?) } else { None };
+    } else if let Some(opened) = opened {
+        opened.holds_of(call, &left)?;
+        opened.ledger.hear(call, accepted);
+    }
+    if let Some(opened) = opened {
+        opened.holds(&left.state, make)?;
+    }
+    Ok(left.state)
+}
+
+impl Opened {
+    fn new(kind: Kind, arrived: &[u8]) -> Result<Opened, String> {
+        let ledger = Ledger::new(kind, arrived).ok_or("bytes that do not read were opened")?;
+        Ok(Opened { arrived: arrived.to_vec(), ledger })
+    }
+
+    /// What demand 3 says of a state, and of the calls that may follow.
+    fn holds(&self, state: &State, make: Make) -> Result<(), String> {
+        self.records_agree(state)?;
+        text_is(&self.ledger.text(), state)?;
+        for call in [Call::Undo, Call::Redo, self.save()] {
+            let of_call = |difference| format!("{call} would be wrong: {difference}");
+            make(state, &call).and_then(|left| self.holds_of(&call, &left)).map_err(of_call)?;
+        }
+        Ok(())
+    }
+
+    /// A save with the bytes that were opened, and with room enough.
+    fn save(&self) -> Call {
+        let written = self.ledger.writing().map_or(0, |written| written.len());
+        Call::Save { arrived: self.arrived.clone(), room: written.max(self.arrived.len()) }
+    }
+
+    /// What demand 3 says of a call after those that the ledger heard.
+    fn holds_of(&self, call: &Call, left: &Left) -> Result<(), String> {
+        let Ledger { standing, undone, .. } = &self.ledger;
+        match call {
+            // "An undo then gives 13 exactly when the standing list is empty, a redo exactly when the undone list is;
+            // else they are accepted."
+            Call::Undo => number_is(if standing.is_empty() { 13 } else { 0 }, left),
+            Call::Redo => number_is(if undone.is_empty() { 13 } else { 0 }, left),
+            // "An accepted save gives the bytes lent to it as arrived if nothing stands, otherwise the writing of the
+            // ledger's text in the page's kind."
+            Call::Save { arrived, .. } if left.answer.number == 0 => {
+                let expected = if standing.is_empty() { Ok(arrived.clone()) } else { self.ledger.writing() };
+                let saved = left.output.get(..left.answer.place).ok_or("more is saved than there is room for")?;
+                match expected {
+                    Ok(bytes) if bytes == saved => Ok(()),
+                    _ => Err(format!("\"{}\" is saved", saved.escape_ascii())),
+                }
+            }
+            _ => Ok(()),
+        }
+    }
+
+    /// That the page is sound; "the records are proved to agree with it, step for step, in place, count removed and
+    /// cells added."
+    fn records_agree(&self, state: &State) -> Result<(), String> {
+        let sound = page::sound(state).ok_or("the page is not sound")?;
+        let agree = |steps: &[Step], records: &[Record]| {
+            let of_record = |record: &Record| Step {
+                place: record.place,
+                count: record.removed.len(),
+                cells: record.added.clone(),
+            };
+            steps.iter().cloned().eq(records.iter().map(of_record))
+        };
+        if agree(&self.ledger.standing, &sound.standing) && agree(&self.ledger.undone, &sound.undone) {
+            return Ok(());
+        }
+        Err(format!("the records {} are not the ledger's steps", show(&state.history[..state.page.used])))
+    }
+
+    /// Undo until it is refused, which it is after as many as stand: the reading is back, and save with the bytes that
+    /// were opened gives them.
+    fn holds_at_the_bottom(mut self, mut state: State, make: Make) -> Result<(), String> {
+        for _ in 0..self.ledger.standing.len() {
+            state = make(&state, &Call::Undo).and_then(|left| number_is(0, &left).map(|()| left.state))?;
+            self.ledger.hear(&Call::Undo, true);
+        }
+        make(&state, &Call::Undo).and_then(|left| number_is(13, &left))?;
+        text_is(&self.ledger.reading, &state)?;
+        let saved = make(&state, &Call::Save { arrived: self.arrived.clone(), room: self.arrived.len() })?;
+        number_is(0, &saved)?;
+        if saved.answer.place != self.arrived.len() || saved.output != self.arrived {
+            return Err(format!("\"{}\" is saved", saved.output.escape_ascii()));
+        }
+        Ok(())
+    }
+}
+
+fn number_is(expected: u32, left: &Left) -> Result<(), String> {
+    if left.answer.number == expected {
+        return Ok(());
+    }
+    Err(format!("the answer is {} and not {expected}", left.answer))
+}
+
+/// "After the list the first *length* cells of the text buffer equal the ledger's text."
+fn text_is(expected: &[u32], state: &State) -> Result<(), String> {
+    let text = state.text.get(..state.page.length).ok_or("the length is over the text buffer")?;
+    if text == expected {
+        return Ok(());
+    }
+    Err(format!("the text is {} and not {}", show(text), show(expected)))
+}
+
+#[cfg(test)]
+mod tests {
+    use super::*;
+    use crate::calls::seeded;
+    use crate::checks::page::second;
+    use crate::second::page::Page;
+    use crate::second::Answer;
+
+    /// Whether demand 3 holds of a program on seeded lists.
+    fn holds(make: Make) -> bool {
+        let lists = |kind| seeded::opened(1, kind, seeded::SMALL, 100);
+        Kind::ALL.into_iter().flat_map(lists).all(|list| follow(&list, make).is_ok())
+    }
+
+    fn accept(state: State) -> Result<Left, String> {
+        Ok(Left { answer: Answer { number: 0, place: state.page.length }, state, output: vec![] })
+    }
+
+    #[test]
+    fn the_second_program_is_as_demanded() {
+        assert!(holds(|state, call| Ok(second(state, call))));
+    }
+
+    #[test]
+    fn an_undo_that_does_nothing_is_not() {
+        assert!(!holds(|state, call| match second(state, call) {
+            Left { answer: Answer { number: 0, .. }, .. } if *call == Call::Undo => accept(state.clone()),
+            left => Ok(left),
+        }));
+    }
+
+    #[test]
+    fn an_undo_that_jumps_to_the_original_is_not() {
+        assert!(!holds(|state, call| {
+            let mut left = second(state, call);
+            while *call == Call::Undo && left.answer.number == 0 && left.state.page.done > 0 {
+                left = second(&left.state, call);
+            }
+            Ok(left)
+        }));
+    }
+
+    #[test]
+    fn an_undo_that_empties_the_page_at_the_bottom_is_not() {
+        assert!(!holds(|state, call| match second(state, call) {
+            Left { answer: Answer { number: 13, .. }, state, .. } if *call == Call::Undo => {
+                let page = Page { opening: 0, length: 0, used: 0, ..state.page };
+                accept(State { page, text: vec![0; state.text.len()], history: vec![0; state.history.len()] })
+            }
+            left => Ok(left),
+        }));
+    }
+
+    #[test]
+    fn a_replace_that_keeps_the_undone_steps_is_not() {
+        assert!(!holds(|state, call| {
+            let mut left = second(state, call);
+            if left.answer.number == 0 && matches!(call, Call::Replace { .. }) {
+                let State { page, history, .. } = &mut left.state;
+                let undone = &state.history[state.page.done..state.page.used];
+                if let Some(room) = history[page.done..].get_mut(..undone.len()) {
+                    room.copy_from_slice(undone);
+                    page.used += undone.len();
+                }
+            }
+            Ok(left)
+        }));
+    }
+
+    #[test]
+    fn a_save_that_writes_although_nothing_stands_is_not() {
+        assert!(!holds(|state, call| {
+            let mut left = second(state, call);
+            let text = &state.text[..state.page.length];
+            let written = Kind::of_number(state.page.kind).and_then(|kind| kind.write(text).ok()).unwrap_or_default();
+            if matches!(call, Call::Save { .. }) && left.answer.number == 0 && written.len() <= call.room() {
+                left.answer.place = written.len();
+                left.output[..written.len()].copy_from_slice(&written);
+            }
+            Ok(left)
+        }));
+    }
+
+    #[test]
+    fn a_record_of_another_place_is_not() {
+        assert!(!holds(|state, call| {
+            let mut left = second(state, call);
+            if matches!(call, Call::Replace { place: 1.., count: 0, .. }) && left.answer.number == 0 {
+                left.state.history[state.page.done] -= 1;
+            }
+            Ok(left)
+        }));
+    }
+}

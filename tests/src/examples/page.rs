@@ -1,0 +1,200 @@
+//! Examples of the page: that of document 01, and pages made by hand.
+
+use std::fmt::{self, Display, Formatter};
+
+use crate::calls::{blank, Change};
+use crate::second::page::{Left, Page, State};
+use crate::second::{Answer, Call, Kind};
+
+/// Calls one after another, with what each leaves.
+pub struct Course {
+    pub name: &'static str,
+    pub start: State,
+    pub turns: Vec<(Call, Left)>,
+}
+
+/// A call on a page made by hand, and its answer.
+pub struct Judged {
+    pub name: &'static str,
+    pub state: State,
+    pub call: Call,
+    pub answer: Answer,
+}
+
+impl Display for Course {
+    fn fmt(&self, f: &mut Formatter) -> fmt::Result {
+        write!(f, "{}", self.name)
+    }
+}
+
+impl Display for Judged {
+    fn fmt(&self, f: &mut Formatter) -> fmt::Result {
+        write!(f, "{}, {}", self.name, self.call)
+    }
+}
+
+/// A body page: its opening length, length, words used and words done, and its buffers.
+fn body(numbers: [usize; 4], text: &[u32], history: &[u32]) -> State {
+    let [opening, length, used, done] = numbers;
+    let page = Page { kind: Kind::Utf7Body.number(), opening, length, used, done };
+    State { page, text: text.to_vec(), history: history.to_vec() }
+}
+
+fn replace(place: usize, count: usize, cells: &[u32]) -> Call {
+    Call::Replace { place, count, cells: cells.to_vec() }
+}
+
+fn save(arrived: &[u8], room: usize) -> Call {
+    Call::Save { arrived: arrived.to_vec(), room }
+}
+
+/// What a call leaves that fills the whole of its output, or none of it.
+fn leaves(number: u32, place: usize, state: &State, output: &[u8]) -> Left {
+    Left { answer: Answer { number, place }, state: state.clone(), output: output.to_vec() }
+}
+
+const P2: &[u8] = b"A+ImIDkQ.";
+
+/// "Body page on P2, one cell at 1 replaced by 003D: history 1 1 1 2262 003D (hex), save "A=+A5E-."; undo, save
+/// "A+ImIDkQ."; undo again: 13. With four words of history the replace is 12, place 5."
+pub fn worked() -> Vec<Course> {
+    let open = Call::Open { kind: Kind::Utf7Body, arrived: P2.to_vec() };
+    let opened = body([4, 4, 0, 0], &[0x41, 0x2262, 0x391, 0x2E, 0], &[0; 6]);
+    let replaced = body([4, 4, 5, 5], &[0x41, 0x3D, 0x391, 0x2E, 0], &[1, 1, 1, 0x2262, 0x3D, 0]);
+    let undone = body([4, 4, 5, 0], &[0x41, 0x2262, 0x391, 0x2E, 0], &[1, 1, 1, 0x2262, 0x3D, 0]);
+    let with_four_words = body([4, 4, 0, 0], &[0x41, 0x2262, 0x391, 0x2E, 0], &[0; 4]);
+    vec![
+        Course {
+            name: "the body page on P2",
+            start: blank(5, 6),
+            turns: vec![
+                (open.clone(), leaves(0, 4, &opened, b"")),
+                (replace(1, 1, &[0x3D]), leaves(0, 4, &replaced, b"")),
+                (save(P2, 8), leaves(0, 8, &replaced, b"A=+A5E-.")),
+                (Call::Undo, leaves(0, 4, &undone, b"")),
+                (save(P2, 9), leaves(0, 9, &undone, b"A+ImIDkQ.")),
+                (Call::Undo, leaves(13, 0, &undone, b"")),
+            ],
+        },
+        Course {
+            name: "the body page on P2 with four words of history",
+            start: blank(5, 4),
+            turns: vec![
+                (open, leaves(0, 4, &with_four_words, b"")),
+                (replace(1, 1, &[0x3D]), leaves(12, 5, &with_four_words, b"")),
+            ],
+        },
+    ]
+}
+
+/// A sound page: the step of document 01 stands, and one that puts 0042 0043 in the place of 0041 at 0 is undone. Both
+/// buffers have room for one element or two more.
+fn edited() -> State {
+    let history = [1, 1, 1, 0x2262, 0x3D, 0, 1, 2, 0x41, 0x42, 0x43, 0];
+    body([4, 4, 11, 5], &[0x41, 0x3D, 0x391, 0x2E, 0, 0], &history)
+}
+
+/// The sound page with these changes.
+fn with(changes: &[Change]) -> State {
+    let mut state = edited();
+    changes.iter().for_each(|change| change.make(&mut state));
+    state
+}
+
+/// Changes that leave the page not sound, each with the reason.
+const NOT_SOUND: [(&str, &[Change]); 24] = [
+    ("a number of no kind", &[Change::Kind(3)]),
+    (
+        "an opening length over the text buffer",
+        &[Change::Opening(7), Change::Word(1, 2), Change::Word(2, 0), Change::Length(5)],
+    ),
+    ("an opening length that does not lead to the length", &[Change::Opening(5)]),
+    ("a length over the text buffer", &[Change::Length(7)]),
+    ("a length that is not reached", &[Change::Length(5)]),
+    ("more words used than there are", &[Change::Used(13)]),
+    ("the largest number of words used", &[Change::Used(usize::MAX)]),
+    ("a last record cut short", &[Change::Used(10)]),
+    ("a word after the last record", &[Change::Used(12)]),
+    ("done within a record", &[Change::Done(3)]),
+    ("done past the records", &[Change::Done(12)]),
+    ("done where another length is reached", &[Change::Done(11)]),
+    ("a standing step beyond the text", &[Change::Word(0, 4)]),
+    ("an undone step beyond the text", &[Change::Word(5, 4)]),
+    (
+        "an undone step that removes nothing, beyond the text",
+        &[Change::Word(5, 5), Change::Word(6, 0), Change::Word(7, 2), Change::Used(10), Change::Word(10, 0)],
+    ),
+    ("an undone step that is too long for the text buffer", &[Change::Word(6, 0), Change::Word(7, 3)]),
+    ("a place of FFFFFFFF", &[Change::Word(0, u32::MAX)]),
+    ("FFFFFFFF cells removed", &[Change::Word(1, u32::MAX)]),
+    ("FFFFFFFF cells added", &[Change::Word(2, u32::MAX)]),
+    ("sums that are right if cut off at 32 bits", &[Change::Word(1, u32::MAX), Change::Word(2, 3)]),
+    ("records that do not tile", &[Change::Word(2, 2)]),
+    ("a cell past the length", &[Change::Cell(4, 1)]),
+    ("a last cell past the length", &[Change::Cell(5, 1)]),
+    ("a word past those used", &[Change::Word(11, 1)]),
+];
+
+/// Calls on pages made by hand, sound and not.
+pub fn judged() -> Vec<Judged> {
+    let not_sound = NOT_SOUND.iter().flat_map(|&(name, changes)| {
+        let calls = [Call::Undo, Call::Redo, replace(0, 0, &[]), save(P2, 9)];
+        calls.map(|call| judge(name, with(changes), call, 14, 0))
+    });
+    not_sound.chain(sound_pages()).chain(replacements()).collect()
+}
+
+fn judge(name: &'static str, state: State, call: Call, number: u32, place: usize) -> Judged {
+    Judged { name, state, call, answer: Answer { number, place } }
+}
+
+/// Undo, redo and save on sound pages, of which some hold what no call put there.
+fn sound_pages() -> Vec<Judged> {
+    let nothing_stands = || with(&[Change::Done(0)]);
+    let appended = [Change::Word(0, 4), Change::Word(1, 0), Change::Word(2, 2), Change::Length(6)];
+    let then_cut = [Change::Word(6, 2), Change::Word(7, 1)];
+    let all_done = [Change::Done(11), Change::Length(5)];
+    let other_contents = [Change::Cell(1, 0x7A), Change::Word(3, 0x7B), Change::Word(4, 0x7C)];
+    let empty = || body([0; 4], &[], &[]);
+    vec![
+        judge("a sound page", edited(), Call::Undo, 0, 4),
+        judge("a sound page", edited(), Call::Redo, 0, 5),
+        judge("a sound page", edited(), save(b"~", 8), 0, 8),
+        judge("a sound page", edited(), save(P2, 7), 9, 8),
+        judge("cells that no record has", with(&other_contents), Call::Undo, 0, 4),
+        judge("a step at the end of the text", with(&[&appended[..], &then_cut].concat()), Call::Undo, 0, 4),
+        judge("all steps stand", with(&all_done), Call::Redo, 13, 0),
+        judge("all steps stand", with(&all_done), Call::Undo, 0, 4),
+        judge("no step stands", nothing_stands(), Call::Undo, 13, 0),
+        judge("no step stands", nothing_stands(), save(P2, 8), 15, 0),
+        judge("no step stands", nothing_stands(), save(b"A=+A5E-.", 8), 0, 8),
+        judge("no step stands", nothing_stands(), save(b"A=+A5EAAA.", 10), 15, 0),
+        judge("no step stands", nothing_stands(), save(b"A=+A5EA.", 7), 9, 8),
+        judge("no step stands", nothing_stands(), save(b"A=+A5E-.~", 9), 15, 0),
+        judge("a text that is not writable", with(&[Change::Cell(2, 65_536)]), save(P2, 0), 10, 2),
+        judge("a text of another kind", with(&[Change::Kind(2)]), save(P2, 9), 10, 0),
+        judge("a text of another style", with(&[Change::Kind(0)]), save(P2, 10), 0, 10),
+        judge("an empty page in empty buffers", empty(), Call::Undo, 13, 0),
+        judge("an empty page in empty buffers", empty(), Call::Redo, 13, 0),
+        judge("an empty page in empty buffers", empty(), save(b"", 0), 0, 0),
+        judge("an empty page in empty buffers", empty(), replace(0, 0, &[]), 12, 3),
+    ]
+}
+
+/// Replacements on a sound page, in the order of the numbers.
+fn replacements() -> Vec<Judged> {
+    let on_sound = |name, call, number, place| judge(name, edited(), call, number, place);
+    vec![
+        on_sound("nothing removed and nothing added", replace(4, 0, &[]), 0, 4),
+        on_sound("a history that is just full", replace(0, 2, &[0x61; 2]), 0, 4),
+        on_sound("a place and a count that are just within the text", replace(3, 1, &[]), 0, 3),
+        on_sound("a place beyond the text", replace(5, 0, &[65_536]), 11, 4),
+        on_sound("a count beyond the text", replace(3, 2, &[]), 11, 4),
+        on_sound("the largest place and count", replace(usize::MAX, usize::MAX, &[]), 11, 4),
+        on_sound("a sum that is right if cut off", replace(2, usize::MAX, &[]), 11, 4),
+        on_sound("a cell that is not writable, and no room", replace(0, 0, &[0x61, 0x61, 0x61, 65_536]), 10, 3),
+        on_sound("no room, and no words", replace(0, 1, &[0x61; 4]), 9, 7),
+        on_sound("no room", replace(0, 0, &[0x61; 3]), 9, 7),
+        on_sound("no words", replace(0, 2, &[0x61; 3]), 12, 13),
+    ]
+}

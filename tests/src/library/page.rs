@@ -1,0 +1,197 @@
+//! The calls on a page.
+
+use super::RawAnswer;
+use crate::second::page::Page;
+use crate::second::{Answer, Call, Kind};
+
+#[repr(C)]
+struct RawPage {
+    kind: u32,
+    opening: usize,
+    length: usize,
+    used: usize,
+    done: usize,
+}
+
+impl From<Page> for RawPage {
+    fn from(Page { kind, opening, length, used, done }: Page) -> RawPage {
+        RawPage { kind, opening, length, used, done }
+    }
+}
+
+impl From<RawPage> for Page {
+    fn from(RawPage { kind, opening, length, used, done }: RawPage) -> Page {
+        Page { kind, opening, length, used, done }
+    }
+}
+
+#[repr(C)]
+struct RawEdited {
+    answer: RawAnswer,
+    page: RawPage,
+}
+
+type RawOpen = unsafe extern "C" fn(*const u8, usize, *mut u32, usize, *mut u32, usize) -> RawEdited;
+type RawTurn = unsafe extern "C" fn(RawPage, *mut u32, usize, *const u32, usize) -> RawEdited;
+
+extern "C" {
+    fn qalithonda_utf7_header_open(
+        arrived: *const u8,
+        arrived_len: usize,
+        text: *mut u32,
+        text_len: usize,
+        history: *mut u32,
+        history_len: usize,
+    ) -> RawEdited;
+    fn qalithonda_utf7_body_open(
+        arrived: *const u8,
+        arrived_len: usize,
+        text: *mut u32,
+        text_len: usize,
+        history: *mut u32,
+        history_len: usize,
+    ) -> RawEdited;
+    fn qalithonda_jp2_open(
+        arrived: *const u8,
+        arrived_len: usize,
+        text: *mut u32,
+        text_len: usize,
+        history: *mut u32,
+        history_len: usize,
+    ) -> RawEdited;
+    fn qalithonda_replace(
+        page: RawPage,
+        place: usize,
+        count: usize,
+        cells: *const u32,
+        cells_len: usize,
+        text: *mut u32,
+        text_len: usize,
+        history: *mut u32,
+        history_len: usize,
+    ) -> RawEdited;
+    fn qalithonda_undo(
+        page: RawPage,
+        text: *mut u32,
+        text_len: usize,
+        history: *const u32,
+        history_len: usize,
+    ) -> RawEdited;
+    fn qalithonda_redo(
+        page: RawPage,
+        text: *mut u32,
+        text_len: usize,
+        history: *const u32,
+        history_len: usize,
+    ) -> RawEdited;
+    fn qalithonda_save(
+        page: RawPage,
+        text: *const u32,
+        text_len: usize,
+        history: *const u32,
+        history_len: usize,
+        arrived: *const u8,
+        arrived_len: usize,
+        out: *mut u8,
+        out_len: usize,
+    ) -> RawAnswer;
+}
+
+/// The name of the function that a call is made with.
+pub fn name(call: &Call) -> &'static str {
+    match call {
+        Call::Open { kind, .. } => open_name(*kind),
+        Call::Replace { .. } => REPLACE,
+        Call::Undo => UNDO,
+        Call::Redo => REDO,
+        Call::Save { .. } => SAVE,
+    }
+}
+
+pub fn open_name(kind: Kind) -> &'static str {
+    match kind {
+        Kind::Utf7Header => "qalithonda_utf7_header_open",
+        Kind::Utf7Body => "qalithonda_utf7_body_open",
+        Kind::Jp2 => "qalithonda_jp2_open",
+    }
+}
+
+pub const REPLACE: &str = "qalithonda_replace";
+pub const UNDO: &str = "qalithonda_undo";
+pub const REDO: &str = "qalithonda_redo";
+pub const SAVE: &str = "qalithonda_save";
+
+/// Makes a call, and gives its answer and the page that it gives back.
+pub fn make(call: &Call, page: Page, text: &mut [u32], history: &mut [u32], output: &mut [u8]) -> (Answer, Page) {
+    match call {
+        Call::Open { kind, arrived } => open(*kind, arrived, text, history),
+        Call::Replace { place, count, cells } => replace(page, *place, *count, cells, text, history),
+        Call::Undo => turn(qalithonda_undo, page, text, history),
+        Call::Redo => turn(qalithonda_redo, page, text, history),
+        Call::Save { arrived, .. } => (save(page, text, history, arrived, output), page),
+    }
+}
+
+fn given(edited: RawEdited) -> (Answer, Page) {
+    (edited.answer.into(), edited.page.into())
+}
+
+fn open(kind: Kind, arrived: &[u8], text: &mut [u32], history: &mut [u32]) -> (Answer, Page) {
+    let raw: RawOpen = match kind {
+        Kind::Utf7Header => qalithonda_utf7_header_open,
+        Kind::Utf7Body => qalithonda_utf7_body_open,
+        Kind::Jp2 => qalithonda_jp2_open,
+    };
+    // SAFETY: each pointer comes with the length of its slice, and only `text` and `history` are written to.
+    given(unsafe {
+        raw(arrived.as_ptr(), arrived.len(), text.as_mut_ptr(), text.len(), history.as_mut_ptr(), history.len())
+    })
+}
+
+fn replace(
+    page: Page,
+    place: usize,
+    count: usize,
+    cells: &[u32],
+    text: &mut [u32],
+    history: &mut [u32],
+) -> (Answer, Page) {
+    // SAFETY: each pointer comes with the length of its slice, and only `text` and `history` are written to.
+    given(unsafe {
+        qalithonda_replace(
+            page.into(),
+            place,
+            count,
+            cells.as_ptr(),
+            cells.len(),
+            text.as_mut_ptr(),
+            text.len(),
+            history.as_mut_ptr(),
+            history.len(),
+        )
+    })
+}
+
+/// Undo or redo.
+fn turn(raw: RawTurn, page: Page, text: &mut [u32], history: &[u32]) -> (Answer, Page) {
+    // SAFETY: each pointer comes with the length of its slice, and only `text` is written to.
+    given(unsafe { raw(page.into(), text.as_mut_ptr(), text.len(), history.as_ptr(), history.len()) })
+}
+
+fn save(page: Page, text: &[u32], history: &[u32], arrived: &[u8], output: &mut [u8]) -> Answer {
+    // SAFETY: each pointer comes with the length of its slice, and only `output` is written to.
+    let raw = unsafe {
+        qalithonda_save(
+            page.into(),
+            text.as_ptr(),
+            text.len(),
+            history.as_ptr(),
+            history.len(),
+            arrived.as_ptr(),
+            arrived.len(),
+            output.as_mut_ptr(),
+            output.len(),
+        )
+    };
+    raw.into()
+}

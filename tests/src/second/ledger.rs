@@ -1,0 +1,105 @@
+//! The ledger, after the section "The page" of document 01. "It takes nothing from the page, the text buffer or the
+//! history."
+
+use super::{Call, Elements, Kind};
+
+/// "A step is a place, a count removed and the cells added."
+#[derive(Clone, Debug, PartialEq, Eq)]
+pub struct Step {
+    pub place: usize,
+    pub count: usize,
+    pub cells: Vec<u32>,
+}
+
+/// "It holds the reading of those bytes and two lists of steps, standing and undone."
+#[derive(Clone, Debug, PartialEq, Eq)]
+pub struct Ledger {
+    kind: Kind,
+    pub reading: Vec<u32>,
+    pub standing: Vec<Step>,
+    pub undone: Vec<Step>,
+}
+
+impl Ledger {
+    /// "The **ledger** is fed the kind and the arrived bytes of an accepted open." There is none if they do not read.
+    pub fn new(kind: Kind, arrived: &[u8]) -> Option<Ledger> {
+        let reading = kind.read(arrived).ok()?;
+        Some(Ledger { kind, reading, standing: Vec::new(), undone: Vec::new() })
+    }
+
+    /// ", then each call with its arguments and whether it was accepted." A call of open belongs to another ledger.
+    pub fn hear(&mut self, call: &Call, accepted: bool) {
+        // "Save and every refused call change nothing."
+        if !accepted {
+            return;
+        }
+        match call {
+            // "An accepted replace puts its step at the end of the standing list and empties the undone list."
+            Call::Replace { place, count, cells } => {
+                self.standing.push(Step { place: *place, count: *count, cells: cells.clone() });
+                self.undone.clear();
+            }
+            // "An accepted undo moves the last standing step, if any, to the front of the undone list."
+            Call::Undo => {
+                if let Some(step) = self.standing.pop() {
+                    self.undone.insert(0, step);
+                }
+            }
+            // "An accepted redo moves the first undone step, if any, to the end of the standing list."
+            Call::Redo if !self.undone.is_empty() => self.standing.push(self.undone.remove(0)),
+            Call::Redo | Call::Save { .. } | Call::Open { .. } => {}
+        }
+    }
+
+    /// "The ledger's text begins as the reading. Each standing step in order turns it into the cells before its place,
+    /// the cells added, and the cells from place plus count on."
+    pub fn text(&self) -> Vec<u32> {
+        self.standing.iter().fold(self.reading.clone(), |text, step| {
+            let before = text.iter().take(step.place);
+            let after = text.iter().skip(step.place.saturating_add(step.count));
+            before.chain(&step.cells).chain(after).copied().collect()
+        })
+    }
+
+    /// "the writing of the ledger's text in the page's kind"
+    pub fn writing(&self) -> Elements<u8> {
+        self.kind.write(&self.text())
+    }
+}
+
+#[cfg(test)]
+mod tests {
+    use super::*;
+
+    fn replace(place: usize, count: usize, cells: &[u32]) -> Call {
+        Call::Replace { place, count, cells: cells.to_vec() }
+    }
+
+    #[test]
+    fn steps_stand_and_are_undone_in_order() {
+        let mut ledger = Ledger::new(Kind::Utf7Body, b"abc").expect("a whole text");
+        let mut after = |call: Call, accepted| {
+            ledger.hear(&call, accepted);
+            let text = String::from_utf8(ledger.writing().expect("writable cells")).expect("bytes of ASCII");
+            (text, ledger.standing.len(), ledger.undone.len())
+        };
+        let left = |text: &str, standing, undone| (text.to_string(), standing, undone);
+        assert_eq!(after(Call::Undo, true), left("abc", 0, 0));
+        assert_eq!(after(replace(1, 1, &[0x58, 0x59]), true), left("aXYc", 1, 0));
+        assert_eq!(after(replace(0, 2, &[]), true), left("Yc", 2, 0));
+        assert_eq!(after(replace(2, 0, &[0x5A]), false), left("Yc", 2, 0));
+        assert_eq!(after(replace(2, 0, &[0x5A]), true), left("YcZ", 3, 0));
+        assert_eq!(after(Call::Undo, true), left("Yc", 2, 1));
+        assert_eq!(after(Call::Undo, true), left("aXYc", 1, 2));
+        assert_eq!(after(Call::Redo, true), left("Yc", 2, 1));
+        assert_eq!(after(Call::Save { arrived: vec![], room: 9 }, true), left("Yc", 2, 1));
+        assert_eq!(after(Call::Redo, false), left("Yc", 2, 1));
+        assert_eq!(after(replace(0, 0, &[]), true), left("Yc", 3, 0));
+        assert_eq!(after(Call::Redo, true), left("Yc", 3, 0));
+    }
+
+    #[test]
+    fn bytes_that_do_not_read_have_no_ledger() {
+        assert_eq!(Ledger::new(Kind::Jp2, b"\x1B"), None);
+    }
+}

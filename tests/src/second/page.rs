@@ -1,0 +1,319 @@
+//! The page, after the sections "The page" and "Numbers given back" of document 01. A call is a function from all that
+//! is lent to all that is left: the history is cut into a list of records, the text is built anew as another list, and
+//! both are laid out again.
+
+use super::{outcome, refuse, within_limit, Answer, Call, Elements, Kind};
+
+/// "A page has a kind (..), an opening length, a length, words used and words done." The kind is a number, which may be
+/// that of no kind.
+#[derive(Clone, Copy, Debug, PartialEq, Eq)]
+pub struct Page {
+    pub kind: u32,
+    pub opening: usize,
+    pub length: usize,
+    pub used: usize,
+    pub done: usize,
+}
+
+impl Page {
+    /// A page of this length on which nothing was done.
+    pub fn opened(kind: Kind, length: usize) -> Page {
+        Page { kind: kind.number(), opening: length, length, used: 0, done: 0 }
+    }
+}
+
+/// "Lent beside it are a text buffer of cells and a history of 32-bit words."
+#[derive(Clone, Debug, PartialEq, Eq)]
+pub struct State {
+    pub page: Page,
+    pub text: Vec<u32>,
+    pub history: Vec<u32>,
+}
+
+/// What a call leaves: its answer, the page with both buffers, and the whole of the output lent to it.
+#[derive(Clone, Debug, PartialEq, Eq)]
+pub struct Left {
+    pub answer: Answer,
+    pub state: State,
+    pub output: Vec<u8>,
+}
+
+/// What a call leaves that is lent this state and this output.
+pub fn left(state: &State, call: &Call, output: &[u8]) -> Left {
+    match call {
+        Call::Open { kind, arrived } => {
+            // "A refused open gives the kind with four zeros."
+            let blank = State { page: Page::opened(*kind, 0), ..state.clone() };
+            edited(&blank, open(&blank, *kind, arrived), output)
+        }
+        Call::Replace { place, count, cells } => edited(state, replace(state, *place, *count, cells), output),
+        Call::Undo => edited(state, undo(state), output),
+        Call::Redo => edited(state, redo(state), output),
+        Call::Save { arrived, .. } => {
+            let saved = outcome(&save(state, arrived), output);
+            Left { answer: saved.answer, state: state.clone(), output: saved.output }
+        }
+    }
+}
+
+/// What is left by a call that gives this state, or refuses; it has no use for the output.
+fn edited(before: &State, after: Result<State, Answer>, output: &[u8]) -> Left {
+    let (answer, state) = match after {
+        // "replace, undo and redo answer the new length", and open "the count of elements".
+        Ok(state) => (Answer { number: 0, place: state.page.length }, state),
+        // "A refusal changes no page and no buffer."
+        Err(answer) => (answer, before.clone()),
+    };
+    Left { answer, state, output: output.to_vec() }
+}
+
+/// "A step's record is: place, count removed, count added, the removed cells, the added cells."
+#[derive(Clone, Debug, PartialEq, Eq)]
+pub struct Record {
+    pub place: usize,
+    pub removed: Vec<u32>,
+    pub added: Vec<u32>,
+}
+
+impl Record {
+    fn words(&self) -> Vec<u32> {
+        let counts = [self.place, self.removed.len(), self.added.len()].map(|number| number as u32);
+        [&counts, &self.removed[..], &self.added].concat()
+    }
+
+    /// The text with this step done.
+    fn done_on(&self, text: &[u32]) -> Vec<u32> {
+        [&text[..self.place], &self.added, &text[self.place + self.removed.len()..]].concat()
+    }
+
+    /// The step that takes this one back.
+    fn reversed(&self) -> Record {
+        Record { place: self.place, removed: self.added.clone(), added: self.removed.clone() }
+    }
+}
+
+/// "Records lie one after another": those that tile these words, if any do.
+fn records(mut words: &[u32]) -> Option<Vec<Record>> {
+    let mut records = Vec::new();
+    while !words.is_empty() {
+        let (&[place, removed, added], rest) = words.split_first_chunk()?;
+        let (removed, rest) = rest.split_at_checked(removed as usize)?;
+        let (added, rest) = rest.split_at_checked(added as usize)?;
+        records.push(Record { place: place as usize, removed: removed.to_vec(), added: added.to_vec() });
+        words = rest;
+    }
+    Some(records)
+}
+
+/// What a sound page says: "those before *done* stand, the others can be redone."
+pub struct Sound {
+    kind: Kind,
+    text: Vec<u32>,
+    pub standing: Vec<Record>,
+    pub undone: Vec<Record>,
+}
+
+/// "A page is sound when (..)". What it says if it is.
+pub fn sound(state: &State) -> Option<Sound> {
+    let State { page, text, history } = state;
+    // The C interface: a page whose number is of no kind is not sound.
+    let kind = Kind::of_number(page.kind)?;
+    // "both lengths and *used* fit their buffers"
+    if [page.opening, page.length].iter().any(|&length| length > text.len()) || page.used > history.len() {
+        return None;
+    }
+    // "the records tile the words from 0 to *used*"
+    let mut records = records(&history[..page.used])?;
+    let reached = reached(page.opening, &records)?;
+    // "*done* is 0 or one of their ends"
+    let standing = reached.iter().position(|&(end, _)| end == page.done)?;
+    // "no such length exceeds the text buffer"
+    let lengths_fit = reached.iter().all(|&(_, length)| length <= text.len());
+    // "the length reached at *done* is the page's"
+    let (_, length_at_done) = reached[standing];
+    // "and everything past the ends is 0."
+    let mut past_the_ends = text[page.length..].iter().chain(&history[page.used..]);
+    let is_sound = lengths_fit && length_at_done == page.length && past_the_ends.all(|&element| element == 0);
+
+    let undone = records.split_off(standing);
+    is_sound.then(|| Sound { kind, text: text[..page.length].to_vec(), standing: records, undone })
+}
+
+/// The start and where each record ends, with "the text length reached so far from the opening length"; none if not
+/// "each record's removed part lies within" that length.
+fn reached(opening: usize, records: &[Record]) -> Option<Vec<(usize, usize)>> {
+    let mut reached = vec![(0, opening)];
+    let (mut end, mut length) = (0, opening);
+    for record in records {
+        if record.place + record.removed.len() > length {
+            return None;
+        }
+        end += record.words().len();
+        length = length - record.removed.len() + record.added.len();
+        reached.push((end, length));
+    }
+    Some(reached)
+}
+
+/// What a sound page says to a call that is lent a list of this length, or the refusal that comes before all others:
+/// "16 comes first: any lent text or list (cells to add, save's arrived bytes even if unused), text buffer or history
+/// longer than 65,536". "14 | page not sound | 0"
+fn accepted_page(state: &State, list: usize) -> Result<Sound, Answer> {
+    all_within_limit(state, list)?;
+    sound(state).ok_or(Answer { number: 14, place: 0 })
+}
+
+fn all_within_limit(state: &State, list: usize) -> Result<(), Answer> {
+    [list, state.text.len(), state.history.len()].into_iter().try_for_each(within_limit)
+}
+
+/// This list, and zeros up to this length.
+fn padded(mut list: Vec<u32>, length: usize) -> Vec<u32> {
+    list.resize(length, 0);
+    list
+}
+
+/// "**Open** reads the arrived bytes into the text. Nothing stands; history is all 0."
+fn open(state: &State, kind: Kind, arrived: &[u8]) -> Result<State, Answer> {
+    all_within_limit(state, arrived.len())?;
+    let cells = kind.read(arrived)?;
+    if cells.len() > state.text.len() {
+        return refuse(9, cells.len());
+    }
+    Ok(State {
+        page: Page::opened(kind, cells.len()),
+        text: padded(cells, state.text.len()),
+        history: padded(vec![], state.history.len()),
+    })
+}
+
+/// "Replace: 14, 11, 10, 9, 12."
+fn replace(state: &State, place: usize, count: usize, cells: &[u32]) -> Result<State, Answer> {
+    let Sound { kind, text, .. } = accepted_page(state, cells.len())?;
+    // "11 | place plus count beyond the length | the length"
+    if place as u128 + count as u128 > text.len() as u128 {
+        return refuse(11, text.len());
+    }
+    // "10 | cell not writable in this kind | its index"
+    kind.write(cells)?;
+    let step = Record { place, removed: text[place..place + count].to_vec(), added: cells.to_vec() };
+    let text = step.done_on(&text);
+    // "9 | too little room | elements needed"
+    if text.len() > state.text.len() {
+        return refuse(9, text.len());
+    }
+    // "**Replace** drops what could be redone, then records its step."
+    let history = [&state.history[..state.page.done], &step.words()].concat();
+    // "12 | record does not fit the history | words needed in all"
+    if history.len() > state.history.len() {
+        return refuse(12, history.len());
+    }
+    let used = history.len();
+    let recorded = State {
+        page: Page { used, ..state.page },
+        history: padded(history, state.history.len()),
+        text: state.text.clone(),
+    };
+    Ok(moved(&recorded, text, used))
+}
+
+/// "**Undo** puts the last standing step's removed cells back."
+fn undo(state: &State) -> Result<State, Answer> {
+    let Sound { text, standing, .. } = accepted_page(state, 0)?;
+    let step = standing.last().ok_or(NOTHING)?;
+    Ok(moved(state, step.reversed().done_on(&text), state.page.done - step.words().len()))
+}
+
+/// "**redo** does the next one again."
+fn redo(state: &State) -> Result<State, Answer> {
+    let Sound { text, undone, .. } = accepted_page(state, 0)?;
+    let step = undone.first().ok_or(NOTHING)?;
+    Ok(moved(state, step.done_on(&text), state.page.done + step.words().len()))
+}
+
+/// "13 | nothing to undo or redo | 0"
+const NOTHING: Answer = Answer { number: 13, place: 0 };
+
+/// The state with this text, at these words done.
+fn moved(state: &State, text: Vec<u32>, done: usize) -> State {
+    State {
+        page: Page { length: text.len(), done, ..state.page },
+        text: padded(text, state.text.len()),
+        history: state.history.clone(),
+    }
+}
+
+/// "**Save**: if no step stands, the arrived bytes, lent again, as they are; otherwise the text written in the page's
+/// kind." The bytes that are saved, or the refusal, where there is room enough.
+pub fn save(state: &State, arrived: &[u8]) -> Elements<u8> {
+    let Sound { kind, text, standing, .. } = accepted_page(state, arrived.len())?;
+    if !standing.is_empty() {
+        return kind.write(&text);
+    }
+    // "15 | arrived bytes do not read as the text | 0"
+    if kind.read(arrived) != Ok(text) {
+        return refuse(15, 0);
+    }
+    Ok(arrived.to_vec())
+}
+
+#[cfg(test)]
+mod tests {
+    use super::*;
+    use crate::examples::page::{judged, worked};
+
+    #[test]
+    fn follows_the_worked_page() {
+        for course in worked() {
+            let mut state = course.start.clone();
+            for (call, expected) in &course.turns {
+                let found = left(&state, call, &vec![0; call.room()]);
+                assert_eq!(&found, expected, "{course}, {call}");
+                state = found.state;
+            }
+        }
+    }
+
+    #[test]
+    fn answers_the_examples() {
+        for example in judged() {
+            let output = vec![0; example.call.room()];
+            let found = left(&example.state, &example.call, &output);
+            assert_eq!(found.answer, example.answer, "{example}");
+            if found.answer.number != 0 {
+                assert_eq!((found.state, found.output), (example.state, output));
+            }
+        }
+    }
+
+    #[test]
+    fn a_refused_open_gives_the_kind_and_leaves_the_buffers() {
+        let page = Page { kind: 7, opening: 1, length: 1, used: 1, done: 1 };
+        let state = State { page, text: vec![7; 2], history: vec![7; 2] };
+        for (arrived, number, place) in [(&b"a~"[..], 3, 1), (b"abc", 9, 3), (&[0x80; 65_537], 16, 65_536)] {
+            let found = left(&state, &Call::Open { kind: Kind::Utf7Body, arrived: arrived.to_vec() }, &[]);
+            assert_eq!(found.answer, Answer { number, place });
+            let blank = Page { kind: 1, opening: 0, length: 0, used: 0, done: 0 };
+            assert_eq!(found.state, State { page: blank, ..state.clone() });
+        }
+    }
+
+    #[test]
+    fn sixteen_comes_first() {
+        let state = |cells, words| State {
+            page: Page { kind: 9, opening: 1, length: 1, used: 1, done: 1 },
+            text: vec![0; cells],
+            history: vec![0; words],
+        };
+        let replace = |length| Call::Replace { place: 9, count: 9, cells: vec![u32::MAX; length] };
+        let save = |length| Call::Save { arrived: vec![0x80; length], room: 0 };
+        let number = |state: State, call: Call| left(&state, &call, &[]).answer.number;
+        for call in [Call::Undo, Call::Redo, replace(1), save(1)] {
+            assert_eq!(number(state(65_537, 0), call.clone()), 16);
+            assert_eq!(number(state(0, 65_537), call.clone()), 16);
+            assert_eq!(number(state(65_536, 65_536), call), 14);
+        }
+        assert_eq!([replace(65_537), save(65_537)].map(|call| number(state(0, 0), call)), [16, 16]);
+        assert_eq!([replace(65_536), save(65_536)].map(|call| number(state(0, 0), call)), [14, 14]);
+    }
+}
