@@ -5,7 +5,7 @@ use mathlib.Core.Bool.{cond}
 use native.Mathlib.Omega.{arith}
 use lib.Dec.{eqb, lit<}
 use borrow.Author.Tests.{ne-eqb}
-use Rattle.answer.specs.Answer.{limit, Verdict, numbered, numberOf, inNumbers}
+use Rattle.answer.specs.Answer.{limit, Verdict, numberOf, inNumbers}
 use Rattle.answer.specs.declared.Refusal.{Refusal}
 use Rattle.answer.specs.declared.Refusal.the-variants.{HighByte, LoneSign, StrayByte, LeftOverBits, UnknownEscape, EmptyG2, CutShort, NotAscii, NoRoom, Unwritable, BeyondLength, HistoryFull, NothingLeft, Unsound, NotTheText, OverLimit}
 use Rattle.answer.specs.declared.Answer.{Answer}

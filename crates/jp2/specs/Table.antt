@@ -1,9 +1,9 @@
 -- Document 01, "JP-2": the table of the nine designations, and the searches that reader and writer share.
-use Prim.Native.Nat.{ℕ, zero, suc}
+use Prim.Native.Nat.{ℕ, suc}
 use mathlib.Core.Bool.{Bool, true, false, cond, _&&_}
 use mathlib.Core.List.{List, [], _∷_}
 use lib.ListN.{length, getD, take}
-use lib.Dec.{ltb, eqb}
+use lib.Dec.{eqb}
 use Rattle.jp2.specs.declared.Designation.{Designation}
 
 abbrev pub designation : ℕ → List ℕ → ℕ → ℕ → Designation

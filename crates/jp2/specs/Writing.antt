@@ -1,9 +1,8 @@
 -- Document 01, "JP-2": writing.
 use Prim.Native.Nat.{ℕ, _/_, _%_}
-use mathlib.Core.Bool.{Bool, true, false, cond, _&&_}
+use mathlib.Core.Bool.{Bool, false, cond, _&&_}
 use mathlib.Core.List.{List, [], _∷_, _++_}
-use lib.ListN.{length}
-use lib.Dec.{ltb, eqb}
+use lib.Dec.{eqb}
 use Rattle.answer.specs.Output.{Outcome, written}
 use Rattle.jp2.specs.Table.{rowAt, sent, rowOfNumber}
 use Rattle.jp2.specs.Writable.{setOf, codeOf, pairSet, shiftSet, firstForeign}

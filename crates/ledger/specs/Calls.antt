@@ -1,13 +1,13 @@
 -- Document 01, "The page" and "Numbers given back": the five calls, each refusal in the fixed order, and everything they leave.
 use Prim.Native.Nat.{ℕ, _+_, _-_}
-use mathlib.Core.Bool.{Bool, true, false, cond, _||_}
+use mathlib.Core.Bool.{Bool, cond, _||_}
 use mathlib.Core.List.{List, [], _∷_, _++_}
 use mathlib.Core.Option.{Option, none, some}
 use lib.ListN.{length, take, drop, replicate}
 use lib.Dec.{ltb}
 use Rattle.answer.specs.Answer.{Verdict, numbered, limit, tooLong}
 use Rattle.answer.specs.Output.{filled}
-use Rattle.reading.specs.Reading.{Ending, accepted, fault, Reading}
+use Rattle.reading.specs.Reading.{Ending, accepted, fault}
 use Rattle.codec.specs.declared.Kind.{Kind}
 use Rattle.codec.specs.Kinds.{readingIn, firstUnwritable, writingIn, readsAs}
 use Rattle.ledger.specs.Words.{Entry, Parted, wordsOf, sizeOf, pad}

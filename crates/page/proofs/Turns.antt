@@ -13,7 +13,7 @@ use Rattle.answer.specs.Answer.{numbered, inNumbers}
 use Rattle.answer.specs.declared.Answer.{Answer}
 use Rattle.answer.proofs.Below.{both}
 use Rattle.ledger.specs.Words.{Entry, wordsOf, sizeOf, lengthAfter, lengthsFit, reached}
-use Rattle.ledger.specs.Page.{State, Outcome, textIn, records}
+use Rattle.ledger.specs.Page.{State, Outcome, textIn}
 use Rattle.ledger.specs.Calls.{refusing, edited, turned, moved, undoLast, redoNext, undoParted, redoParted, undoOf, redoOf}
 use Rattle.ledger.proofs.Words.{words, sizes, length-words, words-append, sizes-reverse, lengths-append}
 use Rattle.ledger.proofs.Sound.{Sound}

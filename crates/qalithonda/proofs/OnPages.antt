@@ -1,12 +1,12 @@
 -- A call on a page that is handed on keeps its promise with the kind as a number. Assumes nothing.
 use Prim.Native.Nat.{ℕ, _<_, _≤_}
 use mathlib.Core.Path.{_≡_, refl, sym, ap, _∙_}
-use mathlib.Core.Bool.{Bool, cond, _||_}
+use mathlib.Core.Bool.{cond, _||_}
 use mathlib.Core.List.{List, []}
-use lib.Dec.{ltb, eqb}
+use lib.Dec.{eqb}
 use native.Mathlib.Omega.{arith}
 use borrow.Author.Tests.{lt-ltb, le-ltb, eqb-true}
-use Rattle.answer.specs.Answer.{Verdict, numbered, inNumbers, tooLong}
+use Rattle.answer.specs.Answer.{numbered, inNumbers, tooLong}
 use Rattle.answer.specs.declared.Answer.{Answer}
 use Rattle.answer.proofs.Below.{allBelow, below}
 use Rattle.ledger.specs.Page.{State, stateOf, Outcome, leaves, keeps}

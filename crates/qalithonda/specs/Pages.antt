@@ -1,6 +1,6 @@
 -- The page as it crosses to C: its kind is a number, 0 UTF-7 header, 1 UTF-7 body, 2 JP-2.
 use Prim.Native.Nat.{ℕ}
-use mathlib.Core.Bool.{Bool, cond, _||_}
+use mathlib.Core.Bool.{cond, _||_}
 use mathlib.Core.List.{List, []}
 use lib.Dec.{ltb, eqb}
 use Rattle.answer.specs.Answer.{Verdict, numbered, tooLong}

@@ -1,21 +1,21 @@
 -- Reading into an output: the loop that fills it, and the ways that the whole call goes. Assumes nothing.
 use Prim.Native.Nat.{ℕ, _+_, _<_, _≤_}
-use mathlib.Core.Path.{_≡_, refl, sym, ap, _∙_}
+use mathlib.Core.Path.{_≡_, refl, ap}
 use mathlib.Core.Bool.{true, false}
-use mathlib.Core.List.{List, [], _∷_}
+use mathlib.Core.List.{List}
 use native.Mathlib.Omega.{arith}
 use lib.ListN.{length, getD, drop, set}
 use lib.Dec.{ltb}
 use borrow.Author.Tests.{lt-ltb, le-ltb}
 use Rattle.answer.specs.Answer.{Verdict, numbered, numberOf, inNumbers, limit, tooLong}
-use Rattle.answer.specs.Output.{Outcome, leaves, refusing, filled, deliver}
+use Rattle.answer.specs.Output.{leaves, filled, deliver}
 use Rattle.answer.specs.declared.Answer.{Answer}
 use Rattle.answer.specs.declared.Answer.the-variants.{Accepted, Refused}
 use Rattle.answer.specs.declared.Refusal.{Refusal}
 use Rattle.answer.specs.declared.Refusal.the-variants.{NoRoom}
 use Rattle.answer.proofs.Once.{number-pos}
 use Rattle.answer.proofs.Put.{Put, put-start, put-as, put-lt, put-next, put-done}
-use Rattle.reading.specs.Reading.{Does, give, go, bad, Ending, accepted, fault, Rule, Reading, onRead, closing, verdictOf, onEnding, readFrom, reading, readInto}
+use Rattle.reading.specs.Reading.{give, go, bad, Ending, accepted, fault, Rule, Reading, closing, verdictOf, onEnding, readFrom, reading, readInto}
 use Rattle.reading.proofs.Laws.{Kept, SoundEnd, good-reading, read-by, read-end, Left, left-start, left-give, left-go}
 
 -- n cells of a text stand in an output that has room for all

@@ -1,15 +1,15 @@
 -- Reading a text byte by byte, by any rule: what a loop over its bytes keeps. Assumes nothing.
 use Prim.Native.Nat.{ℕ, _+_, _<_, _≤_}
-use mathlib.Core.Path.{_≡_, refl, sym, ap, _∙_}
+use mathlib.Core.Path.{_≡_, refl, ap, _∙_}
 use mathlib.Core.List.{List, [], _∷_}
 use native.Mathlib.Omega.{arith}
 use native.Mathlib.Numerals.{add-one}
 use lib.ListN.{length, getD, drop, length-drop, drop-of-length-le}
 use lib.Seq.{drop-cons}
-use Rattle.answer.specs.Answer.{Verdict, numbered}
+use Rattle.answer.specs.Answer.{numbered}
 use Rattle.answer.specs.Lists.{Each}
 use Rattle.answer.proofs.Put.{tail-at}
-use Rattle.reading.specs.Reading.{Does, give, go, bad, Ending, accepted, fault, Rule, Reading, push, onRead, closing, verdictOf, readFrom, reading}
+use Rattle.reading.specs.Reading.{Does, give, go, bad, Ending, accepted, fault, Rule, Reading, onRead, closing, verdictOf, readFrom, reading}
 
 -- what a rule keeps: the start is sound, a byte goes from sound to sound and gives a good cell, and no fault has the number 0
 abbrev pub SoundDoes : {S : Type 0} → (S → Type 0) → (ℕ → Type 0) → Does S → Type 0

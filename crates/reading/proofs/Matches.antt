@@ -14,7 +14,7 @@ use Rattle.answer.specs.declared.Answer.{Answer}
 use Rattle.answer.specs.declared.Answer.the-variants.{Accepted, Refused}
 use Rattle.answer.specs.declared.Refusal.{Refusal}
 use Rattle.answer.proofs.Once.{number-pos}
-use Rattle.reading.specs.Reading.{Does, give, go, bad, Ending, accepted, fault, Rule, Reading, closing, readFrom, reading}
+use Rattle.reading.specs.Reading.{give, go, bad, Ending, accepted, fault, Rule, Reading, closing, readFrom, reading}
 use Rattle.reading.specs.Matching.{sameCells, acceptedAs, gave, readsAs}
 use Rattle.reading.proofs.Laws.{SoundEnd, read-by, read-end}
 

@@ -1,7 +1,6 @@
 -- Stepping through a text, by any rule. Assumes nothing.
 use Prim.Native.Nat.{ℕ, zero, suc, _+_, _-_, _<_, _≤_}
-use mathlib.Core.Path.{_≡_, refl, sym, ap, _∙_}
-use mathlib.Core.Bool.{true, false}
+use mathlib.Core.Path.{_≡_, refl, ap}
 use mathlib.Core.List.{List, [], _∷_}
 use native.Mathlib.Omega.{arith}
 use native.Mathlib.Nat.{add-zero, add-suc}
@@ -10,10 +9,10 @@ use lib.ListN.{length, getD, drop, length-drop, drop-of-length-le}
 use lib.Seq.{drop-cons}
 use lib.Dec.{ltb}
 use borrow.Author.Tests.{lt-ltb, le-ltb}
-use Rattle.answer.specs.Answer.{Verdict, numbered, limit, tooLong}
+use Rattle.answer.specs.Answer.{numbered, limit, tooLong}
 use Rattle.answer.proofs.Below.{cond-case}
 use Rattle.answer.proofs.Put.{head-at, tail-at}
-use Rattle.reading.specs.Reading.{Does, give, go, bad, Rule, Reading, closing, verdictOf, reading}
+use Rattle.reading.specs.Reading.{Does, give, go, bad, Rule, closing, verdictOf, reading}
 use Rattle.reading.specs.Stepping.{Spot, Next, cell, final, onNext, onSpot, nextFrom, nextAt, atStart, afterSteps}
 use Rattle.reading.proofs.Laws.{Kept, SoundDoes, Left, left-start, left-cell, left-more, left-give, left-go, left-bad, left-end}
 

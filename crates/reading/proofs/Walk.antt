@@ -1,11 +1,11 @@
 -- Bytes that lead from one state to another and give some cells, with no fault. Assumes nothing.
 use Prim.Native.Nat.{ℕ, _+_}
-use mathlib.Core.Path.{_≡_, refl, sym, ap, _∙_}
+use mathlib.Core.Path.{_≡_, refl, ap}
 use mathlib.Core.List.{List, [], _∷_, _++_, append-nil}
 use native.Mathlib.Omega.{arith}
 use native.Mathlib.Nat.{zero-add}
 use lib.ListN.{length}
-use Rattle.reading.specs.Reading.{Does, give, go, bad, Ending, accepted, fault, Rule, Reading, push, onRead, readFrom, reading}
+use Rattle.reading.specs.Reading.{Does, give, go, bad, accepted, fault, Rule, Reading, push, onRead, readFrom, reading}
 
 pub data Walk {S : Type 0} (rule : Rule S) : S → List ℕ → List ℕ → S → Type 0 where
   stay : {st : S} → Walk rule st [] [] st

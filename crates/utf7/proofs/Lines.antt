@@ -1,21 +1,18 @@
 -- What is written is outside a run after each CR or LF and at its end. Assumes nothing.
 use Prim.Native.Nat.{ℕ, _<_}
 use mathlib.Core.Path.{_≡_, refl, sym, _∙_}
-use mathlib.Core.Bool.{Bool, true, false, true≢false, not}
-use mathlib.Core.List.{List, [], _∷_, _++_, map, append-assoc}
-use lib.Dec.{lit<}
+use mathlib.Core.Bool.{true, false, true≢false, not}
+use mathlib.Core.List.{List, [], _∷_, _++_, map}
 use borrow.Author.Tests.{not-true}
 use Rattle.answer.specs.Lists.{Each}
 use Rattle.answer.proofs.Below.{allBelow, below}
-use Rattle.bits.specs.Bits.{bitsOf}
 use Rattle.base64.specs.Letters.{letterOf}
-use Rattle.reading.specs.Reading.{Does, give, go, bad}
 use Rattle.reading.proofs.Walk.{Walk, stay, gives, goes}
-use Rattle.utf7.specs.Rule.{Shift, outside, byteDoes, utf7}
+use Rattle.utf7.specs.Rule.{Shift, outside, utf7}
 use Rattle.utf7.specs.Writing.{IsUnit, Piece, self, sign, stretch, pieces, letters, spell, spellAll, writing}
-use Rattle.utf7.specs.Lines.{lineEnd, OnLine, LinesClosed}
+use Rattle.utf7.specs.Lines.{lineEnd, LinesClosed}
 use Rattle.utf7.specs.declared.Style.{Style}
-use Rattle.utf7.proofs.Round.{Good, AllGood, unitsOf, xs, xs-below, self-walk, piece-walk, pieces-good}
+use Rattle.utf7.proofs.Round.{Good, AllGood, xs, xs-below, self-walk, piece-walk, pieces-good}
 
 -- bytes that end no line
 abbrev Inner : List ℕ → Type 0

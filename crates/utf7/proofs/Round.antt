@@ -1,7 +1,7 @@
 -- Reading goes through what is written, unit by unit, and is outside a run at its end. Assumes nothing.
-use Prim.Native.Nat.{ℕ, zero, suc, _+_, _/_, _^_, _<_, _≤_}
-use mathlib.Core.Path.{_≡_, refl, sym, ap, subst, _∙_}
-use mathlib.Core.Bool.{Bool, true, false, cond}
+use Prim.Native.Nat.{ℕ, _+_, _/_, _<_, _≤_}
+use mathlib.Core.Path.{_≡_, refl, sym, ap, _∙_}
+use mathlib.Core.Bool.{Bool, true, false}
 use mathlib.Core.List.{List, [], _∷_, _++_, append-assoc, append-nil, map}
 use native.Mathlib.Omega.{arith}
 use lib.ListN.{length, take, drop, length-append, length-drop, length-map, take-append-drop}
@@ -10,12 +10,12 @@ use lib.Dec.{ltb, eqb, lit<}
 use borrow.Author.Tests.{ltb-true, ltb-false, eqb-true, lt-ltb}
 use Rattle.answer.specs.Lists.{Each}
 use Rattle.answer.proofs.Below.{cond-case}
-use Rattle.bits.specs.Bits.{bits, number, allZero, bitsOf, full, leftOver, filler}
+use Rattle.bits.specs.Bits.{bits, allZero, bitsOf, full, leftOver, filler}
 use Rattle.bits.proofs.Bits.{length-bits}
 use Rattle.bits.proofs.Groups.{length-bitsOf, length-groups, full-few, left-few, full-more, left-more, full-bits, left-bits, bits-groups, groups-below, filler-few, filler-zero, filler-full}
 use Rattle.base64.specs.Letters.{valueOf, setB, letterOf}
 use Rattle.base64.proofs.Letters.{value-letter, value-low}
-use Rattle.reading.specs.Reading.{Does, give, go, bad, accepted, reading}
+use Rattle.reading.specs.Reading.{give, go, accepted, reading}
 use Rattle.reading.proofs.Walk.{Walk, stay, gives, goes, walk-on, walk-whole}
 use Rattle.utf7.specs.Sets.{direct, own}
 use Rattle.utf7.specs.Rule.{Shift, outside, opening, run, outsideDoes, unitDoes, endDoes, lowDoes, byteDoes, endsIn, utf7}

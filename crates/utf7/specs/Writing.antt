@@ -2,7 +2,6 @@
 use Prim.Native.Nat.{ℕ, suc, _<_, _^_}
 use mathlib.Core.Bool.{Bool, cond}
 use mathlib.Core.List.{List, [], _∷_, _++_, map}
-use lib.ListN.{length}
 use lib.Dec.{ltb, eqb}
 use Rattle.answer.specs.Output.{Outcome, written}
 use Rattle.bits.specs.Bits.{bitsOf, full, filler}

@@ -1,6 +1,4 @@
-use Prim.Native.Nat.{ℕ}
 use mathlib.Core.Path.{sym}
-use native.Mathlib.Omega.{arith}
 use Rattle.base64.specs.Letters.{valueOf}
 use Rattle.base64.proofs.Letters.{value-capital, value-small, value-digit, value-low-gap, value-middle-gap, value-high-gap, value-past}
 use borrow.Author.Needs.{needs}

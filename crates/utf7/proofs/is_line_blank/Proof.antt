@@ -1,12 +1,5 @@
-use Prim.Native.Nat.{ℕ}
-use mathlib.Core.Path.{_≡_, refl, sym, _∙_}
 use mathlib.Core.Bool.{or-false}
 use borrow.Author.Tests.{ne-eqb}
-use native.Mathlib.Omega.{arith}
-use Rattle.answer.proofs.Below.{allBelow}
-use Rattle.utf7.specs.declared.Style.the-variants.{Header, Body}
-use Rattle.utf7.specs.Sets.{own, direct, setD, setO, alphanumeric}
-use Rattle.utf7.proofs.Sets.{own-range, own-past, own-low}
 use Rattle.utf7.proofs.is_line_blank.Statement.{statement}
 use Rattle.utf7.proofs.is_line_blank.Tie as tie
 

@@ -1,11 +1,4 @@
-use Prim.Native.Nat.{ℕ}
-use mathlib.Core.Path.{_≡_, refl, sym, _∙_}
-use mathlib.Core.Bool.{true, false}
-use native.Mathlib.Omega.{arith}
-use Rattle.answer.proofs.Below.{allBelow}
-use Rattle.utf7.specs.declared.Style.the-variants.{Header, Body}
-use Rattle.utf7.specs.Sets.{own, direct, setD, setO, alphanumeric}
-use Rattle.utf7.proofs.Sets.{own-range, own-past, own-low}
+use Rattle.utf7.specs.Sets.{own}
 use borrow.Author.Needs.{needs}
 use Rattle.utf7.proofs.is_own.Statement.{statement}
 use Rattle.utf7.proofs.is_own.Tie as tie
