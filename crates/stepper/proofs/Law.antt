@@ -1,0 +1,84 @@
+-- Stepping from the start gives exactly the cells of the reading, in order, then for ever its answer; in any format. Assumes nothing.
+use Prim.Native.Nat.{ℕ, zero, suc, _≤_}
+use mathlib.Core.Path.{_≡_, refl, sym, ap, _∙_}
+use mathlib.Core.Bool.{Bool, true, false, cond}
+use mathlib.Core.List.{List}
+use native.Mathlib.Omega.{arith}
+use lib.ListN.{length}
+use lib.Dec.{ltb}
+use denote.Ref.{RefT, now}
+use borrow.Author.Tests.{le-ltb, ltb-true, ltb-false}
+use Rattle.answer.specs.Answer.{limit, tooLong}
+use Rattle.answer.specs.Output.{refusing, deliver}
+use Rattle.reading.specs.Reading.{Ending, accepted, fault, Rule, verdictOf, closing, onEnding, reading, readInto}
+use Rattle.reading.specs.Stepping.{Next, cell, final, onward, onSpot, atStart, afterSteps}
+use Rattle.reading.proofs.Cursors.{Cursors, stepFor, cursorAfter, step-cell, step-final, step-over}
+use Rattle.utf7_read.proofs.Nth.{utf7-cursors}
+use Rattle.jp2_read.proofs.Nth.{jp2-cursors}
+use Rattle.stepper.specs.Stepper.{Gift, gift, startOf, stepOf, givenBy, readerAfter, readingOf, answerOf, nthGift}
+use Rattle.codec.specs.declared.Format.{Format}
+use Rattle.codec.specs.declared.Format as format
+use Rattle.stepper.specs.declared.Place.{Place}
+use Rattle.stepper.specs.declared.Place.the-variants.{Utf7, Jp2}
+use Rattle.stepper.specs.declared.Reader.{Reader}
+
+onward-place : {C : Type 0} (f : C → Place) (x : Next C) (c : C) → onSpot (onward f x) (f c) ≡ f (onSpot x c)
+onward-place f (cell v next) c = refl
+onward-place f (final answer) c = refl
+
+gift-onward : {C : Type 0} (f : C → Place) (x : Next C) → gift (onward f x) ≡ gift x
+gift-onward f (cell v next) = refl
+gift-onward f (final answer) = refl
+
+none-left : (n : ℕ) (v : Gift) {answer : Gift} → cond (ltb n 0) v answer ≡ answer
+none-left n v = rw (le-ltb n 0 (omega arith))
+
+-- a format whose places are some cursors: it starts at their start, and steps from a place are steps from its cursor
+module _ {S C : Type 0} {rule : Rule S} (cs : Cursors rule C) (place : C → Place) (f : Format) (starts : startOf f ≡ place (cs .cursor (atStart rule)))
+    (steps : (text : List ℕ) (c : C) → stepOf text (place c) ≡ onward place (stepFor cs text c)) (text : RefT (List ℕ)) where
+  abbrev standing : ℕ → Reader
+  standing n = record { text = text; place = place (cursorAfter cs (now text) n) }
+
+  reader-stands : (n : ℕ) → readerAfter text f n ≡ standing n
+  unfolding readerAfter cursorAfter afterSteps
+  reader-stands zero = rw starts
+  reader-stands (suc n) =
+      let c = cursorAfter cs (now text) n in
+      rw (reader-stands n, steps (now text) c) (ap (λ p. record { text = text; place = p }) (onward-place place (stepFor cs (now text) c) c))
+
+  nth : (n : ℕ) (over more : Bool) → ltb limit (length (now text)) ≡ over → ltb n (length (reading rule (now text) .cells)) ≡ more →
+      gift (stepFor cs (now text) (cursorAfter cs (now text) n)) ≡ nthGift (now text) (reading rule (now text)) n
+  nth n true more e k = rw e (ap gift (step-over cs (now text) (ltb-true _ _ e) _) ∙ sym (none-left n _))
+  nth n false true e k = rw (e, k) (ap gift (step-cell cs (now text) (ltb-false _ _ e) n (ltb-true _ _ k)))
+  nth n false false e k = rw (e, k) (ap gift (step-final cs (now text) (ltb-false _ _ e) n (ltb-false _ _ k)))
+
+  nth-given : (n : ℕ) → givenBy (readerAfter text f n) ≡ nthGift (now text) (reading rule (now text)) n
+  nth-given n =
+      let c = cursorAfter cs (now text) n in
+      rw (reader-stands n, steps (now text) c, gift-onward place (stepFor cs (now text) c)) (nth n _ _ refl refl)
+
+-- the n-th step from `new` gives the n-th cell, and after the cells the answer, for ever
+pub nth-step : (text : RefT (List ℕ)) (f : Format) (n : ℕ) → givenBy (readerAfter text f n) ≡ nthGift (now text) (readingOf f (now text)) n
+nth-step text format.the-variants.Utf7 = nth-given utf7-cursors Utf7 format.the-variants.Utf7 refl (λ _ _. refl) text
+nth-step text format.the-variants.Jp2 = nth-given jp2-cursors Jp2 format.the-variants.Jp2 refl (λ _ _. refl) text
+
+-- and the text stays what it was
+pub text-stays : (text : RefT (List ℕ)) (f : Format) (n : ℕ) → readerAfter text f n .text ≡ text
+unfolding readerAfter
+text-stays text f zero = refl
+text-stays text f (suc n) = text-stays text f n
+
+-- that answer is what reading the whole text into an output with room enough gives
+module _ {S : Type 0} (rule : Rule S) (text out : List ℕ) where
+  delivers : (e : Ending) (cells : List ℕ) → length cells ≤ length out → onEnding e cells out .verdict ≡ closing e (length cells)
+  unfolding deliver
+  delivers accepted cells h = rw (le-ltb (length out) (length cells) h)
+  delivers (fault k place) cells h = refl
+
+  pub room-enough : length (reading rule text .cells) ≤ length out → readInto rule text out .verdict ≡ answerOf text (reading rule text)
+  unfolding readInto
+  room-enough h = over (ltb limit (length text))
+    where
+      over : (t : Bool) → cond t (refusing tooLong out) (onEnding (reading rule text .ending) (reading rule text .cells) out) .verdict ≡ cond t tooLong (verdictOf (reading rule text))
+      over true = refl
+      over false = delivers (reading rule text .ending) (reading rule text .cells) h

@@ -1,0 +1,81 @@
+-- What a step of a reader that holds its text gives, and the reader after it, in either format.
+use Prim.Native.Nat.{ℕ, zero, suc}
+use mathlib.Core.Bool.{cond}
+use mathlib.Core.List.{List, []}
+use lib.ListN.{length, getD}
+use lib.Dec.{ltb}
+use denote.Ref.{RefT, now}
+use Rattle.answer.specs.Answer.{Verdict, inNumbers, limit, tooLong}
+use Rattle.reading.specs.Reading.{Reading, verdictOf, reading}
+use Rattle.reading.specs.Stepping.{Next, cell, final, onward, onSpot, atStart}
+use Rattle.utf7.specs.Rule.{utf7}
+use Rattle.utf7_read.specs.Cursor as u
+use Rattle.jp2.specs.Rule.{jp2}
+use Rattle.jp2_read.specs.Cursor as j
+use Rattle.codec.specs.declared.Format.{Format}
+use Rattle.codec.specs.declared.Format as format
+use Rattle.stepper.specs.declared.Place.{Place}
+use Rattle.stepper.specs.declared.Place.the-variants.{Utf7, Jp2}
+use Rattle.stepper.specs.declared.Handed.{Handed}
+use Rattle.stepper.specs.declared.Handed.the-variants.{Cell, Final}
+use Rattle.stepper.specs.declared.Reader.{Reader}
+
+-- what a step hands out: a cell, or the answer of the whole reading, as document 01 numbers it
+pub data Gift : Type 0 where
+  aCell : ℕ → Gift
+  theAnswer : Verdict → Gift
+
+abbrev pub told : Handed → Gift
+told (Cell v) = aCell v
+told (Final answer) = theAnswer (inNumbers answer)
+
+abbrev pub gift : {P : Type 0} → Next P → Gift
+gift (cell v p) = aCell v
+gift (final verdict) = theAnswer verdict
+
+abbrev pub startOf : Format → Place
+startOf format.the-variants.Utf7 = Utf7 (u.cursorOf (atStart utf7))
+startOf format.the-variants.Jp2 = Jp2 (j.cursorOf (atStart jp2))
+
+-- the step from any place
+abbrev pub stepOf : List ℕ → Place → Next Place
+stepOf text (Utf7 c) = onward Utf7 (u.stepOf text c)
+stepOf text (Jp2 c) = onward Jp2 (j.stepOf text c)
+
+abbrev pub givenAt : List ℕ → Place → Gift
+givenAt text p = gift (stepOf text p)
+
+-- behind the cell, or the same place where the answer was given
+abbrev pub placeAfter : List ℕ → Place → Place
+placeAfter text p = onSpot (stepOf text p) p
+
+-- a reader at the start of a text, what its step gives, and the reader after it: the same text, at the next place
+abbrev pub opened : RefT (List ℕ) → Format → Reader
+opened text f = record { text = text; place = startOf f }
+
+abbrev pub givenBy : Reader → Gift
+givenBy r = givenAt (now (r .text)) (r .place)
+
+abbrev pub movedOf : Reader → Reader
+movedOf r = record { text = r .text; place = placeAfter (now (r .text)) (r .place) }
+
+-- the reader after some steps from the start of a text
+unfoldable pub readerAfter : RefT (List ℕ) → Format → ℕ → Reader
+readerAfter text f zero = opened text f
+readerAfter text f (suc n) = movedOf (readerAfter text f n)
+
+abbrev pub readingOf : Format → List ℕ → Reading
+readingOf format.the-variants.Utf7 text = reading utf7 text
+readingOf format.the-variants.Jp2 text = reading jp2 text
+
+-- "Each step hands out the next cell complete before the first fault", and of a text over the limit none;
+abbrev pub cellsOf : List ℕ → Reading → List ℕ
+cellsOf text r = cond (ltb limit (length text)) [] (r .cells)
+
+-- "after those, and at once for 16, every step gives the answer of reading the whole text with room enough"
+abbrev pub answerOf : List ℕ → Reading → Verdict
+answerOf text r = cond (ltb limit (length text)) tooLong (verdictOf r)
+
+-- what the n-th step gives, counted from 0
+abbrev pub nthGift : List ℕ → Reading → ℕ → Gift
+nthGift text r n = cond (ltb n (length (cellsOf text r))) (aCell (getD (cellsOf text r) n 0)) (theAnswer (answerOf text r))
