@@ -1,17 +1,20 @@
 -- What one function after another puts into an output: the first part, the parts of a line, the lines of a listing. Assumes nothing.
 use Prim.Native.Nat.{ℕ, _+_, _-_, _*_, _≤_}
-use mathlib.Core.Path.{_≡_, sym, ap, _∙_}
+use mathlib.Core.Path.{_≡_, refl, sym, ap, _∙_}
+use mathlib.Core.Bool.{cond}
 use mathlib.Core.List.{List, [], _∷_, _++_, append-assoc, append-nil}
 use native.Mathlib.Omega.{arith}
 use lib.ListN.{length, take, drop, length-append, length-drop}
 use lib.Seq.{take-at, drop-at}
+use lib.Dec.{eqb}
 use borrow.Rule.Slice.PartMut.{putMid}
 use borrow.Author.Tests.{eq-eqb, ne-eqb}
 use Rattle.answer.specs.Answer.{numbered}
 use Rattle.answer.specs.Output.{filled}
+use Rattle.answer.proofs.Below.{cond-case}
 use Rattle.answer.proofs.Put.{Put, put-as, put-lent-room, put-lent}
-use Rattle.listing.specs.Listing.{decimal, spaced, statusName, countName, placeName, cellsName, line, listing}
-use Rattle.listing.proofs.Digits.{length-spaced}
+use Rattle.listing.specs.Listing.{decimal, spaced, statusName, countName, placeName, cellsName, line, answerLines, listing}
+use Rattle.listing.proofs.Digits.{decimal-few, length-spaced}
 
 -- a part that was put at the front
 pub put-first :
@@ -57,28 +60,36 @@ module _ (name said : List ℕ) where
       (at ≡ length (name ++ 61 ∷ [])) × (out' ≡ filled (name ++ 61 ∷ []) out) → Put (line name said) out out' at (said ++ 10 ∷ [])
   line-named h e = put-first (name ++ 61 ∷ []) (said ++ 10 ∷ []) (sym (append-assoc name (61 ∷ []) (said ++ 10 ∷ []))) h e
 
-module _ (number place : ℕ) (cells : List ℕ) where
-  -- the lines of a refusal, of an accepted text, and their sizes
-  pub refused-lines :
-      (number ≡ 0 → ⊥) → listing (numbered number place) cells ≡ line statusName (decimal number) ++ line placeName (decimal place)
-  unfolding listing
-  refused-lines h = rw (ne-eqb number 0 h)
+-- what an answer calls its count or place
+abbrev pub nameOf : ℕ → List ℕ
+nameOf number = cond (eqb number 0) countName placeName
 
-  pub accepted-lines :
-      number ≡ 0 →
-      listing (numbered number place) cells
-      ≡ line statusName (decimal number) ++ (line countName (decimal place) ++ line cellsName (drop 1 (spaced cells)))
-  unfolding listing
-  accepted-lines h = rw (eq-eqb number 0 h)
+pub name-size : (number : ℕ) → length (nameOf number) ≡ 5
+name-size number = cond-case (λ (name : List ℕ). length name ≡ 5) (eqb number 0) (λ _. refl) (λ _. refl)
 
-  pub status-fits : length (line statusName (decimal number)) ≤ length (listing (numbered number place) cells)
-  unfolding listing
-  status-fits = simp length-append (omega arith)
+module _ (number place : ℕ) where
+  -- the lines of an answer, and their size
+  pub answer-lines : answerLines (numbered number place) ≡ line statusName (decimal number) ++ line (nameOf number) (decimal place)
+  unfolding answerLines
+  answer-lines = refl
 
-  pub refused-size : (number ≡ 0 → ⊥) → length (listing (numbered number place) cells) ≡ length (decimal number) + length (decimal place) + 15
-  refused-size h = ap length (refused-lines h) ∙ simp length-append (omega arith)
+  pub answer-length : length (answerLines (numbered number place)) ≡ length (decimal number) + length (decimal place) + 15
+  answer-length = ap length answer-lines ∙ simp (length-append, name-size) (omega arith)
 
-  pub accepted-size :
-      number ≡ 0 →
-      length (listing (numbered number place) cells) ≡ length (decimal number) + length (decimal place) + 22 + (9 * length cells - 1)
-  accepted-size h = ap length (accepted-lines h) ∙ simp (length-append, length-drop, length-spaced) (omega arith)
+  pub answer-few : length (answerLines (numbered number place)) ≤ 55
+  answer-few = omega (arith, answer-length, decimal-few 20 number, decimal-few 20 place)
+
+  module _ (cells : List ℕ) where
+    -- the lines of a listing, and their size
+    pub refused-lines : (number ≡ 0 → ⊥) → listing (numbered number place) cells ≡ answerLines (numbered number place)
+    unfolding listing
+    refused-lines h = rw (ne-eqb number 0 h, append-nil)
+
+    pub accepted-lines :
+        number ≡ 0 → listing (numbered number place) cells ≡ answerLines (numbered number place) ++ line cellsName (drop 1 (spaced cells))
+    unfolding listing
+    accepted-lines h = rw (eq-eqb number 0 h)
+
+    pub accepted-size :
+        number ≡ 0 → length (listing (numbered number place) cells) ≡ length (answerLines (numbered number place)) + 7 + (9 * length cells - 1)
+    accepted-size h = ap length (accepted-lines h) ∙ simp (length-append, length-drop, length-spaced) (omega arith)

@@ -48,12 +48,18 @@ cellsName = 99 ∷ 101 ∷ 108 ∷ 108 ∷ 115 ∷ []
 abbrev pub line : List ℕ → List ℕ → List ℕ
 line name said = name ++ (61 ∷ (said ++ 10 ∷ []))
 
+-- an answer: its number, then its count or place
+unfoldable pub answerLines : Verdict → List ℕ
+answerLines v =
+    line statusName (decimal (v .number)) ++ line (cond (eqb (v .number) 0) countName placeName) (decimal (v .place))
+
+-- an answer, and the cells where it is accepted
 unfoldable pub listing : Verdict → List ℕ → List ℕ
-listing v cells =
-    line statusName (decimal (v .number))
-    ++ cond (eqb (v .number) 0)
-    (line countName (decimal (v .place)) ++ line cellsName (drop 1 (spaced cells)))
-    (line placeName (decimal (v .place)))
+listing v cells = answerLines v ++ cond (eqb (v .number) 0) (line cellsName (drop 1 (spaced cells))) []
+
+-- an answer goes into an output: 9 where it does not fit
+unfoldable pub tellInto : Verdict → List ℕ → Outcome
+tellInto v out = deliver (answerLines v) out
 
 -- the listing goes into an output: 16 for too many cells, then 9
 unfoldable pub listInto : Verdict → List ℕ → List ℕ → Outcome

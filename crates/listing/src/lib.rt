@@ -7,7 +7,7 @@ ghost use Prim.Native.Nat.{_<_, _≤_};
 ghost use lib.ListN.{length, drop};
 ghost use Rattle.answer.specs.Answer.{limit, numbered, inNumbers};
 ghost use Rattle.answer.specs.Output.{leaves, filled};
-ghost use Rattle.listing.specs.Listing.{digit, decimal, hexIn, spaced, line, cellsName, listing, listInto};
+ghost use Rattle.listing.specs.Listing.{digit, decimal, hexIn, spaced, line, cellsName, answerLines, listing, tellInto, listInto};
 
 fn digit_of(d: u32) -> u8
     requires { ⌜ d < 16 ⌝ }
@@ -128,13 +128,31 @@ fn put_row(cells: &[u32], out: &mut [u8])
     out[at] = b'\n';
 }
 
+// The bytes that an answer needs.
+fn answer_size(number: usize, place: usize) -> usize
+    ensures { λ r. ⌜ r ≡ length (answerLines (numbered number place)) ⌝ }
+{
+    // a line has a name, '=' and LF beside what it says
+    places(number) + places(place) + 15
+}
+
+// An answer goes to the front of the output.
+fn put_answer(number: usize, place: usize, out: &mut [u8]) -> usize
+    requires { ⌜ length (answerLines (numbered number place)) ≤ length (now out) ⌝ }
+    ensures { λ r. ⌜ (r ≡ length (answerLines (numbered number place)))
+        × (now (out .exit) ≡ filled (answerLines (numbered number place)) (now (out .entry))) ⌝ }
+{
+    let at = put_number(b"status", number, out);
+    let name = if number == 0 { *b"count" } else { *b"place" };
+    at + put_number(&name, place, &mut out[at..])
+}
+
 // The bytes that a listing needs.
 fn size(number: usize, place: usize, cells: &[u32]) -> usize
     requires { ⌜ length (now cells) ≤ limit ⌝ }
     ensures { λ r. ⌜ r ≡ length (listing (numbered number place) (now (cells .entry))) ⌝ }
 {
-    // a line has a name, '=' and LF beside what it says
-    let numbers = places(number) + places(place) + 15;
+    let numbers = answer_size(number, place);
     if number != 0 {
         return numbers;
     }
@@ -150,13 +168,24 @@ fn put_listing(number: usize, place: usize, cells: &[u32], out: &mut [u8])
     requires { ⌜ length (listing (numbered number place) (now cells)) ≤ length (now out) ⌝ }
     ensures { λ _. ⌜ now (out .exit) ≡ filled (listing (numbered number place) (now (cells .entry))) (now (out .entry)) ⌝ }
 {
-    let at = put_number(b"status", number, out);
-    if number != 0 {
-        put_number(b"place", place, &mut out[at..]);
-        return;
+    let at = put_answer(number, place, out);
+    if number == 0 {
+        put_row(cells, &mut out[at..]);
     }
-    let from = at + put_number(b"count", place, &mut out[at..]);
-    put_row(cells, &mut out[from..]);
+}
+
+// Spells an answer alone into an output.
+pub fn tell(given: Answer, out: &mut [u8]) -> Answer
+    ensures { λ r. ⌜ leaves r (now (out .exit)) ≡ tellInto (inNumbers given) (now (out .entry)) ⌝ }
+{
+    let number = answer::number(given) as usize;
+    let place = answer::place(given);
+    let need = answer_size(number, place);
+    if out.len() < need {
+        return Answer::Refused(Refusal::NoRoom, need);
+    }
+    put_answer(number, place, out);
+    Answer::Accepted(need)
 }
 
 // Spells an answer, and the cells where it is accepted, into an output.

@@ -4,28 +4,21 @@ use lib.ListN.{length}
 use lib.Dec.{ltb}
 use denote.Ref.{now}
 use borrow.Author.Tests.{ltb-false, lt-ltb, le-ltb}
-use Rattle.answer.specs.Answer.{limit, inNumbers}
-use Rattle.answer.specs.Output.{deliver, filled}
-use Rattle.listing.specs.Listing.{listing, listInto}
+use Rattle.answer.specs.Answer.{limit, numbered, inNumbers}
+use Rattle.answer.specs.Output.{deliver}
+use Rattle.listing.specs.Listing.{listInto}
 use borrow.Author.Needs.{needs}
 use Rattle.listing.proofs.list.Statement.{statement}
 use Rattle.listing.proofs.list.Tie as tie
 
--- the cells are not too many; the size is the listing's, and so is what is written
+-- the cells are not too many; the answer's numbers
 within : (c : tie.Else1) → ltb limit (length (now (c .before .before .before .before .args .cells))) ≡ false
 within c = sym (c .before .over-limit .ensures) ∙ c .if1 .left
 
-sized :
-    (c : tie.After-size) → let a = c .before .before .before .before .before .before .before .args in
-    c .size .result ≡ length (listing (inNumbers (a .given)) (now (a .cells)))
-sized c = rw (c .before .before .number .ensures, c .before .place .ensures) at (c .size .ensures)
-
-written :
-    (c : tie.After-put-listing) → let a = c .before .before .before .before .before .before .before .before .before .before .args in
-    c .put-listing .last .1 .1 .1 .0 ≡ filled (listing (inNumbers (a .given)) (now (a .cells))) (now (a .out))
-written c =
-    let s = c .before .before .before in
-    rw (s .before .before .number .ensures, s .before .place .ensures) at (c .put-listing .ensures)
+numbers :
+    (c : tie.After-place) →
+    inNumbers (c .before .before .before .before .before .before .args .given) ≡ numbered (c .before .number .result) (c .place .result)
+numbers c = rw (c .before .number .ensures, c .place .ensures)
 
 over-limit-requires : tie.Need-over-limit-requires
 over-limit-requires c κs = search needs
@@ -51,7 +44,9 @@ size-requires c κs = ltb-false _ _ (within (c .before .before))
 
 returns-2 : tie.Need-returns-2
 unfolding listInto deliver
-returns-2 c = simp (within (c .before .before .before .before), sym (sized (c .before)), lt-ltb _ _ (c .if2 .taken))
+returns-2 c =
+    let s = c .before in
+    simp (within (s .before .before .before), numbers (s .before), sym (s .size .ensures), lt-ltb _ _ (c .if2 .taken))
 
 put-listing-requires : tie.Need-put-listing-requires
 put-listing-requires c κs = search needs
@@ -65,7 +60,7 @@ returns-3 c =
     let w = c .before .before in
     let g = w .before .before in
     let s = g .before in
-    simp (within (s .before .before .before), sym (sized s), le-ltb _ _ (g .if2 .left), written w)
+    simp (within (s .before .before .before), numbers (s .before), sym (s .size .ensures), le-ltb _ _ (g .if2 .left), w .put-listing .ensures)
 
 pub list-spec : {M : Type 1} → statement M
 list-spec =
