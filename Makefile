@@ -1,0 +1,57 @@
+# The library for hosts in other languages. The proofs, and the tests of the library itself, are the gate's: .ci/run.
+#
+#   make                      target/staticlib/libqalithonda.a and target/shared/libqalithonda.so
+#   make test-bindings        the C example, and the tests of the Rust and Python bindings
+#   make install PREFIX=..    the header and both libraries, in PREFIX/include and PREFIX/lib
+#   make clean                removes what make has built; what was proved stays
+
+PREFIX = /usr/local
+PYTHON = python3
+
+archive = target/staticlib/libqalithonda.a
+shared = target/shared/libqalithonda.so
+header = include/qalithonda.h
+sources = crates.txt $(shell find crates -name '*.rt' -o -name '*.antt')
+strict = -Wall -Wextra -pedantic -Werror -Iinclude
+
+.PHONY: library test-bindings test-c test-rust test-python install clean
+
+library: $(archive) $(shared)
+
+$(archive): $(sources)
+	rt staticlib qalithonda
+
+# The archive shows no other names than qalithonda_.., so neither does this.
+$(shared): $(archive)
+	mkdir -p $(@D)
+	$(CC) -shared -o $@ -Wl,-soname,$(@F) -Wl,--no-undefined -Wl,--whole-archive $< -Wl,--no-whole-archive
+
+test-bindings: test-c test-rust test-python
+
+# The example in C99, and in C++ where there is a compiler for it.
+test-c: examples/worked_page.c $(header) $(archive)
+	mkdir -p target/examples
+	$(CC) -std=c99 $(strict) $< $(archive) -o target/examples/worked_page
+	target/examples/worked_page >target/examples/worked_page.out
+	diff examples/worked_page.txt target/examples/worked_page.out
+	if command -v $(CXX) >/dev/null; then \
+	    $(CXX) -std=c++11 $(strict) -x c++ $< -x none $(archive) -o target/examples/worked_page_cxx && \
+	    target/examples/worked_page_cxx >target/examples/worked_page_cxx.out && \
+	    diff examples/worked_page.txt target/examples/worked_page_cxx.out; \
+	fi
+
+test-rust: $(archive)
+	QALITHONDA_LIB='$(CURDIR)/target/staticlib' cargo test --quiet --offline --locked \
+	    --manifest-path bindings/rust/Cargo.toml --target-dir target/bindings/rust
+
+test-python: $(shared)
+	QALITHONDA_LIB='$(CURDIR)/target/shared' $(PYTHON) -B -m unittest discover -s bindings/python
+
+install: library
+	install -d '$(DESTDIR)$(PREFIX)/include' '$(DESTDIR)$(PREFIX)/lib'
+	install -m 644 $(header) '$(DESTDIR)$(PREFIX)/include'
+	install -m 644 $(archive) '$(DESTDIR)$(PREFIX)/lib'
+	install -m 755 $(shared) '$(DESTDIR)$(PREFIX)/lib'
+
+clean:
+	rm -rf target/staticlib target/shared target/examples target/bindings

@@ -1,0 +1,438 @@
+"""UTF-7 (RFC 2152) and ISO-2022-JP-2 (RFC 1554), read, written, stepped through and edited, over libqalithonda.so.
+
+>>> from qalithonda import utf7, jp2
+>>> utf7.read(b"A+ImIDkQ.") == [0x41, 0x2262, 0x391, 0x2E]
+True
+>>> jp2.tally(jp2.read(b"a b"))
+[3, 0, 0, 0, 0, 0, 0, 0, 0]
+
+A refused call raises Refused and changes nothing. The library is looked for in the folder that the environment variable
+QALITHONDA_LIB names, or in ../../target/shared from here.
+"""
+
+import ctypes
+import enum
+import operator
+import os
+from array import array
+from pathlib import Path
+from typing import Iterable, List
+
+__all__ = ["LIMIT", "Kind", "Page", "Refusal", "Refused", "Steps", "jp2", "utf7"]
+
+#: The most bytes that a text may have, the most cells that a list or a page may have, and the most words of a history.
+LIMIT = 65536
+
+
+class Refusal(enum.IntEnum):
+    """Why a call was refused. What the place counts is said with each."""
+
+    HIGH_BYTE = 1  #: a byte of 128 or more: that byte
+    LONE_SIGN = 2  #: '+' followed by neither a Base64 letter nor '-': the byte that follows, or the text's length
+    STRAY_BYTE = 3  #: a byte that no rule allows there: that byte
+    LEFT_OVER_BITS = 4  #: left-over bits of a run not zero: the byte that ends the run, or the text's length
+    UNKNOWN_ESCAPE = 5  #: an escape neither ESC N nor a designation: the first byte that fits none
+    EMPTY_G2 = 6  #: ESC N with nothing in G2: the N
+    CUT_SHORT = 7  #: the text ends in an escape, in a pair or after ESC N: the text's length
+    NOT_ASCII = 8  #: the text ends with G0 not ASCII: the text's length
+    NO_ROOM = 9  #: too little room: the elements needed in all
+    UNWRITABLE = 10  #: a cell not writable in this kind: its index
+    BEYOND_LENGTH = 11  #: place plus count beyond the page's length: that length
+    HISTORY_FULL = 12  #: the step does not fit the history: the words needed in all
+    NOTHING_LEFT = 13  #: nothing to undo or redo: 0
+    UNSOUND = 14  #: the page is not sound: 0 (a Page always is)
+    NOT_THE_TEXT = 15  #: the arrived bytes do not read as the text: 0 (those of a Page always do)
+    OVER_LIMIT = 16  #: more than LIMIT elements: that limit
+
+
+_MESSAGES = {
+    Refusal.HIGH_BYTE: "the byte at {} is 128 or more",
+    Refusal.LONE_SIGN: "'+' is followed by neither a Base64 letter nor '-' at {}",
+    Refusal.STRAY_BYTE: "no rule allows the byte at {} there",
+    Refusal.LEFT_OVER_BITS: "the run that ends at {} has left-over bits that are not zero",
+    Refusal.UNKNOWN_ESCAPE: "the byte at {} fits no escape",
+    Refusal.EMPTY_G2: "ESC N at {} with nothing in G2",
+    Refusal.CUT_SHORT: "the text ends at {} in an escape, in a pair or after ESC N",
+    Refusal.NOT_ASCII: "the text ends at {} with G0 not ASCII",
+    Refusal.NO_ROOM: "too little room, {} elements are needed",
+    Refusal.UNWRITABLE: "the cell at {} is not writable in this kind",
+    Refusal.BEYOND_LENGTH: "place plus count is beyond the length, {}",
+    Refusal.HISTORY_FULL: "the step does not fit the history, {} words are needed",
+    Refusal.NOTHING_LEFT: "there is nothing to undo or redo",
+    Refusal.UNSOUND: "the page is not sound",
+    Refusal.NOT_THE_TEXT: "the arrived bytes do not read as the text",
+    Refusal.OVER_LIMIT: "there are more than {} elements",
+}
+
+
+class Refused(Exception):
+    """A refused call, with its number (also as a Refusal) and place.
+
+    >>> try:
+    ...     utf7.read(b"+AKN-")
+    ... except Refused as refused:
+    ...     print(refused.number, refused.place, refused.refusal.name)
+    ...     print(refused)
+    4 4 LEFT_OVER_BITS
+    refused with 4: the run that ends at 4 has left-over bits that are not zero
+    """
+
+    def __init__(self, number: int, place: int) -> None:
+        super().__init__(number, place)
+        self.number = number
+        self.place = place
+
+    @property
+    def refusal(self) -> Refusal:
+        return Refusal(self.number)
+
+    def __str__(self) -> str:
+        return "refused with {}: {}".format(self.number, _MESSAGES[self.refusal].format(self.place))
+
+
+# The C interface, as include/qalithonda.h declares it.
+
+_Byte, _Word, _Size = ctypes.c_uint8, ctypes.c_uint32, ctypes.c_size_t
+
+
+class _Numbers(ctypes.Structure):
+    _fields_ = [("number", _Word), ("place", _Size)]
+
+
+class _Page(ctypes.Structure):
+    _fields_ = [("kind", _Word), ("opening", _Size), ("length", _Size), ("used", _Size), ("done", _Size)]
+
+
+class _Edited(ctypes.Structure):
+    _fields_ = [("answer", _Numbers), ("page", _Page)]
+
+
+class _Utf7Cursor(ctypes.Structure):
+    _fields_ = [("at", _Size), ("handed", _Size), ("shift", _Word), ("pending", _Word), ("value", _Word)]
+
+
+class _Utf7Stepped(ctypes.Structure):
+    _fields_ = [("given", _Word), ("cell", _Word), ("answer", _Numbers), ("next", _Utf7Cursor)]
+
+
+class _Jp2Cursor(ctypes.Structure):
+    _fields_ = [
+        ("at", _Size),
+        ("handed", _Size),
+        ("g0", ctypes.c_uint16),
+        ("g2", ctypes.c_uint16),
+        ("phase", _Byte),
+        ("first", _Byte),
+        ("second", _Byte),
+    ]
+
+
+class _Jp2Stepped(ctypes.Structure):
+    _fields_ = [("given", _Word), ("cell", _Word), ("answer", _Numbers), ("next", _Jp2Cursor)]
+
+
+def _load():
+    folder = os.environ.get("QALITHONDA_LIB") or Path(__file__).resolve().parent / "../../target/shared"
+    file = Path(folder, "libqalithonda.so").resolve()
+    if not file.exists():
+        raise ImportError(
+            "{} is not there: run `make` in the root of Qalithonda's repository, "
+            "or set QALITHONDA_LIB to the folder that has libqalithonda.so".format(file)
+        )
+    # Unlike CDLL this keeps the interpreter's lock: calls are short, and no other thread can change what they are lent.
+    return ctypes.PyDLL(str(file))
+
+
+_library = _load()
+_BYTES = (ctypes.c_char_p, _Size)
+_OUT = (ctypes.POINTER(_Byte), _Size)
+_WORDS = (ctypes.POINTER(_Word), _Size)
+
+
+def _function(name, result, *parameters):
+    function = getattr(_library, "qalithonda_" + name)
+    function.restype = result
+    function.argtypes = parameters
+    return function
+
+
+_utf7_read = _function("utf7_read", _Numbers, *_BYTES, *_WORDS)
+_utf7_header_write = _function("utf7_header_write", _Numbers, *_WORDS, *_OUT)
+_utf7_body_write = _function("utf7_body_write", _Numbers, *_WORDS, *_OUT)
+_utf7_start = _function("utf7_start", _Utf7Cursor)
+_utf7_step = _function("utf7_step", _Utf7Stepped, *_BYTES, _Utf7Cursor)
+_jp2_read = _function("jp2_read", _Numbers, *_BYTES, *_WORDS)
+_jp2_write = _function("jp2_write", _Numbers, *_WORDS, *_OUT)
+_jp2_tally = _function("jp2_tally", _Numbers, *_WORDS, ctypes.POINTER(_Word))
+_jp2_start = _function("jp2_start", _Jp2Cursor)
+_jp2_step = _function("jp2_step", _Jp2Stepped, *_BYTES, _Jp2Cursor)
+_utf7_header_open = _function("utf7_header_open", _Edited, *_BYTES, *_WORDS, *_WORDS)
+_utf7_body_open = _function("utf7_body_open", _Edited, *_BYTES, *_WORDS, *_WORDS)
+_jp2_open = _function("jp2_open", _Edited, *_BYTES, *_WORDS, *_WORDS)
+_replace = _function("replace", _Edited, _Page, _Size, _Size, *_WORDS, *_WORDS, *_WORDS)
+_undo = _function("undo", _Edited, _Page, *_WORDS, *_WORDS)
+_redo = _function("redo", _Edited, _Page, *_WORDS, *_WORDS)
+_save = _function("save", _Numbers, _Page, *_WORDS, *_WORDS, *_BYTES, *_OUT)
+
+
+# From Python to C and back. ctypes would cut a number that is too large down without a word, so none gets there.
+
+
+def _bytes(text) -> bytes:
+    return text if isinstance(text, bytes) else memoryview(text).tobytes()
+
+
+def _words(cells: Iterable[int]):
+    numbers = array("I", iter(cells))
+    return (_Word * len(numbers)).from_buffer_copy(numbers)
+
+
+def _size(number: int) -> int:
+    number = operator.index(number)
+    if not 0 <= number <= _Size(-1).value:
+        raise OverflowError("{} is not a place, count or room".format(number))
+    return number
+
+
+def _accepted(numbers: _Numbers) -> int:
+    if numbers.number != 0:
+        raise Refused(numbers.number, numbers.place)
+    return numbers.place
+
+
+def _filled(element, call):
+    """What a call fills, in an array of exactly that length: asked with no room, the call says how much it needs."""
+    numbers = call((element * 0)(), 0)
+    needed = numbers.place if numbers.number == Refusal.NO_ROOM else _accepted(numbers)
+    output = (element * needed)()
+    _accepted(call(output, needed))
+    return output
+
+
+def _read(function, text) -> List[int]:
+    text = _bytes(text)
+    return list(_filled(_Word, lambda cells, room: function(text, len(text), cells, room)))
+
+
+def _write(function, cells: Iterable[int]) -> bytes:
+    cells = _words(cells)
+    return bytes(_filled(_Byte, lambda out, room: function(cells, len(cells), out, room)))
+
+
+class Steps:
+    """Steps through a text, one cell at a time: an iterator over the cells complete before the first fault, made by
+    utf7.steps or jp2.steps.
+
+    >>> steps = utf7.steps(b"A+ImIDkQ~")
+    >>> [format(cell, "04X") for cell in steps]
+    ['0041', '2262', '0391']
+    >>> steps.answer()
+    Traceback (most recent call last):
+    qalithonda.Refused: refused with 3: no rule allows the byte at 8 there
+    """
+
+    def __init__(self, text, start, step) -> None:
+        self._text = _bytes(text)
+        self._cursor = start()
+        self._function = step
+
+    def __iter__(self) -> "Steps":
+        return self
+
+    def __next__(self) -> int:
+        stepped = self._step(self._cursor)
+        if not stepped.given:
+            raise StopIteration
+        self._cursor = stepped.next
+        return stepped.cell
+
+    def answer(self) -> int:
+        """The answer of reading the whole text: the count of its cells, or Refused with the first fault.
+
+        It can be asked at any time, and moves nothing. What was not stepped through yet is looked at for it.
+        """
+        stepped = self._step(self._cursor)
+        while stepped.given:
+            stepped = self._step(stepped.next)
+        return _accepted(stepped.answer)
+
+    def _step(self, cursor):
+        return self._function(self._text, len(self._text), cursor)
+
+
+class utf7:
+    """UTF-7 (RFC 2152). A cell is a UTF-16 unit, 0 to 65535; half a surrogate pair is a unit like any other.
+
+    >>> utf7.write(utf7.Style.BODY, [0x65E5, 0x672C, 0x8A9E])
+    b'+ZeVnLIqe-'
+    """
+
+    class Style(enum.Enum):
+        """Which characters are written as themselves."""
+
+        HEADER = "header"  #: letters, digits, '(),-./:? and space, tab, CR and LF
+        BODY = "body"  #: those, and !"#$%&*;<=>@[]^_`{|}
+
+    @staticmethod
+    def read(text: bytes) -> List[int]:
+        """The cells of a text. Refused with 16, 1, 2, 3 or 4."""
+        return _read(_utf7_read, text)
+
+    @staticmethod
+    def write(style: "utf7.Style", cells: Iterable[int]) -> bytes:
+        """The text of these cells. Refused with 16, or 10 for a cell above 65535."""
+        header = utf7.Style(style) is utf7.Style.HEADER
+        return _write(_utf7_header_write if header else _utf7_body_write, cells)
+
+    @staticmethod
+    def steps(text: bytes) -> Steps:
+        """Steps through a text, one cell at a time."""
+        return Steps(text, _utf7_start, _utf7_step)
+
+
+class jp2:
+    r"""ISO-2022-JP-2 (RFC 1554). A cell is its set's registration number times 65536, plus the code as sent.
+
+    >>> jp2.read(b'\x1b$B$"\x1b(B') == [87 * 65536 + 0x2422]
+    True
+    >>> jp2.write([0x572422])
+    b'\x1b$B$"\x1b(B'
+    """
+
+    #: The registration numbers of the nine sets, in the order of tally's counts.
+    SETS = (6, 14, 42, 58, 87, 100, 126, 149, 159)
+
+    @staticmethod
+    def read(text: bytes) -> List[int]:
+        """The cells of a text. Refused with 16, 1, 3, 5, 6, 7 or 8."""
+        return _read(_jp2_read, text)
+
+    @staticmethod
+    def write(cells: Iterable[int]) -> bytes:
+        """The text of these cells. Refused with 16, or 10 for what is no cell of one of the nine sets."""
+        return _write(_jp2_write, cells)
+
+    @staticmethod
+    def tally(cells: Iterable[int]) -> List[int]:
+        """How many cells each set has, in the order of SETS. Refused as write is."""
+        cells = _words(cells)
+        counts = (_Word * 9)()
+        _accepted(_jp2_tally(cells, len(cells), counts))
+        return list(counts)
+
+    @staticmethod
+    def steps(text: bytes) -> Steps:
+        """Steps through a text, one cell at a time."""
+        return Steps(text, _jp2_start, _jp2_step)
+
+
+class Kind(enum.IntEnum):
+    """What a page is read and written as."""
+
+    UTF7_HEADER = 0
+    UTF7_BODY = 1
+    JP2 = 2
+
+
+_OPEN = {Kind.UTF7_HEADER: _utf7_header_open, Kind.UTF7_BODY: _utf7_body_open, Kind.JP2: _jp2_open}
+
+
+class Page:
+    """A letter that can be edited, undone, redone and saved. It is for one thread at a time.
+
+    >>> page = Page.open(Kind.UTF7_BODY, b"A+ImIDkQ.", 100, 100)
+    >>> page.replace(1, 1, [0x3D])
+    4
+    >>> page.save()
+    b'A=+A5E-.'
+    """
+
+    def __init__(self, kind: Kind, arrived: bytes, text_room: int, history_room: int) -> None:
+        self._arrived = _bytes(arrived)
+        # One element over the limit is enough to be refused, so no more than that is allocated.
+        self._text = (_Word * min(_size(text_room), LIMIT + 1))()
+        self._history = (_Word * min(_size(history_room), LIMIT + 1))()
+        self._numbers = _Page()
+        self._keep(_OPEN[Kind(kind)](self._arrived, len(self._arrived), *self._buffers()))
+
+    @classmethod
+    def open(cls, kind: Kind, arrived: bytes, text_room: int, history_room: int) -> "Page":
+        """Opens a page on the bytes of a letter as they arrived.
+
+        text_room is the most cells that the text can grow to, history_room the words for steps: a step takes 3, and one
+        for each cell that it removes or adds.
+
+        Refused with 16, with the faults of reading, or with 9 if text_room is too small.
+        """
+        return cls(kind, arrived, text_room, history_room)
+
+    def replace(self, place: int, count: int, cells: Iterable[int]) -> int:
+        """Puts cells in the place of the count cells from place on, and gives the new length. Steps that could be
+        redone are dropped.
+
+        Refused with 16, 11, 10 (an index in cells), 9 (the new length) or 12.
+        """
+        cells = _words(cells)
+        return self._keep(
+            _replace(self._numbers, _size(place), _size(count), cells, len(cells), *self._buffers())
+        )
+
+    def undo(self) -> int:
+        """Takes the last standing step back, and gives the new length. Refused with 13."""
+        return self._keep(_undo(self._numbers, *self._buffers()))
+
+    def redo(self) -> int:
+        """Does the next undone step again, and gives the new length. Refused with 13."""
+        return self._keep(_redo(self._numbers, *self._buffers()))
+
+    def save(self) -> bytes:
+        """The letter's bytes: those that arrived if no step stands, otherwise the text written in the page's kind."""
+        lent = (self._numbers, *self._buffers(), self._arrived, len(self._arrived))
+        return bytes(_filled(_Byte, lambda out, room: _save(*lent, out, room)))
+
+    def text(self) -> List[int]:
+        """Its cells."""
+        return self._text[: self.length]
+
+    def history(self) -> List[int]:
+        """The records of its steps, one after another: place, count removed, count added, the removed cells, the added
+        cells. The first `done` words are of steps that stand, the others of steps that can be redone."""
+        return self._history[: self.used]
+
+    @property
+    def kind(self) -> Kind:
+        """What it is read and written as."""
+        return Kind(self._numbers.kind)
+
+    @property
+    def arrived(self) -> bytes:
+        """The bytes that it was opened on."""
+        return self._arrived
+
+    @property
+    def opening(self) -> int:
+        """How many cells it was opened with."""
+        return self._numbers.opening
+
+    @property
+    def length(self) -> int:
+        """How many cells it has."""
+        return self._numbers.length
+
+    @property
+    def used(self) -> int:
+        """How many words of history hold steps. There is one to redo if this is more than `done`."""
+        return self._numbers.used
+
+    @property
+    def done(self) -> int:
+        """How many words of history hold steps that stand. There is one to undo if this is not 0."""
+        return self._numbers.done
+
+    def _buffers(self):
+        return self._text, len(self._text), self._history, len(self._history)
+
+    def _keep(self, edited: _Edited) -> int:
+        """A refused call gives the page back as it was."""
+        self._numbers = edited.page
+        return _accepted(edited.answer)

@@ -1,0 +1,310 @@
+"""Tests of the module: that each function is the right one, and what ctypes would get wrong."""
+
+import ctypes
+import doctest
+import os
+import pickle
+import random
+import subprocess
+import sys
+import unittest
+from pathlib import Path
+
+import qalithonda
+from qalithonda import LIMIT, Kind, Page, Refusal, Refused, jp2, utf7
+
+HERE = Path(__file__).resolve().parent
+HEADER, BODY = utf7.Style.HEADER, utf7.Style.BODY
+P2 = b"A+ImIDkQ."
+P2_CELLS = [0x41, 0x2262, 0x391, 0x2E]
+P9 = b'\x1b$B$"\x1b(B'
+
+
+def load_tests(loader, tests, pattern):
+    tests.addTests(doctest.DocTestSuite(qalithonda))
+    tests.addTests(doctest.DocFileSuite("README.md", encoding="utf-8"))
+    return tests
+
+
+class Case(unittest.TestCase):
+    def refused(self, number, place, call, *arguments):
+        with self.assertRaises(Refused) as caught:
+            call(*arguments)
+        self.assertEqual((caught.exception.number, caught.exception.place), (number, place))
+
+
+class Formats(Case):
+    def test_utf7_reads(self):
+        self.assertEqual(utf7.read(b""), [])
+        self.assertEqual(utf7.read(P2), P2_CELLS)
+        self.assertEqual(utf7.read(b"+-"), [0x2B])
+        self.assertEqual(utf7.read(b"+A-"), [])
+        self.assertEqual(utf7.read(b"+AAA-"), [0])
+        self.refused(1, 1, utf7.read, b"a\x80")
+        self.refused(2, 1, utf7.read, b"+")
+        self.refused(3, 0, utf7.read, b"~")
+        self.refused(3, 1, utf7.read, b"a\0b")
+        self.refused(4, 4, utf7.read, b"+AKN-")
+
+    def test_utf7_writes_in_both_styles(self):
+        self.assertEqual(utf7.write(BODY, P2_CELLS), b"A+ImIDkQ-.")
+        self.assertEqual(utf7.write(BODY, [0x3D]), b"=")
+        self.assertEqual(utf7.write(HEADER, [0x3D]), b"+AD0-")
+        self.assertEqual(utf7.write(HEADER, []), b"")
+        self.refused(10, 1, utf7.write, BODY, [0x41, 0x10000])
+        with self.assertRaises(ValueError):
+            utf7.write("neither", [])
+
+    def test_jp2_reads(self):
+        self.assertEqual(jp2.read(b""), [])
+        self.assertEqual(jp2.read(b"a\0b"), [0x060061, 0x060000, 0x060062])
+        self.assertEqual(jp2.read(P9), [0x572422])
+        self.assertEqual(jp2.read(b"\x1b.A\n\x1bNA"), [0x06000A, 0x640041])
+        self.refused(1, 1, jp2.read, b"\x1b\xff")
+        self.refused(3, 3, jp2.read, b"\x1b$B ")
+        self.refused(5, 3, jp2.read, b"\x1b$(B")
+        self.refused(6, 6, jp2.read, b"\x1b.A\r\n\x1bNA")
+        self.refused(7, 4, jp2.read, P9[:4])
+        self.refused(8, 5, jp2.read, P9[:5])
+
+    def test_jp2_writes_and_counts(self):
+        self.assertEqual(jp2.write([0x572422]), P9)
+        self.assertEqual(jp2.write([0x952121]), b"\x1b$(C!!\x1b(B")
+        self.refused(10, 1, jp2.write, [0x060041, 0x41])
+        self.assertEqual(jp2.tally([]), [0] * 9)
+        self.refused(10, 1, jp2.tally, [0x060041, 0x41])
+        for index, number in enumerate(jp2.SETS):
+            code = 0x41 if number in (6, 14, 100, 126) else 0x2422
+            counts = [0] * 9
+            counts[index] = 2
+            self.assertEqual(jp2.tally([number << 16 | code] * 2), counts)
+
+    def test_the_limit_is_within(self):
+        self.assertEqual(len(utf7.read(b"A" * LIMIT)), LIMIT)
+        self.assertEqual(len(jp2.write([0x060041] * LIMIT)), LIMIT)
+        over = LIMIT + 1
+        self.refused(16, LIMIT, utf7.read, b"A" * over)
+        self.refused(16, LIMIT, jp2.read, b"A" * over)
+        self.refused(16, LIMIT, utf7.write, HEADER, [0x41] * over)
+        self.refused(16, LIMIT, utf7.write, BODY, [0x41] * over)
+        self.refused(16, LIMIT, jp2.write, [0x060041] * over)
+        self.refused(16, LIMIT, jp2.tally, [0x060041] * over)
+
+    def test_bytes_of_any_type_are_read(self):
+        for text in (bytearray(P2), memoryview(P2)):
+            self.assertEqual(utf7.read(text), P2_CELLS)
+        for text in ("A", 5, [65], None):
+            with self.assertRaises(TypeError):
+                utf7.read(text)
+
+    def test_cells_of_any_iterable_are_written(self):
+        for cells in (tuple(P2_CELLS), iter(P2_CELLS), (cell for cell in P2_CELLS)):
+            self.assertEqual(utf7.write(BODY, cells), b"A+ImIDkQ-.")
+        self.assertEqual(utf7.write(BODY, b"ABCD"), b"ABCD")
+        for cells in ("A", [0.5], 5, None):
+            with self.assertRaises(TypeError):
+                utf7.write(BODY, cells)
+
+    def test_no_cell_is_cut_down(self):
+        for cell in (-1, 2**32, 2**32 + 0x41, 2**64 + 0x41):
+            for call in (lambda cells: utf7.write(BODY, cells), jp2.write, jp2.tally):
+                with self.assertRaises(OverflowError):
+                    call([cell])
+        self.refused(10, 0, utf7.write, BODY, [2**32 - 1])
+
+
+class Stepping(Case):
+    UTF7_TEXTS = [b"", P2, b"+ZeVnLIqe-", b"+", b"+AKN-", b"A+ImIDkQ~", b"\x80"]
+    JP2_TEXTS = [P9, P9[:5], b"\x1b.A\x1bNA\r\n\x1bNA", b"\x1b$("]
+
+    def outcome(self, call, *arguments):
+        try:
+            return call(*arguments)
+        except Refused as refused:
+            return refused.number, refused.place
+
+    def test_cells_and_answers_are_those_of_reading(self):
+        for form in (utf7, jp2):
+            for text in self.UTF7_TEXTS + self.JP2_TEXTS:
+                read = self.outcome(form.read, text)
+                count = len(read) if isinstance(read, list) else read
+                self.assertEqual(self.outcome(form.steps(text).answer), count)
+                if isinstance(read, list):
+                    self.assertEqual(list(form.steps(text)), read)
+
+    def test_cells_before_a_fault_are_handed_out(self):
+        steps = utf7.steps(b"A+ImIDkX-")
+        self.assertEqual(list(steps), [0x41, 0x2262, 0x391])
+        self.refused(4, 8, steps.answer)
+        self.assertEqual(list(jp2.steps(b'a\x1b$B$"$')), [0x060061, 0x572422])
+
+    def test_the_answer_can_be_asked_at_any_time(self):
+        for steps, cells in ((utf7.steps(P2), P2_CELLS), (jp2.steps(b'a\x1b$B$"\x1b(B'), [0x060061, 0x572422])):
+            for cell in cells:
+                self.assertEqual(steps.answer(), len(cells))
+                self.assertEqual(next(steps), cell)
+            for _ in range(2):
+                self.assertIsNone(next(steps, None))
+                self.assertEqual(steps.answer(), len(cells))
+
+    def test_a_text_changed_meanwhile_is_not_seen(self):
+        text = bytearray(P2)
+        steps = utf7.steps(text)
+        text[:] = b"\xff"
+        self.assertEqual(list(steps), P2_CELLS)
+
+    def test_a_text_over_the_limit_is_refused_at_once(self):
+        for form in (utf7, jp2):
+            steps = form.steps(b"A" * (LIMIT + 1))
+            self.assertEqual(list(steps), [])
+            self.refused(16, LIMIT, steps.answer)
+
+
+class Pages(Case):
+    def numbers(self, page):
+        return page.opening, page.length, page.used, page.done
+
+    def test_the_worked_page(self):
+        page = Page.open(Kind.UTF7_BODY, P2, 5, 6)
+        self.assertEqual((page.kind, page.arrived), (Kind.UTF7_BODY, P2))
+        self.assertEqual((page.text(), page.history(), self.numbers(page)), (P2_CELLS, [], (4, 4, 0, 0)))
+        self.assertEqual(page.replace(1, 1, [0x3D]), 4)
+        self.assertEqual((page.text(), page.history()), ([0x41, 0x3D, 0x391, 0x2E], [1, 1, 1, 0x2262, 0x3D]))
+        self.assertEqual(self.numbers(page), (4, 4, 5, 5))
+        self.assertEqual(page.save(), b"A=+A5E-.")
+        self.assertEqual(page.undo(), 4)
+        self.assertEqual(self.numbers(page), (4, 4, 5, 0))
+        self.assertEqual(page.save(), P2)
+        self.refused(13, 0, page.undo)
+        self.assertEqual(page.redo(), 4)
+        self.assertEqual(page.text(), [0x41, 0x3D, 0x391, 0x2E])
+        self.refused(13, 0, page.redo)
+
+    def test_four_words_of_history(self):
+        page = Page.open(Kind.UTF7_BODY, P2, 5, 4)
+        self.refused(12, 5, page.replace, 1, 1, [0x3D])
+        self.assertEqual((page.text(), self.numbers(page)), (P2_CELLS, (4, 4, 0, 0)))
+
+    def test_kinds_read_and_write_in_their_own_way(self):
+        page = Page.open(Kind.UTF7_HEADER, P2, 5, 6)
+        page.replace(1, 1, [0x3D])
+        self.assertEqual(page.save(), b"A+AD0DkQ-.")
+        page = Page.open(Kind.JP2, P2, 20, 20)
+        page.replace(1, 7, [0x572422])
+        self.assertEqual(page.save(), b'A\x1b$B$"\x1b(B.')
+        with self.assertRaises(ValueError):
+            Page.open(3, P2, 9, 9)
+
+    def test_open_is_refused(self):
+        self.refused(4, 4, Page.open, Kind.UTF7_BODY, b"+AKN-", 9, 9)
+        self.refused(8, 5, Page.open, Kind.JP2, P9[:5], 9, 9)
+        self.refused(9, 4, Page.open, Kind.UTF7_BODY, P2, 3, 9)
+        self.assertEqual(Page.open(Kind.UTF7_BODY, b"", 0, 0).text(), [])
+        self.assertEqual(Page.open(Kind.JP2, b"A" * LIMIT, LIMIT, LIMIT).length, LIMIT)
+        self.refused(16, LIMIT, Page.open, Kind.JP2, b"A" * (LIMIT + 1), LIMIT, LIMIT)
+
+    def test_rooms_over_the_limit_are_refused_and_not_allocated(self):
+        for room in (LIMIT + 1, 2**64 - 1):
+            self.refused(16, LIMIT, Page.open, Kind.JP2, P2, room, 9)
+            self.refused(16, LIMIT, Page.open, Kind.JP2, P2, 9, room)
+
+    def test_replace_is_refused_and_changes_nothing(self):
+        page = Page.open(Kind.UTF7_BODY, P2, 5, 9)
+        self.refused(11, 4, page.replace, 5, 0, [])
+        self.refused(11, 4, page.replace, 2**64 - 1, 2**64 - 1, [])
+        self.refused(10, 1, page.replace, 0, 0, [0x41, 0x10000])
+        self.refused(9, 6, page.replace, 0, 0, [0x41, 0x42])
+        self.refused(12, 11, page.replace, 0, 4, [0x41] * 4)
+        self.refused(16, LIMIT, page.replace, 0, 0, [0x41] * (LIMIT + 1))
+        self.assertEqual((page.text(), self.numbers(page)), (P2_CELLS, (4, 4, 0, 0)))
+
+    def test_no_place_is_cut_down(self):
+        page = Page.open(Kind.UTF7_BODY, P2, 5, 9)
+        for number in (-1, 2**64, 2**64 + 1):
+            for arguments in ((number, 0), (0, number)):
+                with self.assertRaises(OverflowError):
+                    page.replace(*arguments, [])
+                with self.assertRaises(OverflowError):
+                    Page.open(Kind.JP2, P2, *arguments)
+        with self.assertRaises(TypeError):
+            page.replace(1.0, 0, [])
+        self.assertEqual(self.numbers(page), (4, 4, 0, 0))
+
+    def test_the_arrived_bytes_are_kept(self):
+        arrived = bytearray(P2)
+        page = Page.open(Kind.UTF7_BODY, arrived, 5, 9)
+        arrived[:] = b"\xff"
+        self.assertEqual((page.arrived, page.save()), (P2, P2))
+
+    def test_seeded_calls_agree_with_a_list_of_texts(self):
+        units, cells = [0x41, 0x3D, 0x2262, 0xFFFF], [0x060041, 0x06000D, 0x06000A, 0x572422, 0x640041]
+        rng = random.Random(2152)
+        for _ in range(20):
+            self.follow(Kind.UTF7_HEADER, utf7.read, units, rng)
+            self.follow(Kind.UTF7_BODY, utf7.read, units, rng)
+            self.follow(Kind.JP2, jp2.read, cells, rng)
+
+    def follow(self, kind, read, cells, rng):
+        """Every text so far is kept, and undo and redo go to and fro between them."""
+        page = Page.open(kind, P2, 12, 60)
+        texts, now = [page.text()], 0
+        for _ in range(100):
+            call = rng.choice(("undo", "redo", "replace", "replace"))
+            if call == "replace":
+                place, count, added = rng.randrange(14), rng.randrange(4), rng.choices(cells, k=rng.randrange(4))
+                try:
+                    page.replace(place, count, added)
+                except Refused:
+                    continue
+                text = texts[now]
+                texts[now + 1 :] = [text[:place] + added + text[place + count :]]
+                now += 1
+            elif now == (0 if call == "undo" else len(texts) - 1):
+                self.refused(13, 0, getattr(page, call))
+            else:
+                getattr(page, call)()
+                now += -1 if call == "undo" else 1
+            self.assertEqual(page.text(), texts[now])
+            self.assertEqual(read(page.save()), texts[now])
+            self.assertEqual(page.done == 0, now == 0)
+
+
+class Refusals(Case):
+    def test_each_number_has_its_name_and_message(self):
+        self.assertEqual([refusal.value for refusal in Refusal], list(range(1, 17)))
+        for refusal in Refusal:
+            message = str(Refused(int(refusal), 12))
+            self.assertTrue(message.startswith("refused with {}: ".format(int(refusal))), message)
+            without_place = refusal in (Refusal.NOTHING_LEFT, Refusal.UNSOUND, Refusal.NOT_THE_TEXT)
+            self.assertEqual("12" not in message.split(": ")[1], without_place, message)
+
+    def test_a_refusal_can_be_pickled(self):
+        copy = pickle.loads(pickle.dumps(Refused(4, 8)))
+        self.assertEqual((copy.number, copy.place, copy.refusal), (4, 8, Refusal.LEFT_OVER_BITS))
+
+
+class Loading(unittest.TestCase):
+    def test_structs_have_their_sizes_in_c(self):
+        """A struct that is too small would be written past its end. These are the sizes that C gives them on x86-64."""
+        sizes = {
+            qalithonda._Numbers: 16,
+            qalithonda._Page: 40,
+            qalithonda._Edited: 56,
+            qalithonda._Utf7Cursor: 32,
+            qalithonda._Utf7Stepped: 56,
+            qalithonda._Jp2Cursor: 24,
+            qalithonda._Jp2Stepped: 48,
+        }
+        for struct, size in sizes.items():
+            self.assertEqual(ctypes.sizeof(struct), size, struct.__name__)
+
+    def test_a_missing_library_is_named(self):
+        environment = dict(os.environ, QALITHONDA_LIB=str(HERE / "nowhere"))
+        command = [sys.executable, "-B", "-c", "import qalithonda"]
+        result = subprocess.run(command, cwd=str(HERE), env=environment, capture_output=True, text=True)
+        self.assertNotEqual(result.returncode, 0)
+        self.assertIn("nowhere/libqalithonda.so is not there: run `make`", result.stderr)
+
+
+if __name__ == "__main__":
+    unittest.main()

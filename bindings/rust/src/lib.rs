@@ -1,0 +1,17 @@
+#![doc = include_str!("../README.md")]
+#![warn(missing_docs)]
+
+mod ffi;
+pub mod jp2;
+mod page;
+mod refused;
+mod room;
+mod steps;
+pub mod utf7;
+
+pub use page::{Kind, Page};
+pub use refused::{Refusal, Refused};
+pub use steps::Steps;
+
+/// The most bytes that a text may have, the most cells that a list or a page may have, and the most words of a history.
+pub const LIMIT: usize = 65_536;

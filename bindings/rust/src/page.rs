@@ -1,0 +1,203 @@
+use crate::{ffi, room, Refused, LIMIT};
+
+/// What a page is read and written as.
+#[derive(Clone, Copy, Debug, PartialEq, Eq, Hash)]
+pub enum Kind {
+    /// UTF-7, written in header style.
+    Utf7Header,
+    /// UTF-7, written in body style.
+    Utf7Body,
+    /// JP-2.
+    Jp2,
+}
+
+/// A letter that can be edited, undone, redone and saved.
+///
+/// It owns its text, its history and the bytes that arrived. A refused call changes nothing.
+///
+/// ```
+/// use qalithonda::{Kind, Page, Refusal};
+///
+/// let mut page = Page::open(Kind::Utf7Body, b"A+ImIDkQ.", 100, 100)?;
+/// page.replace(1, 1, &[0x3D])?;
+/// assert_eq!(page.text(), [0x41, 0x3D, 0x391, 0x2E]);
+/// assert_eq!(page.save_to_vec()?, b"A=+A5E-.");
+/// page.undo()?;
+/// assert_eq!(page.save_to_vec()?, b"A+ImIDkQ.");
+/// assert_eq!(page.undo().unwrap_err().refusal, Refusal::NothingLeft);
+/// # Ok::<(), qalithonda::Refused>(())
+/// ```
+#[derive(Clone, Debug)]
+pub struct Page {
+    kind: Kind,
+    numbers: ffi::Page,
+    text: Vec<u32>,
+    history: Vec<u32>,
+    arrived: Vec<u8>,
+}
+
+impl Page {
+    /// Opens a page on the bytes of a letter as they arrived.
+    ///
+    /// `text_room` is the most cells that the text can grow to, `history_room` the words for steps: a step takes 3, and
+    /// one for each cell that it removes or adds. Neither may be over [`LIMIT`].
+    ///
+    /// Refused with [`OverLimit`], with the faults of reading, or with [`NoRoom`] if `text_room` is too small.
+    ///
+    /// [`OverLimit`]: crate::Refusal::OverLimit
+    /// [`NoRoom`]: crate::Refusal::NoRoom
+    pub fn open(
+        kind: Kind,
+        arrived: impl Into<Vec<u8>>,
+        text_room: usize,
+        history_room: usize,
+    ) -> Result<Page, Refused> {
+        let open = match kind {
+            Kind::Utf7Header => ffi::qalithonda_utf7_header_open,
+            Kind::Utf7Body => ffi::qalithonda_utf7_body_open,
+            Kind::Jp2 => ffi::qalithonda_jp2_open,
+        };
+        let arrived = arrived.into();
+        let (mut text, mut history) = (buffer(text_room), buffer(history_room));
+        // SAFETY: each pointer comes with the length of its vector.
+        let edited = unsafe {
+            open(arrived.as_ptr(), arrived.len(), text.as_mut_ptr(), text.len(), history.as_mut_ptr(), history.len())
+        };
+        edited.answer.answer()?;
+        Ok(Page { kind, numbers: edited.page, text, history, arrived })
+    }
+
+    /// Puts `cells` in the place of the `count` cells from `place` on, and gives the new length. Steps that could be
+    /// redone are dropped.
+    ///
+    /// Refused with [`OverLimit`], [`BeyondLength`], [`Unwritable`] (an index in `cells`), [`NoRoom`] (the new length)
+    /// or [`HistoryFull`].
+    ///
+    /// [`OverLimit`]: crate::Refusal::OverLimit
+    /// [`BeyondLength`]: crate::Refusal::BeyondLength
+    /// [`Unwritable`]: crate::Refusal::Unwritable
+    /// [`NoRoom`]: crate::Refusal::NoRoom
+    /// [`HistoryFull`]: crate::Refusal::HistoryFull
+    pub fn replace(&mut self, place: usize, count: usize, cells: &[u32]) -> Result<usize, Refused> {
+        // SAFETY: each pointer comes with the length of its slice or vector.
+        let edited = unsafe {
+            ffi::qalithonda_replace(
+                self.numbers,
+                place,
+                count,
+                cells.as_ptr(),
+                cells.len(),
+                self.text.as_mut_ptr(),
+                self.text.len(),
+                self.history.as_mut_ptr(),
+                self.history.len(),
+            )
+        };
+        self.keep(edited)
+    }
+
+    /// Takes the last standing step back, and gives the new length. Refused with [`NothingLeft`].
+    ///
+    /// [`NothingLeft`]: crate::Refusal::NothingLeft
+    pub fn undo(&mut self) -> Result<usize, Refused> {
+        let (text, history) = (&mut self.text, &self.history);
+        // SAFETY: each pointer comes with the length of its vector.
+        let edited = unsafe {
+            ffi::qalithonda_undo(self.numbers, text.as_mut_ptr(), text.len(), history.as_ptr(), history.len())
+        };
+        self.keep(edited)
+    }
+
+    /// Does the next undone step again, and gives the new length. Refused with [`NothingLeft`].
+    ///
+    /// [`NothingLeft`]: crate::Refusal::NothingLeft
+    pub fn redo(&mut self) -> Result<usize, Refused> {
+        let (text, history) = (&mut self.text, &self.history);
+        // SAFETY: each pointer comes with the length of its vector.
+        let edited = unsafe {
+            ffi::qalithonda_redo(self.numbers, text.as_mut_ptr(), text.len(), history.as_ptr(), history.len())
+        };
+        self.keep(edited)
+    }
+
+    /// Fills the first elements of `out` with the letter's bytes, and gives their count: the bytes that arrived if no
+    /// step stands, otherwise the text written in the page's kind.
+    ///
+    /// Refused with [`NoRoom`], which leaves `out` as it was.
+    ///
+    /// [`NoRoom`]: crate::Refusal::NoRoom
+    pub fn save(&self, out: &mut [u8]) -> Result<usize, Refused> {
+        // SAFETY: each pointer comes with the length of its slice or vector.
+        let numbers = unsafe {
+            ffi::qalithonda_save(
+                self.numbers,
+                self.text.as_ptr(),
+                self.text.len(),
+                self.history.as_ptr(),
+                self.history.len(),
+                self.arrived.as_ptr(),
+                self.arrived.len(),
+                out.as_mut_ptr(),
+                out.len(),
+            )
+        };
+        numbers.answer()
+    }
+
+    /// The letter's bytes, as [`save`](Page::save) gives them, in a vector of exactly their number.
+    pub fn save_to_vec(&self) -> Result<Vec<u8>, Refused> {
+        room::filled(|out| self.save(out))
+    }
+
+    /// What it is read and written as.
+    pub fn kind(&self) -> Kind {
+        self.kind
+    }
+
+    /// The bytes that it was opened on.
+    pub fn arrived(&self) -> &[u8] {
+        &self.arrived
+    }
+
+    /// Its cells.
+    pub fn text(&self) -> &[u32] {
+        &self.text[..self.numbers.length]
+    }
+
+    /// The records of its steps, one after another: place, count removed, count added, the removed cells, the added
+    /// cells. The first [`done`](Page::done) words are of steps that stand, the others of steps that can be redone.
+    pub fn history(&self) -> &[u32] {
+        &self.history[..self.numbers.used]
+    }
+
+    /// How many cells it was opened with.
+    pub fn opening(&self) -> usize {
+        self.numbers.opening
+    }
+
+    /// How many cells it has.
+    pub fn length(&self) -> usize {
+        self.numbers.length
+    }
+
+    /// How many words of history hold steps. There is one to redo if this is more than [`done`](Page::done).
+    pub fn used(&self) -> usize {
+        self.numbers.used
+    }
+
+    /// How many words of history hold steps that stand. There is one to undo if this is not 0.
+    pub fn done(&self) -> usize {
+        self.numbers.done
+    }
+
+    /// A refused call gives the page back as it was.
+    fn keep(&mut self, edited: ffi::Edited) -> Result<usize, Refused> {
+        self.numbers = edited.page;
+        edited.answer.answer()
+    }
+}
+
+/// One element over the limit is enough to be refused, so no more than that is allocated.
+fn buffer(room: usize) -> Vec<u32> {
+    vec![0; room.min(LIMIT + 1)]
+}

@@ -1,0 +1,138 @@
+use std::error::Error;
+use std::fmt::{self, Display, Formatter};
+
+/// Why a call was refused.
+#[derive(Clone, Copy, Debug, PartialEq, Eq, Hash)]
+#[non_exhaustive]
+pub enum Refusal {
+    /// A byte of 128 or more. The place is that byte.
+    HighByte = 1,
+    /// `+` followed by neither a Base64 letter nor `-`. The place is the byte that follows, or the text's length.
+    LoneSign = 2,
+    /// A byte that no rule allows there. The place is that byte.
+    StrayByte = 3,
+    /// Left-over bits of a run that are not zero. The place is the byte that ends the run, or the text's length.
+    LeftOverBits = 4,
+    /// An escape that is neither ESC N nor a designation. The place is the first byte that fits none.
+    UnknownEscape = 5,
+    /// ESC N with nothing in G2. The place is the N.
+    EmptyG2 = 6,
+    /// The text ends in an escape, in a pair or after ESC N. The place is the text's length.
+    CutShort = 7,
+    /// The text ends with G0 not ASCII. The place is the text's length.
+    NotAscii = 8,
+    /// Too little room. The place is the number of elements needed in all.
+    NoRoom = 9,
+    /// A cell that is not writable in this kind. The place is its index.
+    Unwritable = 10,
+    /// Place plus count is beyond the page's length. The place is that length.
+    BeyondLength = 11,
+    /// The step does not fit the history. The place is the number of words needed in all.
+    HistoryFull = 12,
+    /// Nothing to undo or redo. The place is 0.
+    NothingLeft = 13,
+    /// The page is not sound. The place is 0. (A [`Page`](crate::Page) is always sound.)
+    Unsound = 14,
+    /// The arrived bytes do not read as the text. The place is 0. (Those of a [`Page`](crate::Page) always do.)
+    NotTheText = 15,
+    /// More than [`LIMIT`](crate::LIMIT) elements. The place is that limit.
+    OverLimit = 16,
+}
+
+impl Refusal {
+    const ALL: [Refusal; 16] = [
+        Refusal::HighByte,
+        Refusal::LoneSign,
+        Refusal::StrayByte,
+        Refusal::LeftOverBits,
+        Refusal::UnknownEscape,
+        Refusal::EmptyG2,
+        Refusal::CutShort,
+        Refusal::NotAscii,
+        Refusal::NoRoom,
+        Refusal::Unwritable,
+        Refusal::BeyondLength,
+        Refusal::HistoryFull,
+        Refusal::NothingLeft,
+        Refusal::Unsound,
+        Refusal::NotTheText,
+        Refusal::OverLimit,
+    ];
+
+    /// Its number, 1 to 16.
+    pub fn number(self) -> u32 {
+        self as u32
+    }
+
+    /// The refusal with this number.
+    pub(crate) fn of(number: u32) -> Option<Refusal> {
+        Refusal::ALL.into_iter().find(|refusal| refusal.number() == number)
+    }
+}
+
+/// A refusal and its place: what the place counts is said with each [`Refusal`].
+///
+/// ```
+/// use qalithonda::{utf7, Refusal, Refused};
+///
+/// let refused = utf7::read_to_vec(b"+AKN-").unwrap_err();
+/// assert_eq!(refused, Refused { refusal: Refusal::LeftOverBits, place: 4 });
+/// assert_eq!(refused.refusal.number(), 4);
+/// assert_eq!(refused.to_string(), "refused with 4: the run that ends at 4 has left-over bits that are not zero");
+/// ```
+#[derive(Clone, Copy, Debug, PartialEq, Eq, Hash)]
+pub struct Refused {
+    /// Why.
+    pub refusal: Refusal,
+    /// Where, or how many.
+    pub place: usize,
+}
+
+impl Display for Refused {
+    fn fmt(&self, f: &mut Formatter<'_>) -> fmt::Result {
+        let Refused { refusal, place } = self;
+        write!(f, "refused with {}: ", refusal.number())?;
+        match refusal {
+            Refusal::HighByte => write!(f, "the byte at {place} is 128 or more"),
+            Refusal::LoneSign => write!(f, "'+' is followed by neither a Base64 letter nor '-' at {place}"),
+            Refusal::StrayByte => write!(f, "no rule allows the byte at {place} there"),
+            Refusal::LeftOverBits => write!(f, "the run that ends at {place} has left-over bits that are not zero"),
+            Refusal::UnknownEscape => write!(f, "the byte at {place} fits no escape"),
+            Refusal::EmptyG2 => write!(f, "ESC N at {place} with nothing in G2"),
+            Refusal::CutShort => write!(f, "the text ends at {place} in an escape, in a pair or after ESC N"),
+            Refusal::NotAscii => write!(f, "the text ends at {place} with G0 not ASCII"),
+            Refusal::NoRoom => write!(f, "too little room, {place} elements are needed"),
+            Refusal::Unwritable => write!(f, "the cell at {place} is not writable in this kind"),
+            Refusal::BeyondLength => write!(f, "place plus count is beyond the length, {place}"),
+            Refusal::HistoryFull => write!(f, "the step does not fit the history, {place} words are needed"),
+            Refusal::NothingLeft => write!(f, "there is nothing to undo or redo"),
+            Refusal::Unsound => write!(f, "the page is not sound"),
+            Refusal::NotTheText => write!(f, "the arrived bytes do not read as the text"),
+            Refusal::OverLimit => write!(f, "there are more than {place} elements"),
+        }
+    }
+}
+
+impl Error for Refused {}
+
+#[cfg(test)]
+mod tests {
+    use super::*;
+
+    #[test]
+    fn each_number_has_its_refusal() {
+        let numbers: Vec<u32> = (0..=17).filter_map(Refusal::of).map(Refusal::number).collect();
+        assert_eq!(numbers, (1..=16).collect::<Vec<_>>());
+    }
+
+    #[test]
+    fn messages_say_number_and_place() {
+        let message = |refusal| Refused { refusal, place: 12 }.to_string();
+        let without_place = [Refusal::NothingLeft, Refusal::Unsound, Refusal::NotTheText];
+        for refusal in Refusal::ALL {
+            assert!(message(refusal).starts_with(&format!("refused with {}: ", refusal.number())));
+            let place_said = message(refusal).split(": ").nth(1).is_some_and(|why| why.contains("12"));
+            assert_eq!(place_said, !without_place.contains(&refusal), "{}", message(refusal));
+        }
+    }
+}

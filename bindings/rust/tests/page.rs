@@ -1,0 +1,173 @@
+//! The page: document 01's worked page, and seeded calls compared with a list of texts.
+
+use qalithonda::{jp2, utf7, Kind, Page, Refusal, Refused, LIMIT};
+
+const P2: &[u8] = b"A+ImIDkQ.";
+
+fn refused<T>(refusal: Refusal, place: usize) -> Result<T, Refused> {
+    Err(Refused { refusal, place })
+}
+
+/// Opening, length, words used and words done.
+fn numbers(page: &Page) -> [usize; 4] {
+    [page.opening(), page.length(), page.used(), page.done()]
+}
+
+#[test]
+fn the_worked_page() {
+    let mut page = Page::open(Kind::Utf7Body, P2, 5, 6).unwrap();
+    assert_eq!((page.kind(), page.arrived()), (Kind::Utf7Body, P2));
+    assert_eq!((page.text(), page.history()), (&[0x41, 0x2262, 0x391, 0x2E][..], &[][..]));
+    assert_eq!(numbers(&page), [4, 4, 0, 0]);
+
+    assert_eq!(page.replace(1, 1, &[0x3D]), Ok(4));
+    assert_eq!((page.text(), page.history()), (&[0x41, 0x3D, 0x391, 0x2E][..], &[1, 1, 1, 0x2262, 0x3D][..]));
+    assert_eq!(numbers(&page), [4, 4, 5, 5]);
+    assert_eq!(page.save_to_vec(), Ok(b"A=+A5E-.".to_vec()));
+
+    assert_eq!(page.undo(), Ok(4));
+    assert_eq!(numbers(&page), [4, 4, 5, 0]);
+    assert_eq!(page.save_to_vec(), Ok(P2.to_vec()));
+    assert_eq!(page.undo(), refused(Refusal::NothingLeft, 0));
+
+    assert_eq!(page.redo(), Ok(4));
+    assert_eq!(page.text(), [0x41, 0x3D, 0x391, 0x2E]);
+    assert_eq!(page.redo(), refused(Refusal::NothingLeft, 0));
+}
+
+#[test]
+fn four_words_of_history() {
+    let mut page = Page::open(Kind::Utf7Body, P2, 5, 4).unwrap();
+    assert_eq!(page.replace(1, 1, &[0x3D]), refused(Refusal::HistoryFull, 5));
+    assert_eq!((numbers(&page), page.text().len()), ([4, 4, 0, 0], 4));
+}
+
+#[test]
+fn kinds_read_and_write_in_their_own_way() {
+    let mut header = Page::open(Kind::Utf7Header, P2, 5, 6).unwrap();
+    header.replace(1, 1, &[0x3D]).unwrap();
+    assert_eq!(header.save_to_vec(), Ok(b"A+AD0DkQ-.".to_vec()));
+    let mut jp2 = Page::open(Kind::Jp2, P2, 20, 20).unwrap();
+    assert_eq!(jp2.length(), 9);
+    jp2.replace(1, 7, &[0x572422]).unwrap();
+    assert_eq!(jp2.save_to_vec(), Ok(b"A\x1b$B$\"\x1b(B.".to_vec()));
+    assert_eq!((header.kind(), jp2.kind()), (Kind::Utf7Header, Kind::Jp2));
+}
+
+#[test]
+fn open_is_refused() {
+    let open = |kind, arrived: &[u8], text, history| Page::open(kind, arrived, text, history).map(|page| page.length());
+    assert_eq!(open(Kind::Utf7Body, b"+AKN-", 9, 9), refused(Refusal::LeftOverBits, 4));
+    assert_eq!(open(Kind::Jp2, b"\x1b$B$\"", 9, 9), refused(Refusal::NotAscii, 5));
+    assert_eq!(open(Kind::Utf7Body, P2, 3, 9), refused(Refusal::NoRoom, 4));
+    assert_eq!(open(Kind::Utf7Body, b"", 0, 0), Ok(0));
+    let full = vec![b'A'; LIMIT];
+    assert_eq!(open(Kind::Utf7Body, &full, LIMIT, LIMIT), Ok(LIMIT));
+    assert_eq!(open(Kind::Utf7Body, &[full, vec![b'A']].concat(), LIMIT, LIMIT), refused(Refusal::OverLimit, LIMIT));
+}
+
+#[test]
+fn rooms_over_the_limit_are_refused_and_not_allocated() {
+    for room in [LIMIT + 1, usize::MAX] {
+        assert_eq!(Page::open(Kind::Jp2, P2, room, 9).map(drop), refused(Refusal::OverLimit, LIMIT));
+        assert_eq!(Page::open(Kind::Jp2, P2, 9, room).map(drop), refused(Refusal::OverLimit, LIMIT));
+    }
+}
+
+#[test]
+fn replace_is_refused_and_changes_nothing() {
+    let mut page = Page::open(Kind::Utf7Body, P2, 5, 9).unwrap();
+    assert_eq!(page.replace(5, 0, &[]), refused(Refusal::BeyondLength, 4));
+    assert_eq!(page.replace(usize::MAX, usize::MAX, &[]), refused(Refusal::BeyondLength, 4));
+    assert_eq!(page.replace(0, 0, &[0x41, 0x10000]), refused(Refusal::Unwritable, 1));
+    assert_eq!(page.replace(0, 0, &[0x41, 0x42]), refused(Refusal::NoRoom, 6));
+    assert_eq!(page.replace(0, 4, &[0x41; 4]), refused(Refusal::HistoryFull, 11));
+    assert_eq!(page.replace(0, 0, &vec![0x41; LIMIT + 1]), refused(Refusal::OverLimit, LIMIT));
+    assert_eq!((numbers(&page), page.text()), ([4, 4, 0, 0], &[0x41, 0x2262, 0x391, 0x2E][..]));
+}
+
+#[test]
+fn save_fills_a_slice_as_far_as_the_count() {
+    let page = Page::open(Kind::Utf7Body, P2, 5, 9).unwrap();
+    let mut out = [7; 11];
+    assert_eq!(page.save(&mut out[..8]), refused(Refusal::NoRoom, 9));
+    assert_eq!(out, [7; 11]);
+    assert_eq!(page.save(&mut out), Ok(9));
+    assert_eq!((&out[..9], &out[9..]), (P2, &[7, 7][..]));
+    assert_eq!(page.save_to_vec().unwrap().capacity(), 9);
+}
+
+#[test]
+fn a_clone_goes_its_own_way() {
+    let mut page = Page::open(Kind::Utf7Body, P2, 5, 9).unwrap();
+    page.replace(0, 1, &[]).unwrap();
+    let mut other = page.clone();
+    other.undo().unwrap();
+    assert_eq!((page.length(), other.length()), (3, 4));
+}
+
+#[test]
+fn pages_and_steps_go_to_other_threads() {
+    fn sent<T: Send + Sync>(_: &T) {}
+    sent(&Page::open(Kind::Jp2, b"", 0, 0).unwrap());
+    sent(&utf7::steps(b""));
+    sent(&jp2::steps(b""));
+}
+
+/// A number below a bound, of a sequence that is the same each time (xorshift).
+fn below(seed: &mut u64, bound: usize) -> usize {
+    *seed ^= *seed << 13;
+    *seed ^= *seed >> 7;
+    *seed ^= *seed << 17;
+    (*seed % bound as u64) as usize
+}
+
+/// Every text so far is kept, and undo and redo go to and fro between them.
+fn follow(kind: Kind, cells: &[u32], seed: &mut u64) {
+    let mut page = Page::open(kind, P2, 12, 60).unwrap();
+    let mut texts = vec![page.text().to_vec()];
+    let mut now = 0;
+    for _ in 0..200 {
+        let call = below(seed, 4);
+        let answer = match call {
+            0 => page.undo(),
+            1 => page.redo(),
+            _ => {
+                let (place, count) = (below(seed, 14), below(seed, 4));
+                let added: Vec<u32> = (0..below(seed, 4)).map(|_| cells[below(seed, cells.len())]).collect();
+                let mut text = texts[now].clone();
+                let answer = page.replace(place, count, &added);
+                if answer.is_ok() {
+                    text.splice(place..place + count, added);
+                    texts.truncate(now + 1);
+                    texts.push(text);
+                }
+                answer
+            }
+        };
+        match call {
+            0 => assert_eq!(answer.is_ok(), now > 0),
+            1 => assert_eq!(answer.is_ok(), now + 1 < texts.len()),
+            _ => {}
+        }
+        match (answer, call) {
+            (Err(_), _) => {}
+            (Ok(_), 0) => now -= 1,
+            (Ok(_), _) => now += 1,
+        }
+        assert_eq!(page.text(), texts[now]);
+        let read = if kind == Kind::Jp2 { jp2::read_to_vec } else { utf7::read_to_vec };
+        assert_eq!(read(&page.save_to_vec().unwrap()).unwrap(), texts[now]);
+        assert_eq!(now == 0, page.done() == 0);
+    }
+}
+
+#[test]
+fn seeded_calls_agree_with_a_list_of_texts() {
+    let mut seed = 2152;
+    for _ in 0..50 {
+        follow(Kind::Utf7Header, &[0x41, 0x3D, 0x2262, 0xFFFF], &mut seed);
+        follow(Kind::Utf7Body, &[0x41, 0x3D, 0x2262, 0xFFFF], &mut seed);
+        follow(Kind::Jp2, &[0x060041, 0x06000D, 0x06000A, 0x572422, 0x640041], &mut seed);
+    }
+}

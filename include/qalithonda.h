@@ -1,0 +1,287 @@
+/*
+ * Qalithonda: the text part of a journal program.
+ *
+ * It reads and writes UTF-7 (RFC 2152) and ISO-2022-JP-2 (RFC 1554, "JP-2"), steps through a text
+ * cell by cell, and keeps an editable page with undo and redo. Link with libqalithonda.a or
+ * libqalithonda.so.
+ *
+ * Cells. A text is read to cells, which are 32-bit numbers. A UTF-7 cell is a UTF-16 unit, 0 to
+ * 65535; half a surrogate pair is a unit like any other. A JP-2 cell is its set's registration
+ * number times 65536, plus the code as sent (of a pair: first byte times 256 plus second).
+ *
+ * Answers. A call is accepted with number 0 and a count, or refused with one of the numbers 1 to 16
+ * and a place; both are in `place`. The numbers that a function can give are listed with it, those
+ * that are looked for first in front. In reading, the fault at the earliest place decides.
+ *
+ * What a call leaves. A refused call changes no buffer (only a tally's nine counts become zeros).
+ * An accepted read, write or save fills the first `count` elements of its output and no others.
+ *
+ * What the caller owes. A length is a number of elements, not of bytes.
+ *   - Every pointer is valid for its length, aligned for its type, and not null, not even for a
+ *     length of 0.
+ *   - The buffers lent to one call do not overlap.
+ *   - A page and its two buffers belong together: hand the page that the last call gave back, and
+ *     both buffers as that call left them, to the next call. Another page is still safe to hand in:
+ *     it is refused with 14, or it is a sound page and is taken for what it says.
+ *
+ * The library allocates nothing, keeps no pointer and has no state of its own: threads may call it
+ * at the same time, each with its own buffers.
+ */
+#ifndef QALITHONDA_H
+#define QALITHONDA_H
+
+#include <stddef.h>
+#include <stdint.h>
+
+#ifdef __cplusplus
+extern "C" {
+#endif
+
+/* The most elements that a lent text or list, a text buffer or a history may have. An output may
+   have more. */
+#define QALITHONDA_LIMIT 65536
+
+/* The numbers, each with the place that is given with it. */
+enum qalithonda_number {
+    QALITHONDA_ACCEPTED = 0,        /* accepted: the count of elements */
+    QALITHONDA_HIGH_BYTE = 1,       /* byte of 128 or more: that byte */
+    QALITHONDA_LONE_SIGN = 2,       /* '+' followed by neither a Base64 letter nor '-': the byte
+                                       that follows, or the text's length */
+    QALITHONDA_STRAY_BYTE = 3,      /* byte that no rule allows there: that byte */
+    QALITHONDA_LEFT_OVER_BITS = 4,  /* left-over bits of a run not zero: the byte that ends the run,
+                                       or the text's length */
+    QALITHONDA_UNKNOWN_ESCAPE = 5,  /* escape neither ESC N nor a designation: first byte that fits
+                                       none */
+    QALITHONDA_EMPTY_G2 = 6,        /* ESC N with nothing in G2: the N */
+    QALITHONDA_CUT_SHORT = 7,       /* text ends in an escape, in a pair or after ESC N: the text's
+                                       length */
+    QALITHONDA_NOT_ASCII = 8,       /* text ends with G0 not ASCII: the text's length */
+    QALITHONDA_NO_ROOM = 9,         /* too little room: the elements needed in all */
+    QALITHONDA_UNWRITABLE = 10,     /* cell not writable in this kind: its index */
+    QALITHONDA_BEYOND_LENGTH = 11,  /* place plus count beyond the page's length: that length */
+    QALITHONDA_HISTORY_FULL = 12,   /* record does not fit the history: the words needed in all */
+    QALITHONDA_NOTHING_LEFT = 13,   /* nothing to undo or redo: 0 */
+    QALITHONDA_UNSOUND = 14,        /* page not sound: 0 */
+    QALITHONDA_NOT_THE_TEXT = 15,   /* arrived bytes do not read as the text: 0 */
+    QALITHONDA_OVER_LIMIT = 16      /* more than 65,536 elements lent: 65,536 */
+};
+
+/* The kinds of page. */
+enum qalithonda_kind {
+    QALITHONDA_UTF7_HEADER = 0,
+    QALITHONDA_UTF7_BODY = 1,
+    QALITHONDA_JP2 = 2
+};
+
+/* An answer: its number, and the count or place that goes with it. */
+typedef struct {
+    uint32_t number;
+    size_t place;
+} qalithonda_numbers;
+
+
+/* ---- UTF-7 ---- */
+
+/*
+ * Reads a text to cells. A text of n bytes has at most n cells.
+ * Accepted: the count of cells, which are in `cells`.
+ * Refused: 16 (text); 1, 2, 3, 4; 9 (cells).
+ */
+qalithonda_numbers qalithonda_utf7_read(const uint8_t *text, size_t text_len,
+                                        uint32_t *cells, size_t cells_len);
+
+/*
+ * Write cells as a text. n cells need at most 5n bytes. Header style writes letters, digits,
+ * '(),-./:? and space, tab, CR and LF as themselves; body style also !"#$%&*;<=>@[]^_`{|}.
+ * Accepted: the count of bytes, which are in `out`.
+ * Refused: 16 (cells); 10 (a cell above 65535); 9 (out).
+ */
+qalithonda_numbers qalithonda_utf7_header_write(const uint32_t *cells, size_t cells_len,
+                                                uint8_t *out, size_t out_len);
+qalithonda_numbers qalithonda_utf7_body_write(const uint32_t *cells, size_t cells_len,
+                                              uint8_t *out, size_t out_len);
+
+
+/* ---- JP-2 ---- */
+
+/*
+ * Reads a text to cells. A text of n bytes has at most n cells.
+ * Accepted: the count of cells, which are in `cells`.
+ * Refused: 16 (text); 1, 3, 5, 6, 7, 8; 9 (cells).
+ */
+qalithonda_numbers qalithonda_jp2_read(const uint8_t *text, size_t text_len,
+                                       uint32_t *cells, size_t cells_len);
+
+/*
+ * Writes cells as a text. n cells need at most 6n + 3 bytes.
+ * Accepted: the count of bytes, which are in `out`.
+ * Refused: 16 (cells); 10 (not a cell of one of the nine sets); 9 (out).
+ */
+qalithonda_numbers qalithonda_jp2_write(const uint32_t *cells, size_t cells_len,
+                                        uint8_t *out, size_t out_len);
+
+/*
+ * Counts the cells of each set: 6, 14, 42, 58, 87, 100, 126, 149 and 159, in this order.
+ * Accepted: the number of cells, which is the sum of the counts.
+ * Refused: 16 (cells); 10 (as in writing). The counts are then nine zeros.
+ */
+qalithonda_numbers qalithonda_jp2_tally(const uint32_t *cells, size_t cells_len,
+                                        uint32_t counts[9]);
+
+
+/* ---- Stepping through a text ----
+ *
+ * A step hands out one cell and the cursor behind it. Start with the cursor of `start`, hand each
+ * step's `next` and the same text to the next step, and stop when `given` is 0:
+ *
+ *     qalithonda_utf7_stepped s;
+ *     for (s = qalithonda_utf7_step(text, n, qalithonda_utf7_start()); s.given;
+ *          s = qalithonda_utf7_step(text, n, s.next))
+ *         use(s.cell);
+ *     // s.answer is the answer of reading the whole text with room enough
+ *
+ * The cells complete before the first fault are handed out, and then the fault is the answer; a
+ * text of more than 65,536 bytes is answered with 16 at once. After that every step gives the same
+ * answer again. A cursor is a value: copy it to come back to a place. Every cursor is safe to hand
+ * in, whatever its numbers are.
+ */
+
+/* A place in a UTF-7 text. */
+typedef struct {
+    size_t at;         /* the next byte */
+    size_t handed;     /* how many cells were handed out */
+    uint32_t shift;    /* 0 outside a run, 1 directly after '+', else in a run */
+    uint32_t pending;  /* in a run: how many bits wait for a full sixteen */
+    uint32_t value;    /* in a run: those bits as a number */
+} qalithonda_utf7_cursor;
+
+/* A step: a cell, or the final answer. */
+typedef struct {
+    uint32_t given;               /* 1: a cell; 0: the answer */
+    uint32_t cell;                /* the cell; 0 where none is given */
+    qalithonda_numbers answer;    /* the final answer; {0, 0} where a cell is given */
+    qalithonda_utf7_cursor next;  /* the cursor behind the cell; unchanged where none is given */
+} qalithonda_utf7_stepped;
+
+/* A place in a JP-2 text. */
+typedef struct {
+    size_t at;       /* the next byte */
+    size_t handed;   /* how many cells were handed out */
+    uint16_t g0;     /* registration number of the set in G0 */
+    uint16_t g2;     /* registration number of the set in G2; 0: none */
+    uint8_t phase;   /* 0 between cells, 1 after a CR, 2 after the first byte of a pair, 3 after
+                        ESC N, 4, 5 or 6 after ESC and none, one or two bytes more */
+    uint8_t first;   /* the first of those bytes, of the pair or after ESC */
+    uint8_t second;  /* the second of the bytes after ESC */
+} qalithonda_jp2_cursor;
+
+/* A step: a cell, or the final answer. */
+typedef struct {
+    uint32_t given;              /* 1: a cell; 0: the answer */
+    uint32_t cell;               /* the cell; 0 where none is given */
+    qalithonda_numbers answer;   /* the final answer; {0, 0} where a cell is given */
+    qalithonda_jp2_cursor next;  /* the cursor behind the cell; unchanged where none is given */
+} qalithonda_jp2_stepped;
+
+/* The cursor at the start of a text. */
+qalithonda_utf7_cursor qalithonda_utf7_start(void);
+qalithonda_jp2_cursor qalithonda_jp2_start(void);
+
+/*
+ * Hands out the next cell, or the final answer.
+ * Final answers, UTF-7: 16 (text); 1, 2, 3, 4; 0 with the count of cells.
+ * Final answers, JP-2: 16 (text); 1, 3, 5, 6, 7, 8; 0 with the count of cells.
+ */
+qalithonda_utf7_stepped qalithonda_utf7_step(const uint8_t *text, size_t text_len,
+                                             qalithonda_utf7_cursor cursor);
+qalithonda_jp2_stepped qalithonda_jp2_step(const uint8_t *text, size_t text_len,
+                                           qalithonda_jp2_cursor cursor);
+
+
+/* ---- The page ----
+ *
+ * A page is a text that can be edited, undone and redone, and saved. Its cells are in a text
+ * buffer, its steps in a history of 32-bit words; both are the caller's. The length of the text
+ * buffer is the most cells that the text can grow to. A step takes 3 words of history, and one for
+ * each cell that it removes or adds.
+ *
+ * After an accepted open, replace, undo or redo the text is the first `length` cells of the text
+ * buffer; the text buffer past `length` and the history past `used` are 0.
+ */
+
+/* A page's numbers. There is a step to undo if done > 0, and one to redo if done < used. */
+typedef struct {
+    uint32_t kind;   /* enum qalithonda_kind */
+    size_t opening;  /* how many cells it was opened with */
+    size_t length;   /* how many cells it has */
+    size_t used;     /* words of history that hold steps */
+    size_t done;     /* those of them whose steps stand; the others can be redone */
+} qalithonda_page;
+
+/* What open, replace, undo and redo give back. A refused replace, undo or redo gives the page that
+   was handed in; a refused open gives the kind with four zeros, which is no page to go on with. */
+typedef struct {
+    qalithonda_numbers answer;
+    qalithonda_page page;
+} qalithonda_edited;
+
+/*
+ * Open a page on the bytes of a letter as they arrived. Keep these bytes for `save`.
+ * Accepted: the count of cells.
+ * Refused: 16 (arrived, text, history); the faults of reading: 1, 2, 3, 4 in UTF-7, and
+ * 1, 3, 5, 6, 7, 8 in JP-2; 9 (text).
+ */
+qalithonda_edited qalithonda_utf7_header_open(const uint8_t *arrived, size_t arrived_len,
+                                              uint32_t *text, size_t text_len,
+                                              uint32_t *history, size_t history_len);
+qalithonda_edited qalithonda_utf7_body_open(const uint8_t *arrived, size_t arrived_len,
+                                            uint32_t *text, size_t text_len,
+                                            uint32_t *history, size_t history_len);
+qalithonda_edited qalithonda_jp2_open(const uint8_t *arrived, size_t arrived_len,
+                                      uint32_t *text, size_t text_len,
+                                      uint32_t *history, size_t history_len);
+
+/*
+ * Puts `cells` in the place of the `count` cells from `place` on. Steps that could be redone are
+ * dropped.
+ * Accepted: the new length.
+ * Refused: 16 (cells, text, history); 14; 11; 10 (the index is in `cells`); 9 (text: the new
+ * length); 12 (done + 3 + count + cells_len words).
+ */
+qalithonda_edited qalithonda_replace(qalithonda_page page, size_t place, size_t count,
+                                     const uint32_t *cells, size_t cells_len,
+                                     uint32_t *text, size_t text_len,
+                                     uint32_t *history, size_t history_len);
+
+/*
+ * Undo takes the last standing step back; redo does the next undone step again.
+ * Accepted: the new length.
+ * Refused: 16 (text, history); 14; 13.
+ */
+qalithonda_edited qalithonda_undo(qalithonda_page page,
+                                  uint32_t *text, size_t text_len,
+                                  const uint32_t *history, size_t history_len);
+qalithonda_edited qalithonda_redo(qalithonda_page page,
+                                  uint32_t *text, size_t text_len,
+                                  const uint32_t *history, size_t history_len);
+
+/*
+ * Gives the letter's bytes: if no step stands, those of `arrived` as they are; otherwise the text
+ * written in the page's kind. `arrived` are the bytes that the page was opened on. Room for
+ * arrived_len bytes is enough if no step stands; otherwise 5 * length is (UTF-7), or
+ * 6 * length + 3 (JP-2).
+ * Accepted: the count of bytes, which are in `out`.
+ * Refused: 16 (text, history, arrived); 14; 15 (only if no step stands), 10 (only if one does: the
+ * index is in the text); 9 (out).
+ */
+qalithonda_numbers qalithonda_save(qalithonda_page page,
+                                   const uint32_t *text, size_t text_len,
+                                   const uint32_t *history, size_t history_len,
+                                   const uint8_t *arrived, size_t arrived_len,
+                                   uint8_t *out, size_t out_len);
+
+#ifdef __cplusplus
+}
+#endif
+
+#endif
