@@ -1,0 +1,26 @@
+// The tables of results, from the measured rows.
+#pragma once
+
+#include <vector>
+
+#include "agree.h"
+#include "rows.h"
+#include "table.h"
+#include "timing.h"
+
+struct Measured {
+    Task task;
+    std::vector<Timed> timed;
+};
+
+Table reading_table(const std::vector<Measured> &all);
+Table writing_table(const std::vector<Measured> &all);
+Table stepping_table(const std::vector<Measured> &all);
+Table limit_table(const std::vector<Measured> &all);
+Table page_table(const std::vector<Measured> &all);
+
+// Every party and way by itself.
+Table ways_table(const std::vector<Measured> &all);
+
+// How long each party's own writing of the corpora is.
+Table agreement_table(const std::vector<Agreement> &all);

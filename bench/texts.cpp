@@ -1,0 +1,182 @@
+#include "texts.h"
+
+#include <cstring>
+#include <memory>
+
+#include "peers.h"
+
+using Shared = std::shared_ptr<const Material>;
+
+size_t Material::cell_count() const {
+    size_t sum = 0;
+    for (const Cells &piece : cells) sum += piece.size();
+    return sum;
+}
+
+static size_t accepted(qalithonda_numbers answer, const char *what) {
+    if (answer.number != 0)
+        fail(std::string(what) + ": number " + std::to_string(answer.number) + ", place " + std::to_string(answer.place));
+    return answer.place;
+}
+
+Material prepare(Corpus corpus) {
+    Material m{std::move(corpus), {}, {}, {}};
+    const Format &format = *m.corpus.format;
+    Icu icu(format.icu);
+    for (const Bytes &text : m.corpus.pieces) {
+        Cells cells(text.size());
+        cells.resize(accepted(format.read(text.data(), text.size(), cells.data(), cells.size()), "reading"));
+        m.cells.push_back(cells);
+        Units units(text.size(), 0);
+        units.resize(icu.read(text.data(), text.size(), units.data(), units.size()));
+        m.units.push_back(units);
+    }
+    for (const char *way : ICONV_WAYS) {
+        Iconv iconv(way, format.iconv);
+        for (const Bytes &text : m.corpus.pieces) {
+            Bytes wide(4 * text.size());
+            wide.resize(iconv.convert(text.data(), text.size(), wide.data(), wide.size()));
+            m.iconvs[way].push_back(wide);
+        }
+    }
+    return m;
+}
+
+// Each pass converts all pieces, one after another, into one stretch of memory. Each party has memory of its own.
+
+template <class List> static std::shared_ptr<List> memory(size_t length) { return std::make_shared<List>(length, 0); }
+
+static Party our_reading(Shared m) {
+    return {"ours", "", [m, out = memory<Cells>(m->corpus.bytes())] {
+                size_t at = 0;
+                for (const Bytes &text : m->corpus.pieces)
+                    at += accepted(m->corpus.format->read(text.data(), text.size(), &(*out)[at], out->size() - at), "reading");
+            }};
+}
+
+static Party our_stepping(Shared m) {
+    return {"ours", "", [m, out = memory<Cells>(m->corpus.bytes())] {
+                size_t at = 0;
+                for (const Bytes &text : m->corpus.pieces)
+                    at += accepted(m->corpus.format->steps(text.data(), text.size(), &(*out)[at]), "stepping");
+            }};
+}
+
+static Party iconv_reading(Shared m, const std::string &way) {
+    auto iconv = std::make_shared<Iconv>(way, m->corpus.format->iconv);
+    return {"iconv", way, [m, iconv, out = memory<Bytes>(4 * m->corpus.bytes())] {
+                size_t at = 0;
+                for (const Bytes &text : m->corpus.pieces)
+                    at += iconv->convert(text.data(), text.size(), &(*out)[at], out->size() - at);
+            }};
+}
+
+static Party icu_reading(Shared m) {
+    auto icu = std::make_shared<Icu>(m->corpus.format->icu);
+    return {"ICU", "", [m, icu, out = memory<Units>(m->corpus.bytes())] {
+                size_t at = 0;
+                for (const Bytes &text : m->corpus.pieces)
+                    at += icu->read(text.data(), text.size(), &(*out)[at], out->size() - at);
+            }};
+}
+
+// Room for any writing of the corpus's characters: six bytes a cell, and a designation at the end of each piece.
+static size_t writing_room(const Material &m) { return 6 * m.cell_count() + 3 * m.cells.size(); }
+
+static Party our_writing(Shared m, const Style &style) {
+    return {"ours", "", [m, write = style.ours, out = memory<Bytes>(writing_room(*m))] {
+                size_t at = 0;
+                for (const Cells &cells : m->cells)
+                    at += accepted(write(cells.data(), cells.size(), &(*out)[at], out->size() - at), "writing");
+            }};
+}
+
+static Party iconv_writing(Shared m, const std::string &way) {
+    auto iconv = std::make_shared<Iconv>(m->corpus.format->iconv, way);
+    return {"iconv", way, [m, iconv, pieces = &m->iconvs.at(way), out = memory<Bytes>(writing_room(*m))] {
+                size_t at = 0;
+                for (const Bytes &wide : *pieces)
+                    at += iconv->convert(wide.data(), wide.size(), &(*out)[at], out->size() - at);
+            }};
+}
+
+static Party icu_writing(Shared m, const Style &style) {
+    auto icu = std::make_shared<Icu>(style.icu);
+    return {"ICU", "", [m, icu, out = memory<Bytes>(writing_room(*m))] {
+                size_t at = 0;
+                for (const Units &units : m->units)
+                    at += icu->write(units.data(), units.size(), &(*out)[at], out->size() - at);
+            }};
+}
+
+// Kept out of line, so that the compiler cannot see that nobody looks at the result.
+[[gnu::noinline]] static void widen(const uint8_t *__restrict from, size_t length, uint32_t *__restrict to) {
+    for (size_t i = 0; i < length; i++) to[i] = from[i];
+    asm volatile("" ::: "memory");
+}
+
+[[gnu::noinline]] static void copy(const uint8_t *from, size_t length, uint8_t *to) {
+    std::memcpy(to, from, length);
+    asm volatile("" ::: "memory");
+}
+
+static Party widening(std::shared_ptr<const std::vector<Bytes>> pieces, size_t bytes) {
+    return {"widen", "", [pieces, out = memory<Cells>(bytes)] {
+                size_t at = 0;
+                for (const Bytes &text : *pieces) {
+                    widen(text.data(), text.size(), &(*out)[at]);
+                    at += text.size();
+                }
+            }};
+}
+
+static Party copying(std::shared_ptr<const std::vector<Bytes>> pieces, size_t bytes) {
+    return {"memcpy", "", [pieces, out = memory<Bytes>(bytes)] {
+                size_t at = 0;
+                for (const Bytes &text : *pieces) {
+                    copy(text.data(), text.size(), &(*out)[at]);
+                    at += text.size();
+                }
+            }};
+}
+
+Row limit_row(const Corpus &corpus) {
+    auto pieces = std::make_shared<const std::vector<Bytes>>(corpus.pieces);
+    const size_t bytes = corpus.bytes();
+    return {{"limit", corpus.size, "bytes", bytes, bytes}, {copying(pieces, bytes), widening(pieces, bytes)}};
+}
+
+static std::string writing_call(const Style &style) { return style.name.empty() ? "write" : "write-" + style.name; }
+
+std::vector<std::string> text_calls(const Format &format) {
+    std::vector<std::string> calls{"read"};
+    for (const Style &style : format.styles) calls.push_back(writing_call(style));
+    if (format.steps) calls.push_back("step");
+    return calls;
+}
+
+std::vector<Row> text_rows(Shared m) {
+    const Corpus &corpus = m->corpus;
+    const size_t bytes = corpus.bytes(), cells = m->cell_count();
+    std::vector<Row> rows;
+
+    Row read{{corpus.name, corpus.size, "read", bytes, cells}, {our_reading(m)}};
+    for (const char *way : ICONV_WAYS) read.parties.push_back(iconv_reading(m, way));
+    read.parties.push_back(icu_reading(m));
+    read.parties.push_back(widening(std::make_shared<const std::vector<Bytes>>(corpus.pieces), bytes));
+    rows.push_back(read);
+
+    for (const Style &style : corpus.format->styles) {
+        Row write{{corpus.name, corpus.size, writing_call(style), bytes, cells}, {our_writing(m, style)}};
+        for (const char *way : ICONV_WAYS) write.parties.push_back(iconv_writing(m, way));
+        write.parties.push_back(icu_writing(m, style));
+        rows.push_back(write);
+    }
+
+    if (corpus.format->steps) {
+        Row step{{corpus.name, corpus.size, "step", bytes, cells}, {our_stepping(m)}};
+        for (const char *way : ICONV_WAYS) step.parties.push_back(iconv_reading(m, way));
+        rows.push_back(step);
+    }
+    return rows;
+}
