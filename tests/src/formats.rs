@@ -1,24 +1,32 @@
 //! The formats: what the second program and the papers have of each, and what its programs are tried on.
 
-use crate::examples::{self, Group, Listing, Reading, Writing};
+use crate::examples::{self, Group, Listing, Reading, Stepping, Writing};
 use crate::second::utf7::Style;
-use crate::second::{jp2, utf7, Elements, Kind};
+use crate::second::{jp2, utf7, Elements, Kind, Steps};
 use crate::texts::{self, Source};
 
 pub struct Format {
     /// How its checks are named.
     pub name: &'static str,
-    /// The name of its lister.
-    pub lister: &'static str,
+    /// The lister of its texts, if there is one.
+    pub lister: Option<Lister>,
     /// The faults of its texts.
     pub faults: &'static [u32],
     /// The second program's reader.
     pub read: fn(&[u8]) -> Elements<u32>,
     pub readings: Vec<Group<Reading>>,
-    pub listings: Vec<Listing>,
+    /// The second program's steps.
+    pub steps: fn(&[u8]) -> Steps,
+    pub steppings: Vec<Group<Stepping>>,
     pub writers: Vec<Writer>,
     /// Makes texts and lists.
     pub source: &'static Source,
+}
+
+pub struct Lister {
+    /// The name of the program.
+    pub name: &'static str,
+    pub listings: Vec<Listing>,
 }
 
 pub struct Writer {
@@ -29,6 +37,19 @@ pub struct Writer {
     /// The bytes that suffice for so many cells.
     pub enough: fn(usize) -> usize,
     pub writings: Vec<Group<Writing>>,
+}
+
+impl Format {
+    /// The statuses of a function that reads its texts, with these besides the faults.
+    pub fn statuses(&self, others: &[u32]) -> Vec<u32> {
+        [self.faults, others].concat()
+    }
+}
+
+/// Every format, for the unit tests.
+#[cfg(test)]
+pub fn all() -> [Format; 2] {
+    [utf7(), jp2()]
 }
 
 /// The format of the texts of a kind of page.
@@ -49,11 +70,12 @@ pub fn utf7() -> Format {
     };
     Format {
         name: "utf7",
-        lister: "utf7_lister",
+        lister: Some(Lister { name: "utf7_lister", listings: examples::utf7::listings() }),
         faults: &[1, 2, 3, 4],
         read: utf7::read,
         readings: examples::utf7::readings(),
-        listings: examples::utf7::listings(),
+        steps: utf7::steps,
+        steppings: examples::utf7::steppings(),
         writers: vec![
             writer("utf7-header", |cells| utf7::write(Style::Header, cells), Style::Header),
             writer("utf7-body", |cells| utf7::write(Style::Body, cells), Style::Body),
@@ -72,11 +94,12 @@ pub fn jp2() -> Format {
     };
     Format {
         name: "jp2",
-        lister: "jp2_lister",
+        lister: Some(Lister { name: "jp2_lister", listings: examples::jp2::listings() }),
         faults: &[1, 3, 5, 6, 7, 8],
         read: jp2::read,
         readings: examples::jp2::readings(),
-        listings: examples::jp2::listings(),
+        steps: jp2::steps,
+        steppings: examples::jp2::steppings(),
         writers: vec![writer],
         source: &texts::jp2::SOURCE,
     }

@@ -48,8 +48,11 @@ impl<T: Element> Lent<T> {
 
     /// The contents, or which element beside them was changed.
     pub fn take_back(mut self) -> Result<Vec<T>, String> {
-        let contents = self.contents().to_vec();
-        same(&Lent::new(&contents).memory, &self.memory, -(MARGIN as isize))?;
+        let margin = filled(MARGIN);
+        let after = self.memory.split_off(self.memory.len() - MARGIN);
+        let contents = self.memory.split_off(MARGIN);
+        same(&margin, &self.memory, -(MARGIN as isize))?;
+        same(&margin, &after, contents.len() as isize)?;
         Ok(contents)
     }
 }

@@ -3,6 +3,8 @@
 use std::fmt::{Display, UpperHex};
 use std::ops::Range;
 
+use crate::fault;
+
 /// How often a failing input is tried with a part left out.
 const ATTEMPTS: usize = 500;
 
@@ -58,7 +60,8 @@ pub fn try_all<I: Input>(
 ) -> Result<usize, String> {
     let mut count = 0;
     for input in inputs {
-        if let Err(difference) = compare(&input) {
+        fault::in_case(count);
+        if let Err(difference) = fault::on_input(&input, &mut compare) {
             let (small, difference) = shrink(input, difference, compare);
             return Err(format!("on {}: {difference}", small.show()));
         }
@@ -77,7 +80,7 @@ fn shrink<I: Input>(input: I, difference: String, mut compare: impl FnMut(&I) ->
         while start < found.0.length() && attempts < ATTEMPTS {
             let end = (start + size).min(found.0.length());
             let smaller = found.0.without(start..end);
-            match compare(&smaller) {
+            match fault::on_input(&smaller, &mut compare) {
                 Err(difference) => found = (smaller, difference),
                 Ok(()) => start += size,
             }
@@ -110,6 +113,9 @@ fn hex<T: UpperHex>(element: &T) -> String {
 
 /// That two lists of one length are equal, or where they first differ; their first element has this index.
 pub fn same<T: UpperHex + PartialEq>(expected: &[T], found: &[T], first_index: isize) -> Result<(), String> {
+    if expected == found {
+        return Ok(());
+    }
     match expected.iter().zip(found).zip(first_index..).find(|((left, right), _)| left != right) {
         Some(((left, right), index)) => Err(format!("element {index} is {} and not {}", hex(right), hex(left))),
         None => Ok(()),

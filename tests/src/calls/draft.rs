@@ -1,6 +1,6 @@
 //! A list of calls in the making. What is chosen next depends on the state that the second program says is reached.
 
-use super::{Change, List, Move};
+use super::{Change, List, Move, Sort};
 use crate::rng::Rng;
 use crate::second::page::{self, Page, State};
 use crate::second::{Call, Kind};
@@ -16,11 +16,8 @@ pub struct Draft {
     arrived: Vec<u8>,
 }
 
-/// Chooses a call of one sort.
-type Choose = fn(&Draft, &mut Rng) -> Call;
-
 /// The sorts of calls that are made on what was opened.
-const SORTS: [Choose; 4] = [Draft::replace, |_, _| Call::Undo, |_, _| Call::Redo, Draft::save];
+const SORTS: [Sort; 4] = [Sort::Replace, Sort::Undo, Sort::Redo, Sort::Save];
 
 impl Draft {
     pub fn new(start: State, kind: Kind, arrived: Vec<u8>) -> Draft {
@@ -34,23 +31,44 @@ impl Draft {
 
     /// Adds one to four calls of one sort.
     pub fn add_calls(&mut self, rng: &mut Rng) {
-        let [replace, undo, redo, save] = SORTS;
-        let (choose, most) = match rng.below(16) {
-            0..=6 => (replace, 3),
-            7..=9 => (undo, 4),
-            10..=12 => (redo, 3),
-            _ => (save, 2),
+        let (sort, most) = match rng.below(16) {
+            0..=6 => (Sort::Replace, 3),
+            7..=9 => (Sort::Undo, 4),
+            10..=12 => (Sort::Redo, 3),
+            _ => (Sort::Save, 2),
         };
         for _ in 0..rng.between(1, most) {
-            self.add_call(choose(self, rng));
+            self.add_call(self.call(rng, sort));
         }
     }
 
     /// Adds one call of each sort; those that are refused leave the state to the next.
     pub fn add_each(&mut self, rng: &mut Rng) {
         let first = rng.below(SORTS.len());
-        for choose in SORTS.iter().cycle().skip(first).take(SORTS.len()) {
-            self.add_call(choose(self, rng));
+        for sort in SORTS.into_iter().cycle().skip(first).take(SORTS.len()) {
+            self.add_call(self.call(rng, sort));
+        }
+    }
+
+    /// One call of this sort on the state that is reached; what is opened often just fits the text buffer, or does not.
+    pub fn alone(self, rng: &mut Rng, sort: Sort) -> List {
+        let call = self.call(rng, sort);
+        let mut start = self.state;
+        if let Call::Open { kind, arrived } = &call {
+            if let (true, Ok(cells)) = (rng.one_in(2), kind.read(arrived)) {
+                start.text.resize((cells.len() + rng.below(2)).saturating_sub(rng.below(2)), 7);
+            }
+        }
+        List { start, moves: vec![Move::Call(call)] }
+    }
+
+    fn call(&self, rng: &mut Rng, sort: Sort) -> Call {
+        match sort {
+            Sort::Open(kind) => Call::Open { kind, arrived: self.lent_bytes(rng) },
+            Sort::Replace => self.replace(rng),
+            Sort::Undo => Call::Undo,
+            Sort::Redo => Call::Redo,
+            Sort::Save => self.save(rng),
         }
     }
 

@@ -38,6 +38,28 @@ pub fn draft(rng: &mut Rng, kind: Kind) -> Draft {
     Draft::new(State { page, text, history: making.history }, kind, arrived)
 }
 
+/// A draft that starts with a page and buffers of any numbers.
+pub fn any(rng: &mut Rng, kind: Kind) -> Draft {
+    let (cells, words) = (rng.below(300), rng.below(300));
+    let [opening, length, used, done] = [cells, cells, words, words].map(|near| any_number(rng, near) as usize);
+    let page = Page { kind: kind.number(), opening, length, used, done };
+    let text = (0..cells).map(|_| any_number(rng, 65_536) as u32).collect();
+    let history = (0..words).map(|_| any_number(rng, words) as u32).collect();
+    let arrived = texts::of_kind(kind).text(rng, cells);
+    Draft::new(State { page, text, history }, kind, arrived)
+}
+
+/// A number that is often small, or not much over this one.
+fn any_number(rng: &mut Rng, near: usize) -> u64 {
+    match rng.below(6) {
+        0 => 0,
+        1..=2 => rng.below(4) as u64,
+        3 => rng.below(near + 2) as u64,
+        4 => u64::MAX - rng.below(4) as u64,
+        _ => rng.next(),
+    }
+}
+
 impl Making {
     /// Adds a record, if it fits so many words. A few lie one cell too far, which may be beyond the text.
     fn add_record(&mut self, rng: &mut Rng, words: usize) {

@@ -26,6 +26,16 @@ pub enum Move {
     Change(Change),
 }
 
+/// What a call is made for.
+#[derive(Clone, Copy)]
+pub enum Sort {
+    Open(Kind),
+    Replace,
+    Undo,
+    Redo,
+    Save,
+}
+
 /// A change that no call makes.
 #[derive(Clone, Copy)]
 pub enum Change {

@@ -1,7 +1,7 @@
 //! Seeded lists of calls.
 
 use super::draft::Draft;
-use super::{blank, made, List};
+use super::{blank, made, List, Sort};
 use crate::rng::Rng;
 use crate::second::Kind;
 use crate::texts;
@@ -59,6 +59,33 @@ pub fn made(seed: u64, kind: Kind, count: usize) -> impl Iterator<Item = List> {
     })
 }
 
+/// So many calls of a sort, each by itself: on a page that was opened and edited, that was made by hand, or of any
+/// numbers; changed by hand or not.
+pub fn alone(seed: u64, sort: Sort, count: usize) -> impl Iterator<Item = List> {
+    let mut rng = Rng::new(seed, "calls by themselves");
+    (0..count).map(move |_| {
+        let kind = if let Sort::Open(kind) = sort { kind } else { rng.pick(&Kind::ALL) };
+        let mut draft = match rng.below(4) {
+            0..=1 => edited(&mut rng, kind),
+            2 => made::draft(&mut rng, kind),
+            _ => made::any(&mut rng, kind),
+        };
+        for _ in 0..rng.pick(&[0, 0, 1, 2]) {
+            draft.add_change(&mut rng);
+        }
+        draft.alone(&mut rng, sort)
+    })
+}
+
+fn edited(rng: &mut Rng, kind: Kind) -> Draft {
+    let size = if rng.one_in(4) { LARGE } else { SMALL };
+    let mut draft = open(rng, kind, size);
+    for _ in 0..rng.below(6) {
+        draft.add_calls(rng);
+    }
+    draft
+}
+
 fn seeded(seed: u64, purpose: String, count: usize, draft: impl Fn(&mut Rng) -> Draft) -> impl Iterator<Item = List> {
     let mut rng = Rng::new(seed, &purpose);
     (0..count).map(move |_| draft(&mut rng).list)
@@ -105,6 +132,19 @@ mod tests {
         for kind in Kind::ALL {
             let count = made(1, kind, 1_000).filter(|list| sound(&list.start).is_some()).count();
             assert!((600..950).contains(&count), "{count}");
+        }
+    }
+
+    #[test]
+    fn calls_by_themselves_are_accepted_now_and_then() {
+        let opens = Kind::ALL.map(Sort::Open);
+        for sort in opens.into_iter().chain([Sort::Replace, Sort::Undo, Sort::Redo, Sort::Save]) {
+            let is_accepted = |list: &List| match &list.moves[..] {
+                [Move::Call(call)] => left(&list.start, call, &vec![0; call.room()]).answer.number == 0,
+                _ => panic!("one call"),
+            };
+            let accepted = alone(1, sort, 1_000).filter(is_accepted).count();
+            assert!((50..950).contains(&accepted), "{accepted}");
         }
     }
 }

@@ -1,19 +1,19 @@
 //! The listers.
 
 use super::subject::Subject;
-use crate::formats::Format;
-use crate::lister::Lister;
+use crate::formats::{Format, Lister};
+use crate::program::Program;
 use crate::report::{Report, Statuses};
 use crate::rng::Rng;
 use crate::second::{listed, print_listing, Elements, LIMIT, LISTER_LIMIT};
-use crate::texts::{self, Source};
+use crate::texts::{self, lengths, Source};
 use crate::trial::{quote, try_examples, QUOTED};
 
 /// A lister, and the second program's reader of its format.
 struct Listing {
     /// How its checks are named.
     name: String,
-    lister: Lister,
+    lister: Program,
     read: fn(&[u8]) -> Elements<u32>,
 }
 
@@ -34,12 +34,12 @@ impl Subject for Listing {
     }
 }
 
-pub fn run(report: &mut Report, format: &Format, seeded: &[Vec<u8>], seed: u64) {
-    let lister = Lister::new(format.lister);
-    let subject = Listing { name: format!("{}-lister", format.name), lister, read: format.read };
+pub fn run(report: &mut Report, format: &Format, lister: &Lister, seed: u64) {
+    let name = format!("{}-lister", format.name);
+    let subject = Listing { name, lister: Program::new(lister.name), read: format.read };
     let name = format!("{}-printed", subject.name);
     report.check(&name, "listings printed out in document 01 and like them", |statuses| {
-        try_examples(&format.listings, |example| {
+        try_examples(&lister.listings, |example| {
             compare_printed(&subject.lister, &example.input, example.expected, statuses)
         })
     });
@@ -49,8 +49,9 @@ pub fn run(report: &mut Report, format: &Format, seeded: &[Vec<u8>], seed: u64) 
     subject.check(report, "one-byte", "every text of no byte and of one", short);
     let what = "seeded texts of two bytes, and each byte after the one that opens an escape or run";
     subject.check(report, "two-bytes", what, two_bytes(format.source.opener, seed));
-    subject.check(report, "seeded", "seeded texts, whole and damaged", seeded.iter().cloned());
-    report.check_statuses(format.lister, &[format.faults, &[0, 16]].concat());
+    let seeded = format.source.texts(seed, "texts for listers", 3_000, lengths::for_listers);
+    subject.check(report, "seeded", "seeded texts, whole and damaged", seeded);
+    report.expect_statuses(lister.name, &format.statuses(&[0, 16]));
 }
 
 /// Texts around the greatest length, with faults early, late and none.
@@ -67,8 +68,8 @@ fn two_bytes(opener: u8, seed: u64) -> impl Iterator<Item = Vec<u8>> {
 }
 
 /// Compares what the lister prints with what it is to print.
-fn compare_printed(lister: &Lister, text: &[u8], expected: &str, statuses: &mut Statuses) -> Result<(), String> {
-    let printed = lister.list(text)?;
+fn compare_printed(lister: &Program, text: &[u8], expected: &str, statuses: &mut Statuses) -> Result<(), String> {
+    let printed = lister.run(text)?;
     if let Some(status) = printed_status(&printed) {
         statuses.count(lister.name, status);
     }

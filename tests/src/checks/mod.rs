@@ -1,53 +1,58 @@
 //! The checks: what the built programs give, compared with the papers and with the second program.
 
 mod call;
+mod cursors;
 mod lister;
+mod memory;
 mod page;
 mod reading;
+mod stepping;
 mod subject;
 mod tally;
 mod writing;
 
 use crate::formats::{self, Format};
+use crate::library::steps::Cursor;
 use crate::library::{self, Functions};
+use crate::parts::Part;
 use crate::report::Report;
 use crate::second::LIMIT;
-use crate::texts::Source;
+use crate::settings::Settings;
+use crate::texts::{self, Source};
 use subject::Subject;
 
-/// Every check of UTF-7.
-pub fn utf7(report: &mut Report, seed: u64) {
-    readers_and_writers(report, &formats::utf7(), &library::UTF7, seed);
+/// Every part of the comparison. A format is a line here, and so is a program that is no lister.
+pub fn parts(settings: Settings) -> Vec<Part> {
+    let seed = settings.seed;
+    let tally = Part::new("jp2-tally", move |report| tally::run(report, &texts::jp2::SOURCE, seed));
+    let mut parts = Vec::new();
+    parts.extend(of_format(formats::utf7, &library::UTF7, seed));
+    parts.extend(of_format(formats::jp2, &library::JP2, seed));
+    parts.push(tally);
+    parts.extend(page::parts(seed));
+    parts.extend(memory::parts(settings));
+    parts
 }
 
-/// Every check of JP-2.
-pub fn jp2(report: &mut Report, seed: u64) {
-    let format = formats::jp2();
-    readers_and_writers(report, &format, &library::JP2, seed);
-    tally::run(report, format.source, seed);
-}
-
-/// Every check of the page, in all its kinds.
-pub fn page(report: &mut Report, seed: u64) {
-    page::run(report, seed);
-}
-
-fn readers_and_writers(report: &mut Report, format: &Format, library: &Functions, seed: u64) {
-    let texts: Vec<Vec<u8>> = format.source.texts(seed, "texts", 3_000).collect();
-    lister::run(report, format, &texts, seed);
-    reading::run(report, format, &library.read, &texts, seed);
-    assert_eq!(format.writers.len(), library.write.len(), "a function for each writer");
-    for (writer, function) in format.writers.iter().zip(library.write) {
-        writing::run(report, format.source, writer, function, seed);
-        let writable = seeded_lists(format.source, seed).filter(|list| (writer.write)(list).is_ok());
-        let read = texts.iter().filter_map(|text| (format.read)(text).ok());
-        writing::check_round_trips(report, writer, function, &library.read, writable.chain(read));
-    }
+/// The parts of a format: its lister, its reader, its steps and its writers.
+fn of_format<C: Cursor>(format: fn() -> Format, library: &'static Functions<C>, seed: u64) -> Vec<Part> {
+    let Format { name, lister, writers, .. } = format();
+    assert_eq!(writers.len(), library.write.len(), "a function for each writer");
+    let lister = lister
+        .map(|lister| Part::new(format!("{name}-lister"), move |report| lister::run(report, &format(), &lister, seed)));
+    let read = Part::new(format!("{name}-read"), move |report| reading::run(report, &format(), &library.read, seed));
+    let step = Part::new(format!("{name}-step"), move |report| stepping::run(report, &format(), &library.step, seed));
+    let write = writers.into_iter().zip(library.write).map(|(writer, write)| {
+        Part::new(format!("{}-write", writer.name), move |report| {
+            writing::run(report, &format(), &writer, write, &library.read, seed);
+        })
+    });
+    lister.into_iter().chain([read, step]).chain(write).collect()
 }
 
 /// The seeded lists that writers and the tally are tried on.
 fn seeded_lists(source: &Source, seed: u64) -> impl Iterator<Item = Vec<u32>> + '_ {
-    source.lists(seed, "lists", 5_000)
+    source.lists(seed, "lists", 200_000)
 }
 
 /// Checks a writer or the tally against the second program.
@@ -55,6 +60,8 @@ fn check_on_lists(report: &mut Report, subject: &impl Subject<Element = u32>, so
     let lone = (source.lone_cells)().into_iter().map(|cell| vec![cell]);
     subject.check(report, "lone-cells", "each writable cell by itself, and many that are not writable", lone);
     subject.check(report, "seeded", "seeded lists", seeded_lists(source, seed));
+    let long = source.long_lists(seed, 200);
+    subject.check(report, "long", "seeded lists near the limit and over it, writable and not", long);
     let near = [LIMIT - 1, LIMIT, LIMIT + 1].into_iter().flat_map(|length| source.lists_of_length(length));
-    subject.check(report, "limit", "lists at the limit and beyond it", near);
+    subject.check(report, "limit", "lists at the limit and one off it", near);
 }

@@ -40,5 +40,5 @@ impl Subject for Tally {
 pub fn run(report: &mut Report, source: &Source, seed: u64) {
     Tally.check_groups(report, &examples::jp2::tallies());
     check_on_lists(report, &Tally, source, seed);
-    report.check_statuses(JP2_TALLY, &[0, 10, 16]);
+    report.expect_statuses(JP2_TALLY, &[0, 10, 16]);
 }

@@ -1,34 +1,32 @@
 //! The library's writers, and the way back through its readers.
 
 use super::call::{lend, Call};
-use super::check_on_lists;
 use super::subject::Subject;
-use crate::formats::Writer;
+use super::{check_on_lists, seeded_lists};
+use crate::formats::{Format, Writer};
 use crate::library::Function;
 use crate::report::Report;
 use crate::second::{outcome, Answer, LIMIT};
-use crate::texts::Source;
+use crate::texts::lengths;
 use crate::trial::try_all;
 
-pub fn run(report: &mut Report, source: &Source, writer: &Writer, function: &Function<u32, u8>, seed: u64) {
-    let subject =
-        Call { name: format!("{}-write", writer.name), function, second: writer.write, enough: writer.enough };
-    subject.check_groups(report, &writer.writings);
-    check_on_lists(report, &subject, source, seed);
-    report.check_statuses(function.name, &[0, 9, 10, 16]);
-}
-
-/// Checks that the library reads back what it writes for these lists.
-pub fn check_round_trips(
+pub fn run(
     report: &mut Report,
+    format: &Format,
     writer: &Writer,
     write: &Function<u32, u8>,
     read: &Function<u8, u32>,
-    lists: impl Iterator<Item = Vec<u32>>,
+    seed: u64,
 ) {
+    let name = format!("{}-write", writer.name);
+    let subject = Call { name, function: write, second: writer.write, enough: writer.enough };
+    subject.check_groups(report, &writer.writings);
+    check_on_lists(report, &subject, format.source, seed);
+    report.expect_statuses(write.name, &[0, 9, 10, 16]);
+
     let what = "writable seeded lists, and cells of seeded texts, written and read back by the library";
     report.check(&format!("{}-round-trip", writer.name), what, |_| {
-        try_all(lists, |cells| {
+        try_all(writable_lists(format, writer, seed), |cells| {
             // In the room that always suffices.
             let mut text = vec![0; (writer.enough)(cells.len())];
             let written = write.call(cells, &mut text);
@@ -38,6 +36,12 @@ pub fn check_round_trips(
             }
         })
     });
+}
+
+fn writable_lists<'a>(format: &'a Format, writer: &'a Writer, seed: u64) -> impl Iterator<Item = Vec<u32>> + 'a {
+    let written = seeded_lists(format.source, seed).filter(|list| (writer.write)(list).is_ok());
+    let texts = format.source.texts(seed, "texts to write again", 3_000, lengths::for_listers);
+    written.chain(texts.filter_map(|text| (format.read)(&text).ok()))
 }
 
 /// That a written text, where it is within the limit, reads as these cells.

@@ -6,7 +6,7 @@ pub mod utf7;
 
 use std::fmt::{self, Display, Formatter, UpperHex};
 
-use crate::second::{Answer, Elements};
+use crate::second::{Answer, Complete, Elements, Steps};
 use crate::trial::show;
 
 /// An input and what is given for it.
@@ -18,6 +18,9 @@ pub struct Example<I, E> {
 
 /// A text and what reading it gives.
 pub type Reading = Example<u8, Elements<u32>>;
+
+/// A text and what stepping through it gives.
+pub type Stepping = Example<u8, Steps>;
 
 /// Cells and what writing them gives.
 pub type Writing = Example<u32, Elements<u8>>;
@@ -44,6 +47,12 @@ fn gives<I: Copy, O: Copy>(name: &'static str, input: &[I], elements: &[O]) -> E
 
 fn refuses<I: Copy, O>(name: &'static str, input: &[I], number: u32, place: usize) -> Example<I, Elements<O>> {
     Example { name, input: input.to_vec(), expected: Err(Answer { number, place }) }
+}
+
+/// The cells that are handed out, each with the place of the byte that completes it, and then the answer.
+fn steps(name: &'static str, text: &[u8], cells: &[(u32, usize)], number: u32, place: usize) -> Stepping {
+    let cells = cells.iter().map(|&(cell, place)| Complete { cell, place }).collect();
+    Example { name, input: text.to_vec(), expected: Steps { cells, answer: Answer { number, place } } }
 }
 
 fn prints(name: &'static str, text: &[u8], printed: &'static str) -> Listing {

@@ -1,6 +1,6 @@
 //! Examples of UTF-7.
 
-use super::{gives, prints, refuses, Group, Listing, Reading, Writing};
+use super::{gives, prints, refuses, steps, Group, Listing, Reading, Stepping, Writing};
 use crate::second::utf7::Style::{self, Body, Header};
 
 /// The first two are printed out in document 01.
@@ -20,6 +20,14 @@ pub fn readings() -> Vec<Group<Reading>> {
         Group { name: "edge-cases", what: "texts that are easy to get wrong", examples: edge_readings() },
         Group { name: "rfc-2152", what: "every example of RFC 2152", examples: rfc_readings() },
     ]
+}
+
+pub fn steppings() -> Vec<Group<Stepping>> {
+    vec![Group {
+        name: "before-faults",
+        what: "cells complete before the first fault, and whole texts",
+        examples: stepped(),
+    }]
 }
 
 pub fn writings(style: Style) -> Vec<Group<Writing>> {
@@ -98,6 +106,26 @@ fn edge_readings() -> Vec<Reading> {
         refuses("a backslash", b"\\", 3, 0),
         refuses("a control character", b"a\x00", 3, 1),
         refuses("DEL", b"\x7F", 3, 0),
+    ]
+}
+
+/// Texts stepped through. "Each step hands out the next cell complete before the first fault."
+fn stepped() -> Vec<Stepping> {
+    vec![
+        steps("P1", b"", &[], 0, 0),
+        steps("P2", b"A+ImIDkQ.", &[(0x41, 0), (0x2262, 4), (0x391, 7), (0x2E, 8)], 0, 4),
+        steps("P5", b"+-", &[(0x2B, 1)], 0, 1),
+        steps("P6", b"+", &[], 2, 1),
+        steps("P7, a unit and then bits that are not zero", b"+AKN-", &[(0xA3, 3)], 4, 4),
+        steps("P7, second clause", b"+AKM-1", &[(0xA3, 3), (0x31, 5)], 0, 2),
+        steps("P8", b"+A-", &[], 0, 0),
+        steps("a byte of no set after two cells", b"ab~c", &[(0x61, 0), (0x62, 1)], 3, 2),
+        steps("a bare plus after a cell", b"a+!", &[(0x61, 0)], 2, 2),
+        steps("a high byte in a run", b"+ImIDkQ\x80", &[(0x2262, 3), (0x391, 6)], 1, 7),
+        steps("a high byte before a unit is full", b"+ImID\x80", &[(0x2262, 3)], 1, 5),
+        steps("bits that are not zero at the end of the text", b"+ImIB", &[(0x2262, 3)], 4, 5),
+        steps("three units in eight letters", b"+ZeVnLIqe", &[(0x65E5, 3), (0x672C, 6), (0x8A9E, 8)], 0, 3),
+        steps("a fault in a later run", b"+AKM-+AKM-+", &[(0xA3, 3), (0xA3, 8)], 2, 11),
     ]
 }
 

@@ -1,8 +1,10 @@
 //! The C interface of libqalithonda.a, in safe functions on slices.
 
 pub mod page;
+pub mod steps;
 
 use crate::second::Answer;
+use steps::{Jp2Cursor, Stepper, Utf7Cursor};
 
 #[repr(C)]
 struct RawAnswer {
@@ -39,21 +41,24 @@ impl<I, O> Function<I, O> {
 }
 
 /// The functions of a format; the writers are in the order of `Format::writers`.
-pub struct Functions {
+pub struct Functions<C: 'static> {
     pub read: Function<u8, u32>,
+    pub step: Stepper<C>,
     pub write: &'static [Function<u32, u8>],
 }
 
-pub const UTF7: Functions = Functions {
+pub const UTF7: Functions<Utf7Cursor> = Functions {
     read: Function { name: "qalithonda_utf7_read", raw: qalithonda_utf7_read },
+    step: steps::UTF7,
     write: &[
         Function { name: "qalithonda_utf7_header_write", raw: qalithonda_utf7_header_write },
         Function { name: "qalithonda_utf7_body_write", raw: qalithonda_utf7_body_write },
     ],
 };
 
-pub const JP2: Functions = Functions {
+pub const JP2: Functions<Jp2Cursor> = Functions {
     read: Function { name: "qalithonda_jp2_read", raw: qalithonda_jp2_read },
+    step: steps::JP2,
     write: &[Function { name: "qalithonda_jp2_write", raw: qalithonda_jp2_write }],
 };
 

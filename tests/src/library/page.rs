@@ -126,8 +126,8 @@ pub fn make(call: &Call, page: Page, text: &mut [u32], history: &mut [u32], outp
     match call {
         Call::Open { kind, arrived } => open(*kind, arrived, text, history),
         Call::Replace { place, count, cells } => replace(page, *place, *count, cells, text, history),
-        Call::Undo => turn(qalithonda_undo, page, text, history),
-        Call::Redo => turn(qalithonda_redo, page, text, history),
+        Call::Undo => undo(page, text, history),
+        Call::Redo => redo(page, text, history),
         Call::Save { arrived, .. } => (save(page, text, history, arrived, output), page),
     }
 }
@@ -136,7 +136,7 @@ fn given(edited: RawEdited) -> (Answer, Page) {
     (edited.answer.into(), edited.page.into())
 }
 
-fn open(kind: Kind, arrived: &[u8], text: &mut [u32], history: &mut [u32]) -> (Answer, Page) {
+pub fn open(kind: Kind, arrived: &[u8], text: &mut [u32], history: &mut [u32]) -> (Answer, Page) {
     let raw: RawOpen = match kind {
         Kind::Utf7Header => qalithonda_utf7_header_open,
         Kind::Utf7Body => qalithonda_utf7_body_open,
@@ -148,7 +148,7 @@ fn open(kind: Kind, arrived: &[u8], text: &mut [u32], history: &mut [u32]) -> (A
     })
 }
 
-fn replace(
+pub fn replace(
     page: Page,
     place: usize,
     count: usize,
@@ -172,13 +172,20 @@ fn replace(
     })
 }
 
-/// Undo or redo.
+pub fn undo(page: Page, text: &mut [u32], history: &[u32]) -> (Answer, Page) {
+    turn(qalithonda_undo, page, text, history)
+}
+
+pub fn redo(page: Page, text: &mut [u32], history: &[u32]) -> (Answer, Page) {
+    turn(qalithonda_redo, page, text, history)
+}
+
 fn turn(raw: RawTurn, page: Page, text: &mut [u32], history: &[u32]) -> (Answer, Page) {
     // SAFETY: each pointer comes with the length of its slice, and only `text` is written to.
     given(unsafe { raw(page.into(), text.as_mut_ptr(), text.len(), history.as_ptr(), history.len()) })
 }
 
-fn save(page: Page, text: &[u32], history: &[u32], arrived: &[u8], output: &mut [u8]) -> Answer {
+pub fn save(page: Page, text: &[u32], history: &[u32], arrived: &[u8], output: &mut [u8]) -> Answer {
     // SAFETY: each pointer comes with the length of its slice, and only `output` is written to.
     let raw = unsafe {
         qalithonda_save(

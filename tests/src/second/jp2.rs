@@ -1,6 +1,7 @@
 //! ISO-2022-JP-2, after the section "JP-2" of document 01.
 
-use super::{all_writable, first_fault, within_limit, Answer, Elements, Outcome};
+use super::reading::{self, first_fault, Found};
+use super::{all_writable, within_limit, Answer, Complete, Elements, Outcome, Steps};
 
 const ESC: u8 = 0x1B;
 
@@ -51,12 +52,20 @@ pub fn cell(set: &Set, code: &[u8]) -> u32 {
 
 /// Reads a text.
 pub fn read(text: &[u8]) -> Elements<u32> {
-    within_limit(text.len())?;
+    reading::read(find, text)
+}
+
+/// Steps through a text.
+pub fn steps(text: &[u8]) -> Steps {
+    reading::steps(find, text)
+}
+
+fn find(text: &[u8]) -> Found {
     let (parts, at_end) = follow(cut(text));
     let faults = parts.iter().flat_map(|part| part.faults(text.len()));
-    match first_fault(text, faults.chain(at_end.fault(text.len()))) {
-        Some(fault) => Err(fault),
-        None => Ok(parts.iter().flat_map(Part::cells).collect()),
+    Found {
+        cells: parts.iter().flat_map(Part::cells).collect(),
+        fault: first_fault(text, faults.chain(at_end.fault(text.len()))),
     }
 }
 
@@ -155,18 +164,23 @@ fn follow(tokens: Vec<(usize, Token<'_>)>) -> (Vec<Part<'_>>, InForce) {
 }
 
 impl Part<'_> {
-    /// The cells of this part, where the text has no fault.
-    fn cells(&self) -> Vec<u32> {
+    /// The cells of this part, where no fault stands before them.
+    fn cells(&self) -> Vec<Complete> {
         let g0 = self.sets.g0;
         match (&self.token, self.sets.g2) {
             // "ESC N and a byte of 32 to 127 is one cell of the G2 set, whichever G0 is."
-            (Token::Shift(Some(byte)), Some(g2)) => vec![cell(g2, &[*byte])],
+            (Token::Shift(Some(byte)), Some(g2)) => vec![Complete { cell: cell(g2, &[*byte]), place: self.place + 2 }],
             // "With another set, a cell is two bytes of 33 to 126."
-            (Token::Stretch(bytes), _) if g0.has_pairs() => bytes.chunks(2).map(|pair| cell(g0, pair)).collect(),
+            (Token::Stretch(bytes), _) if g0.has_pairs() => {
+                let second_bytes = (self.place + 1..).step_by(2);
+                let pairs = second_bytes.zip(bytes.chunks_exact(2));
+                pairs.map(|(place, pair)| Complete { cell: cell(g0, pair), place }).collect()
+            }
             // "Bytes 33 to 126 carry the G0 number; 0 to 32 and 127 always carry 6."
             (Token::Stretch(bytes), _) => {
                 let carried = |byte| if (33..=126).contains(&byte) { g0 } else { ASCII };
-                bytes.iter().map(|&byte| cell(carried(byte), &[byte])).collect()
+                let places = (self.place..).zip(*bytes);
+                places.map(|(place, &byte)| Complete { cell: cell(carried(byte), &[byte]), place }).collect()
             }
             _ => vec![],
         }

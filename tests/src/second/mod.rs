@@ -1,20 +1,22 @@
-//! The second program: reading, writing, counting, the page and its ledger as document 01 states them. It was written
-//! from that paper, as docs/DECISIONS.md reads it, without a look at the proved code, and by other means: texts are cut
-//! into parts by looking ahead, all their faults are gathered and the first is chosen, bits are text made of '0' and
-//! '1', and a call on a page makes new lists of all that it leaves. Quotations in comments are sentences of document
-//! 01.
+//! The second program: reading, stepping, writing, counting, the page and its ledger as document 01 states them. It was
+//! written from that paper, as docs/DECISIONS.md reads it, without a look at the proved code, and by other means: texts
+//! are cut into parts by looking ahead, all their faults are gathered and the first is chosen, stepping hands out the
+//! cells found before it, bits are lists, and a call on a page makes new lists of all that it leaves. Quotations in
+//! comments are sentences of document 01.
 
 mod call;
 pub mod jp2;
 mod kind;
 pub mod ledger;
 pub mod page;
+mod reading;
 pub mod utf7;
 
 use std::fmt::{self, Display, Formatter};
 
 pub use call::Call;
 pub use kind::Kind;
+pub use reading::{Complete, Steps};
 
 /// "over 65,536": the longest text or list that a function takes.
 pub const LIMIT: usize = 65_536;
@@ -56,19 +58,6 @@ fn within_limit(length: usize) -> Result<(), Answer> {
         return refuse(16, LIMIT);
     }
     Ok(())
-}
-
-/// The fault that reading a text gives, of those that its format finds in it and of its high bytes. "In reading, the
-/// earliest place decides; at one byte 1, then 2 or 4, then 3, 5 or 6; 7 precedes 8."
-fn first_fault(text: &[u8], faults: impl Iterator<Item = Answer>) -> Option<Answer> {
-    let rank = |number: u32| [1, 2, 4, 3, 5, 6, 7, 8].iter().position(|&other| other == number);
-    high_bytes(text).chain(faults).min_by_key(|fault| (fault.place, rank(fault.number)))
-}
-
-/// "1 | byte of 128 or more | that byte"
-fn high_bytes(text: &[u8]) -> impl Iterator<Item = Answer> + '_ {
-    let places = (0..text.len()).filter(|&place| text[place] >= 128);
-    places.map(|place| Answer { number: 1, place })
 }
 
 /// "Writing: first 10, then 9." "10 | cell not writable in this kind | its index"
@@ -121,11 +110,7 @@ pub fn print_listing(cells: &Elements<u32>) -> String {
 #[cfg(test)]
 mod tests {
     use super::*;
-    use crate::formats::{self, Format};
-
-    fn formats() -> [Format; 2] {
-        [formats::utf7(), formats::jp2()]
-    }
+    use crate::formats::all as formats;
 
     #[test]
     fn reads_the_examples() {
@@ -148,7 +133,7 @@ mod tests {
     #[test]
     fn prints_the_listings() {
         for format in formats() {
-            for example in &format.listings {
+            for example in format.lister.iter().flat_map(|lister| &lister.listings) {
                 assert_eq!(print_listing(&listed(format.read, &example.input)), example.expected, "{example}");
             }
             assert_eq!(print_listing(&listed(format.read, &[0x80; 16_385])), "status=16\nplace=16384\n");

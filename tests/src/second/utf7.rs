@@ -1,6 +1,7 @@
 //! UTF-7, after the section "UTF-7" of document 01.
 
-use super::{all_writable, first_fault, within_limit, Answer, Elements};
+use super::reading::{self, first_fault, Found};
+use super::{all_writable, within_limit, Answer, Complete, Elements, Steps};
 
 /// "Writing has two styles."
 #[derive(Clone, Copy, Debug, PartialEq, Eq)]
@@ -36,18 +37,31 @@ fn value(byte: u8) -> Option<usize> {
     set_b().position(|letter| letter == byte)
 }
 
+/// So many bits of a number, high bit first.
+fn bits(number: usize, count: usize) -> impl Iterator<Item = usize> {
+    (0..count).rev().map(move |place| number >> place & 1)
+}
+
 /// The number that these bits write, high bit first.
-fn number(bits: &[u8]) -> usize {
-    bits.iter().fold(0, |number, &bit| 2 * number + usize::from(bit == b'1'))
+fn number(bits: &[usize]) -> usize {
+    bits.iter().fold(0, |number, bit| 2 * number + bit)
 }
 
 /// Reads a text.
 pub fn read(text: &[u8]) -> Elements<u32> {
-    within_limit(text.len())?;
+    reading::read(find, text)
+}
+
+/// Steps through a text.
+pub fn steps(text: &[u8]) -> Steps {
+    reading::steps(find, text)
+}
+
+fn find(text: &[u8]) -> Found {
     let pieces = cut(text);
-    match first_fault(text, pieces.iter().filter_map(Piece::fault)) {
-        Some(fault) => Err(fault),
-        None => Ok(pieces.iter().flat_map(Piece::cells).collect()),
+    Found {
+        cells: pieces.iter().flat_map(Piece::cells).collect(),
+        fault: first_fault(text, pieces.iter().filter_map(Piece::fault)),
     }
 }
 
@@ -55,9 +69,9 @@ pub fn read(text: &[u8]) -> Elements<u32> {
 /// in hand, or the text length at the end".
 enum Piece {
     Outside { byte: u8, place: usize },
-    PlusSign,
+    PlusSign { end: usize },
     BarePlus { end: usize },
-    Run { bits: Vec<u8>, end: usize },
+    Run { bits: Vec<usize>, end: usize },
 }
 
 /// Cuts a text into its pieces, from left to right.
@@ -84,26 +98,30 @@ fn first_piece(rest: &[u8], place: usize) -> (Piece, usize) {
     let absorbed = rest.get(length) == Some(&b'-');
     let end = place + length;
     let piece = match (letters.is_empty(), absorbed) {
-        (true, true) => Piece::PlusSign,
+        (true, true) => Piece::PlusSign { end },
         (true, false) => Piece::BarePlus { end },
         // "A run's letters give six bits each, high bit first."
-        (false, _) => {
-            Piece::Run { bits: letters.iter().flat_map(|letter| format!("{letter:06b}").into_bytes()).collect(), end }
-        }
+        (false, _) => Piece::Run { bits: letters.iter().flat_map(|&letter| bits(letter, 6)).collect(), end },
     };
     (piece, length + usize::from(absorbed))
 }
 
 impl Piece {
-    fn cells(&self) -> Vec<u32> {
+    /// The cells of this piece, where no fault stands before them.
+    fn cells(&self) -> Vec<Complete> {
         match self {
             // "Outside a run, bytes of D, O, space, tab, CR and LF are themselves."
-            Piece::Outside { byte, .. } => vec![u32::from(*byte)],
+            Piece::Outside { byte, place } => vec![Complete { cell: u32::from(*byte), place: *place }],
             // "`+-` is 002B."
-            Piece::PlusSign => vec![PLUS_SIGN],
+            Piece::PlusSign { end } => vec![Complete { cell: PLUS_SIGN, place: *end }],
             Piece::BarePlus { .. } => vec![],
-            // "Each full 16 bits are a unit."
-            Piece::Run { bits, .. } => bits.chunks_exact(16).map(|unit| number(unit) as u32).collect(),
+            // "Each full 16 bits are a unit": complete with the letter that has its last bit.
+            Piece::Run { bits, end } => {
+                let first_letter = end - bits.len() / 6;
+                let last_bits = (15..).step_by(16);
+                let units = last_bits.zip(bits.chunks_exact(16));
+                units.map(|(bit, unit)| Complete { cell: number(unit) as u32, place: first_letter + bit / 6 }).collect()
+            }
         }
     }
 
@@ -117,7 +135,7 @@ impl Piece {
             Piece::BarePlus { end } => Some(Answer { number: 2, place: *end }),
             // "Bits left over when a run ends must all be zero, however many they are."
             // "4 | left-over bits not zero | as noticed"
-            Piece::Run { bits, end } if bits.chunks_exact(16).remainder().contains(&b'1') => {
+            Piece::Run { bits, end } if bits.chunks_exact(16).remainder().contains(&1) => {
                 Some(Answer { number: 4, place: *end })
             }
             _ => None,
@@ -146,9 +164,9 @@ fn alone(style: Style, unit: u32) -> Option<Vec<u8>> {
 
 /// "one run: `+`, its letters with fewest zero bits as filler, and always `-`."
 pub fn run(units: &[u32]) -> Vec<u8> {
-    let mut bits: Vec<u8> = units.iter().flat_map(|unit| format!("{unit:016b}").into_bytes()).collect();
+    let mut bits: Vec<usize> = units.iter().flat_map(|&unit| bits(unit as usize, 16)).collect();
     while !bits.len().is_multiple_of(6) {
-        bits.push(b'0');
+        bits.push(0);
     }
     let letters = bits.chunks(6).map(|six| set_b().nth(number(six)).expect("six bits"));
     [b'+'].into_iter().chain(letters).chain([b'-']).collect()

@@ -244,10 +244,15 @@ fn lone_cells() -> Vec<u32> {
 #[cfg(test)]
 mod tests {
     use super::*;
+    use crate::texts::lengths;
+
+    fn seeded_texts() -> Vec<Vec<u8>> {
+        SOURCE.texts(1, "", 3_000, lengths::for_listers).collect()
+    }
 
     #[test]
     fn texts_and_lists_have_cells_of_every_set() {
-        let readings: Vec<Vec<u32>> = SOURCE.texts(1, "", 3_000).filter_map(|text| jp2::read(&text).ok()).collect();
+        let readings: Vec<Vec<u32>> = seeded_texts().iter().filter_map(|text| jp2::read(text).ok()).collect();
         let lists: Vec<Vec<u32>> = SOURCE.lists(1, "", 3_000).collect();
         for lists in [readings, lists] {
             for set in &SETS {
@@ -259,7 +264,7 @@ mod tests {
 
     #[test]
     fn texts_have_g2_over_line_ends() {
-        let texts: Vec<Vec<u8>> = SOURCE.texts(1, "", 3_000).collect();
+        let texts = seeded_texts();
         for part in [&b"\n\x1BN"[..], b"\r\x1BN", b"\r\n\x1BN", b"\r\n\x1B.A\x1BN", b"\r\x1B(B\n"] {
             let has_part = |text: &&Vec<u8>| text.windows(part.len()).any(|window| window == part);
             assert!(texts.iter().filter(has_part).count() > 10, "few texts have {}", part.escape_ascii());

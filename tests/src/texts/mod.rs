@@ -1,13 +1,12 @@
 //! Seeded texts and lists of cells to try the readers and writers on.
 
 pub mod jp2;
+pub mod lengths;
 pub mod utf7;
 
 use crate::rng::Rng;
-use crate::second::{Kind, LISTER_LIMIT};
-
-/// The longest seeded text: one byte more than a lister takes.
-const LONGEST: usize = LISTER_LIMIT + 1;
+use crate::second::Kind;
+use lengths::{Length, NEAR_LIMIT, OVER_LIMIT};
 
 /// How texts and lists of a format are made.
 pub struct Source {
@@ -34,6 +33,9 @@ pub struct Source {
     /// Lists of writable cells that, over and over, make a long list.
     pub patterns: &'static [&'static [u32]],
 }
+
+/// Makes a text or list of this length, or near it.
+type Make<T> = fn(&Source, &mut Rng, usize) -> Vec<T>;
 
 /// A text of any length: its start, a filling over and over, and its end.
 pub struct Frame(pub &'static [u8], pub &'static [u8], pub &'static [u8]);
@@ -73,13 +75,19 @@ impl Alphabet {
 }
 
 impl Source {
-    /// So many texts: whole, damaged, and of anything that the rules tell apart.
-    pub fn texts(&self, seed: u64, purpose: &str, count: usize) -> impl Iterator<Item = Vec<u8>> + '_ {
+    /// So many texts of such lengths: whole, damaged, and of anything that the rules tell apart.
+    pub fn texts(&self, seed: u64, purpose: &str, count: usize, length: Length) -> impl Iterator<Item = Vec<u8>> + '_ {
         let mut rng = Rng::new(seed, purpose);
         (0..count).map(move |_| {
-            let length = text_length(&mut rng);
+            let length = length(&mut rng);
             self.text(&mut rng, length)
         })
+    }
+
+    /// So many whole texts near the limit and as many over it, and as many damaged ones of both.
+    pub fn long_texts(&self, seed: u64, count: usize) -> impl Iterator<Item = Vec<u8>> + '_ {
+        let whole: Make<u8> = |source, rng, length| (source.whole)(rng, length);
+        self.long(seed, "long texts", count, [whole, Source::damaged])
     }
 
     /// A text of this length, or near it.
@@ -99,7 +107,6 @@ impl Source {
         for _ in 0..rng.between(1, 3) {
             self.damage(rng, &mut text);
         }
-        text.truncate(LONGEST);
         text
     }
 
@@ -150,23 +157,54 @@ impl Source {
         })
     }
 
-    /// So many lists, most of them writable.
+    /// So many lists, most of them short and most writable.
     pub fn lists(&self, seed: u64, purpose: &str, count: usize) -> impl Iterator<Item = Vec<u32>> + '_ {
         let mut rng = Rng::new(seed, purpose);
-        (0..count).map(move |_| self.list(&mut rng))
+        (0..count).map(move |_| {
+            let length = lengths::mostly_short(&mut rng);
+            self.list(&mut rng, length)
+        })
     }
 
-    fn list(&self, rng: &mut Rng) -> Vec<u32> {
-        let count = match rng.below(20) {
-            0..=11 => rng.below(12),
-            12..=18 => rng.below(150),
-            _ => rng.below(6_000),
-        };
-        let mut cells = (self.cells)(rng, count);
-        if count > 0 && rng.one_in(4) {
-            for _ in 0..rng.between(1, 2) {
-                let index = rng.below(count);
-                cells[index] = (self.unwritable)(rng);
+    /// A list of this length; one in four is not writable.
+    pub fn list(&self, rng: &mut Rng, length: usize) -> Vec<u32> {
+        if rng.one_in(4) {
+            return self.spoiled(rng, length);
+        }
+        (self.cells)(rng, length)
+    }
+
+    /// So many writable lists near the limit and as many over it, and as many of both that are not writable.
+    pub fn long_lists(&self, seed: u64, count: usize) -> impl Iterator<Item = Vec<u32>> + '_ {
+        let writable: Make<u32> = |source, rng, length| (source.cells)(rng, length);
+        self.long(seed, "long lists", count, [writable, Source::spoiled])
+    }
+
+    /// So many of each sort near the limit, and as many over it.
+    fn long<T: 'static>(
+        &self,
+        seed: u64,
+        purpose: &str,
+        count: usize,
+        sorts: [Make<T>; 2],
+    ) -> impl Iterator<Item = Vec<T>> + '_ {
+        let mut rng = Rng::new(seed, purpose);
+        let each = [NEAR_LIMIT, OVER_LIMIT].map(|lengths| sorts.map(|make| (lengths.clone(), make))).concat();
+        (0..count).flat_map(move |_| each.clone()).map(move |(lengths, make)| loop {
+            let length = lengths::among(&mut rng, &lengths);
+            let made = make(self, &mut rng, length);
+            if lengths.contains(&made.len()) {
+                return made;
+            }
+        })
+    }
+
+    /// A list with one or two cells that are not writable, if it has any.
+    fn spoiled(&self, rng: &mut Rng, length: usize) -> Vec<u32> {
+        let mut cells = (self.cells)(rng, length);
+        for _ in 0..rng.between(1, 2) {
+            if length > 0 {
+                cells[rng.below(length)] = (self.unwritable)(rng);
             }
         }
         cells
@@ -183,27 +221,18 @@ impl Source {
     }
 }
 
-/// Most texts are short; one in forty is near the lister's limit, on either side of it.
-fn text_length(rng: &mut Rng) -> usize {
-    match rng.below(40) {
-        0..=19 => rng.below(13),
-        20..=33 => rng.below(100),
-        34..=38 => rng.below(3_000),
-        _ => rng.between(LONGEST - 4, LONGEST),
-    }
-}
-
 #[cfg(test)]
 mod tests {
     use super::*;
     use crate::formats;
+    use crate::second::{LIMIT, LISTER_LIMIT};
 
     #[test]
     fn whole_texts_are_accepted() {
         let mut rng = Rng::new(1, "whole texts");
-        for format in [formats::utf7(), formats::jp2()] {
+        for format in formats::all() {
             for _ in 0..2_000 {
-                let length = text_length(&mut rng);
+                let length = lengths::for_listers(&mut rng);
                 let text = (format.source.whole)(&mut rng, length);
                 assert!(text.len() <= length);
                 assert!((format.read)(&text).is_ok(), "{}", text.escape_ascii());
@@ -213,8 +242,8 @@ mod tests {
 
     #[test]
     fn needless_bytes_change_nothing() {
-        for format in [formats::utf7(), formats::jp2()] {
-            for text in format.source.texts(1, "texts", 2_000).filter(|text| text.len() < LISTER_LIMIT) {
+        for format in formats::all() {
+            for text in format.source.texts(1, "texts", 2_000, lengths::mostly_short) {
                 let longer = [format.source.needless, &text].concat();
                 assert_eq!((format.read)(&longer).ok(), (format.read)(&text).ok(), "{}", text.escape_ascii());
             }
@@ -222,14 +251,18 @@ mod tests {
     }
 
     #[test]
-    fn texts_have_every_length_asked_for() {
+    fn texts_and_lists_have_the_lengths_asked_for() {
         for source in [&utf7::SOURCE, &jp2::SOURCE] {
-            let texts: Vec<Vec<u8>> = source.texts(1, "lengths", 3_000).collect();
-            for length in [0, 1, 2, LISTER_LIMIT, LONGEST] {
+            let texts: Vec<Vec<u8>> = source.texts(1, "lengths", 3_000, lengths::for_listers).collect();
+            for length in [0, 1, 2, LISTER_LIMIT, LISTER_LIMIT + 1] {
                 assert!(texts.iter().any(|text| text.len() == length), "none of {length} bytes");
             }
-            assert!(texts.iter().all(|text| text.len() <= LONGEST));
             assert!(source.texts_of_length(40).all(|text| text.len() == 40));
+            let over = |length: usize| length > LIMIT;
+            let texts: Vec<bool> = source.long_texts(1, 2).map(|text| over(text.len())).collect();
+            let lists: Vec<bool> = source.long_lists(1, 2).map(|list| over(list.len())).collect();
+            assert_eq!(texts, [[false, false, true, true]; 2].concat());
+            assert_eq!(lists, texts);
         }
     }
 
@@ -244,7 +277,7 @@ mod tests {
     #[test]
     fn cells_are_writable_or_not_as_asked_for() {
         let mut rng = Rng::new(1, "cells");
-        for format in [formats::utf7(), formats::jp2()] {
+        for format in formats::all() {
             for count in 0..200 {
                 let cells = (format.source.cells)(&mut rng, count);
                 assert_eq!(cells.len(), count);

@@ -21,12 +21,21 @@ pub static SOURCE: Source = Source {
         Frame(b"", b"a", b"~"),
         Frame(b"", b"a", b"+"),
     ],
-    alphabets: &[Alphabet {
-        name: "five-bytes",
-        what: "every text of up to five of the bytes + - / A Q . ~ and one over 127",
-        parts: &[b"+", b"-", b"/", b"A", b"Q", b".", b"~", b"\x80"],
-        longest: 5,
-    }],
+    alphabets: &[
+        Alphabet {
+            name: "five-bytes",
+            what: "every text of up to five of the bytes + - / A Q . ~ and one over 127",
+            parts: &[b"+", b"-", b"/", b"A", b"Q", b".", b"~", b"\x80"],
+            longest: 5,
+        },
+        // Runs of several units, with every count of bits left over.
+        Alphabet {
+            name: "six-parts",
+            what: "every text of up to six of + AKM A Q - . and a byte over 127",
+            parts: &[b"+", b"AKM", b"A", b"Q", b"-", b".", b"\x80"],
+            longest: 6,
+        },
+    ],
     cells: units,
     unwritable,
     lone_cells,

@@ -8,23 +8,26 @@ use crate::examples::page::{judged, worked, Course, Judged};
 use crate::formats;
 use crate::lent::{filled, Lent};
 use crate::library::page as library;
+use crate::parts::Part;
 use crate::report::{Report, Statuses};
 use crate::rng::Rng;
 use crate::second::page::{self, Left, State};
 use crate::second::{Call, Kind};
 use crate::trial::{same, try_all, try_examples};
 
-pub fn run(report: &mut Report, seed: u64) {
+/// The examples, and a part for each kind of page.
+pub fn parts(seed: u64) -> Vec<Part> {
+    let of_kind = |kind: Kind| Part::new(format!("page-{}", kind.name()), move |report| check_kind(report, kind, seed));
+    [Part::new("page-examples", check_examples)].into_iter().chain(Kind::ALL.map(of_kind)).collect()
+}
+
+fn check_examples(report: &mut Report) {
     report.check("page-worked", "the worked page of document 01, step by step", |statuses| {
         try_examples(&worked(), |course| follow_course(course, statuses))
     });
     report.check("page-by-hand", "calls on pages made by hand, sound and not", |statuses| {
         try_examples(&judged(), |example| compare_judged(example, statuses))
     });
-    for kind in Kind::ALL {
-        check_kind(report, kind, seed);
-    }
-    check_statuses(report);
 }
 
 fn check_kind(report: &mut Report, kind: Kind, seed: u64) {
@@ -45,6 +48,7 @@ fn check_kind(report: &mut Report, kind: Kind, seed: u64) {
     report.check(&format!("page-{}-demand-3", kind.name()), what, |_| {
         try_all(small().chain(large()).chain([limit::full(kind)]), |list| demand3::follow(list, built))
     });
+    expect_statuses(report, kind);
 }
 
 /// The examples of the kind's format and seeded texts, each opened in buffers of several lengths.
@@ -63,14 +67,13 @@ fn openings(kind: Kind, seed: u64) -> impl Iterator<Item = List> {
     })
 }
 
-fn check_statuses(report: &mut Report) {
-    for kind in Kind::ALL {
-        report.check_statuses(library::open_name(kind), &[formats::of_kind(kind).faults, &[0, 9, 16]].concat());
-    }
-    report.check_statuses(library::REPLACE, &[0, 9, 10, 11, 12, 14, 16]);
-    report.check_statuses(library::UNDO, &[0, 13, 14, 16]);
-    report.check_statuses(library::REDO, &[0, 13, 14, 16]);
-    report.check_statuses(library::SAVE, &[0, 9, 10, 14, 15, 16]);
+/// The statuses that the calls on a page of a kind can give.
+pub fn expect_statuses(report: &mut Report, kind: Kind) {
+    report.expect_statuses(library::open_name(kind), &formats::of_kind(kind).statuses(&[0, 9, 16]));
+    report.expect_statuses(library::REPLACE, &[0, 9, 10, 11, 12, 14, 16]);
+    report.expect_statuses(library::UNDO, &[0, 13, 14, 16]);
+    report.expect_statuses(library::REDO, &[0, 13, 14, 16]);
+    report.expect_statuses(library::SAVE, &[0, 9, 10, 14, 15, 16]);
 }
 
 /// What the second program leaves, lent this state.

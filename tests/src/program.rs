@@ -1,4 +1,4 @@
-//! Runs a built lister.
+//! Runs a built program.
 
 use std::env;
 use std::io::Write;
@@ -7,20 +7,20 @@ use std::path::{Path, PathBuf};
 use std::process::{Command, Stdio};
 use std::thread;
 
-pub struct Lister {
+pub struct Program {
     pub name: &'static str,
     path: PathBuf,
 }
 
-impl Lister {
+impl Program {
     /// The program of this name in the folder QALITHONDA_BIN, or `target/bin`.
-    pub fn new(name: &'static str) -> Lister {
+    pub fn new(name: &'static str) -> Program {
         let folder = env::var("QALITHONDA_BIN").unwrap_or_else(|_| "target/bin".to_string());
-        Lister { name, path: Path::new(&folder).join(name) }
+        Program { name, path: Path::new(&folder).join(name) }
     }
 
-    /// What the lister prints when this text is its standard input.
-    pub fn list(&self, text: &[u8]) -> Result<Vec<u8>, String> {
+    /// What the program prints when this is its standard input.
+    pub fn run(&self, input: &[u8]) -> Result<Vec<u8>, String> {
         let failed = |problem: String| format!("cannot run {}: {problem}", self.path.display());
         let mut child = Command::new(&self.path)
             .stdin(Stdio::piped())
@@ -30,8 +30,8 @@ impl Lister {
         let mut stdin = child.stdin.take().expect("a pipe");
         let output = thread::scope(|scope| {
             scope.spawn(move || {
-                // The lister stops reading a text that is too long: a broken pipe is no fault.
-                let _ = stdin.write_all(text);
+                // A program may stop reading an input that is too long: a broken pipe is no fault.
+                let _ = stdin.write_all(input);
             });
             child.wait_with_output()
         });

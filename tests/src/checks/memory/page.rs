@@ -1,0 +1,97 @@
+//! The calls on a page.
+
+use super::{name, on_both_sides, WHAT};
+use crate::calls::{limit, seeded, List, Move, Sort};
+use crate::checks::page::expect_statuses;
+use crate::guarded::{Guarded, Side};
+use crate::lent::filled;
+use crate::library::page as library;
+use crate::report::{Report, Statuses};
+use crate::second::page::{Left, State};
+use crate::second::{Call, Kind};
+use crate::settings::Settings;
+use crate::trial::try_all;
+
+/// Memory for all that can be lent to a call.
+struct Memory {
+    text: Guarded,
+    history: Guarded,
+    cells: Guarded,
+    arrived: Guarded,
+    output: Guarded,
+}
+
+pub fn run(report: &mut Report, settings: Settings) {
+    let Settings { seed, rounds } = settings;
+    let mut memory = Memory::new();
+    let opens = Kind::ALL.map(|kind| (library::open_name(kind), Sort::Open(kind)));
+    let others = [
+        (library::REPLACE, Sort::Replace),
+        (library::UNDO, Sort::Undo),
+        (library::REDO, Sort::Redo),
+        (library::SAVE, Sort::Save),
+    ];
+    for (function, sort) in opens.into_iter().chain(others) {
+        report.check(&name(function), WHAT, |statuses| {
+            try_all(seeded::alone(seed, sort, rounds), |list| memory.follow(list, statuses))
+        });
+    }
+    for kind in Kind::ALL {
+        let what = "lists of calls with as much as can be lent, and with more, in guarded memory";
+        report.check(&name(&format!("page-{}-limit", kind.name())), what, |statuses| {
+            try_all(limit::lists(kind), |list| memory.follow(list, statuses))
+        });
+        expect_statuses(report, kind);
+    }
+}
+
+impl Memory {
+    fn new() -> Memory {
+        let [text, history, cells, arrived, output] = std::array::from_fn(|_| Guarded::new());
+        Memory { text, history, cells, arrived, output }
+    }
+
+    /// Makes the calls of a list.
+    fn follow(&mut self, list: &List, statuses: &mut Statuses) -> Result<(), String> {
+        let mut state = list.start.clone();
+        for (number, item) in (1..).zip(&list.moves) {
+            match item {
+                Move::Change(change) => change.make(&mut state),
+                Move::Call(call) => {
+                    let left = on_both_sides(|side| self.make(&state, call, side))
+                        .map_err(|difference| format!("after {number}, {difference}"))?;
+                    statuses.count(library::name(call), left.answer.number);
+                    state = left.state;
+                }
+            }
+        }
+        Ok(())
+    }
+
+    /// Makes a call: what it has no business to write to is lent to be read.
+    fn make(&mut self, state: &State, call: &Call, side: Side) -> Left {
+        let Memory { text, history, cells, arrived, output } = self;
+        let State { page, text: all_cells, history: words } = state;
+        let (answer, page) = match call {
+            Call::Open { kind, arrived: bytes } => {
+                let bytes = arrived.lend_to_read(bytes, side);
+                library::open(*kind, bytes, text.lend(all_cells, side), history.lend(words, side))
+            }
+            Call::Replace { place, count, cells: added } => {
+                let added = cells.lend_to_read(added, side);
+                library::replace(*page, *place, *count, added, text.lend(all_cells, side), history.lend(words, side))
+            }
+            Call::Undo => library::undo(*page, text.lend(all_cells, side), history.lend_to_read(words, side)),
+            Call::Redo => library::redo(*page, text.lend(all_cells, side), history.lend_to_read(words, side)),
+            Call::Save { arrived: bytes, room } => {
+                let bytes = arrived.lend_to_read(bytes, side);
+                let output = output.lend(&filled(*room), side);
+                let (text, history) = (text.lend_to_read(all_cells, side), history.lend_to_read(words, side));
+                (library::save(*page, text, history, bytes, output), *page)
+            }
+        };
+        let state =
+            State { page, text: text.contents(all_cells.len(), side), history: history.contents(words.len(), side) };
+        Left { answer, state, output: output.contents(call.room(), side) }
+    }
+}

@@ -1,0 +1,160 @@
+//! Memory between two stretches of pages that nothing may touch. An access beside what is lent ends the process, if it
+//! is on the side that the memory is flush with; so does writing to memory that is lent to be read.
+
+use std::ffi::{c_int, c_void};
+use std::{ptr, slice};
+
+extern "C" {
+    fn mmap(address: *mut c_void, length: usize, access: c_int, flags: c_int, file: c_int, offset: i64) -> *mut c_void;
+    fn mprotect(address: *mut c_void, length: usize, access: c_int) -> c_int;
+    fn munmap(address: *mut c_void, length: usize) -> c_int;
+}
+
+/// What may be done with pages.
+const NOTHING: c_int = 0;
+const READ: c_int = 1;
+const READ_AND_WRITE: c_int = 3;
+
+/// MAP_PRIVATE and MAP_ANONYMOUS: pages of this process alone, of no file.
+const OWN_PAGES: c_int = 0x22;
+
+/// The length of a guard: a multiple of the page size of every machine.
+const GUARD: usize = 65_536;
+
+/// Bytes between the guards: the longest writing of as many cells as can be lent, and more.
+const CAPACITY: usize = 8 * 65_536;
+
+/// The guard that lent memory touches.
+#[derive(Clone, Copy, PartialEq, Eq)]
+pub enum Side {
+    Front,
+    Back,
+}
+
+pub struct Guarded {
+    /// Where the front guard ends.
+    start: *mut u8,
+    /// What may be done with the pages between the guards.
+    access: c_int,
+}
+
+impl Guarded {
+    pub fn new() -> Guarded {
+        // SAFETY: the pages are new, and the part between the guards lies within them.
+        unsafe {
+            let whole = mmap(ptr::null_mut(), GUARD + CAPACITY + GUARD, NOTHING, OWN_PAGES, -1, 0);
+            assert!(whole.addr() != usize::MAX, "pages are given");
+            Guarded { start: whole.cast::<u8>().add(GUARD), access: NOTHING }
+        }
+    }
+
+    /// Lends these elements to be read and written to.
+    pub fn lend<T: Copy>(&mut self, contents: &[T], side: Side) -> &mut [T] {
+        let place = self.put(contents, side);
+        // SAFETY: so many elements were put there, and they are borrowed from this memory.
+        unsafe { slice::from_raw_parts_mut(place, contents.len()) }
+    }
+
+    /// Lends these elements to be read.
+    pub fn lend_to_read<T: Copy>(&mut self, contents: &[T], side: Side) -> &[T] {
+        let place = self.put(contents, side);
+        self.allow(READ);
+        // SAFETY: so many elements were put there, and they are borrowed from this memory.
+        unsafe { slice::from_raw_parts(place, contents.len()) }
+    }
+
+    /// So many elements as they stand there now.
+    pub fn contents<T: Copy>(&self, length: usize, side: Side) -> Vec<T> {
+        // SAFETY: so many elements were lent there before.
+        unsafe { slice::from_raw_parts(self.place(length, side), length) }.to_vec()
+    }
+
+    /// Copies these elements to the place next to a guard.
+    fn put<T: Copy>(&mut self, contents: &[T], side: Side) -> *mut T {
+        let place: *mut T = self.place(contents.len(), side);
+        self.allow(READ_AND_WRITE);
+        // SAFETY: there is room for so many elements.
+        unsafe { place.copy_from_nonoverlapping(contents.as_ptr(), contents.len()) };
+        place
+    }
+
+    /// The place of so many elements next to a guard; both ends are aligned for elements that are shorter than a page.
+    fn place<T>(&self, length: usize, side: Side) -> *mut T {
+        let free = CAPACITY.checked_sub(length * size_of::<T>()).expect("a list that fits");
+        let offset = if side == Side::Front { 0 } else { free };
+        // SAFETY: it lies between the guards.
+        unsafe { self.start.add(offset) }.cast()
+    }
+
+    fn allow(&mut self, access: c_int) {
+        if self.access != access {
+            // SAFETY: these are the pages between the guards.
+            assert_eq!(unsafe { mprotect(self.start.cast(), CAPACITY, access) }, 0, "the access is set");
+            self.access = access;
+        }
+    }
+}
+
+impl Drop for Guarded {
+    fn drop(&mut self) {
+        // SAFETY: these are the pages that `new` was given, and what was borrowed of them is gone.
+        unsafe { munmap(self.start.sub(GUARD).cast(), GUARD + CAPACITY + GUARD) };
+    }
+}
+
+#[cfg(test)]
+mod tests {
+    use super::*;
+    use std::io::{pipe, Read, Write};
+
+    /// EFAULT: what the system answers instead of touching memory that may not be touched.
+    const REFUSED: Option<i32> = Some(14);
+
+    /// Whether the byte at an address can be read, as the system finds that is asked to write it to a pipe.
+    fn can_read(address: *const u8) -> bool {
+        let (_reader, mut writer) = pipe().expect("a pipe");
+        // SAFETY: only the system looks at the byte.
+        match writer.write(unsafe { slice::from_raw_parts(address, 1) }) {
+            Ok(count) => count == 1,
+            Err(error) if error.raw_os_error() == REFUSED => false,
+            Err(error) => panic!("{error}"),
+        }
+    }
+
+    /// Whether the byte at an address can be written to, as the system finds that is asked to read a pipe into it.
+    fn can_write(address: *const u8) -> bool {
+        let (mut reader, mut writer) = pipe().expect("a pipe");
+        writer.write_all(&[7]).expect("room in the pipe");
+        // SAFETY: only the system touches the byte, which is of memory that nothing is borrowed of.
+        match reader.read(unsafe { slice::from_raw_parts_mut(address.cast_mut(), 1) }) {
+            Ok(count) => count == 1,
+            Err(error) if error.raw_os_error() == REFUSED => false,
+            Err(error) => panic!("{error}"),
+        }
+    }
+
+    #[test]
+    fn both_guards_are_touched_by_what_is_lent() {
+        let mut memory = Guarded::new();
+        for length in [0, 1, 3, 300, 65_537] {
+            let list: Vec<u32> = (0..length).collect();
+            let lent = memory.lend(&list, Side::Front);
+            assert!(*lent == list);
+            assert!(!can_read(lent.as_ptr().cast::<u8>().wrapping_sub(1)));
+            let lent = memory.lend(&list, Side::Back);
+            assert!(*lent == list);
+            assert!(!can_read(lent.as_ptr_range().end.cast()));
+        }
+    }
+
+    #[test]
+    fn what_is_lent_to_be_read_cannot_be_written_to() {
+        let mut memory = Guarded::new();
+        for side in [Side::Front, Side::Back] {
+            let lent = memory.lend_to_read(&[1u8, 2], side).as_ptr();
+            assert!(can_read(lent) && !can_write(lent));
+            let lent = memory.lend(&[1u8, 2], side).as_ptr();
+            assert!(can_read(lent) && can_write(lent));
+        }
+    }
+}

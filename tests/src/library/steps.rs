@@ -1,0 +1,145 @@
+//! Stepping through a text with a cursor.
+
+use std::fmt::{self, Debug, Display, Formatter};
+
+use super::RawAnswer;
+use crate::second::Answer;
+
+/// What a host keeps between two steps. Any numbers make a cursor.
+pub trait Cursor: Copy + Eq + Debug + 'static {
+    /// Where the next step starts, and how many cells were handed out before it.
+    fn place(&self) -> (usize, usize);
+
+    /// Its numbers, in the order of the C interface.
+    fn numbers(&self) -> Vec<u64>;
+
+    /// The cursor of these numbers, each cut off where its field is shorter.
+    fn of_numbers(numbers: &[u64]) -> Self;
+}
+
+#[repr(C)]
+#[derive(Clone, Copy, Debug, PartialEq, Eq)]
+pub struct Utf7Cursor {
+    at: usize,
+    handed: usize,
+    shift: u32,
+    pending: u32,
+    value: u32,
+}
+
+#[repr(C)]
+#[derive(Clone, Copy, Debug, PartialEq, Eq)]
+pub struct Jp2Cursor {
+    at: usize,
+    handed: usize,
+    g0: u16,
+    g2: u16,
+    phase: u8,
+    first: u8,
+    second: u8,
+}
+
+impl Cursor for Utf7Cursor {
+    fn place(&self) -> (usize, usize) {
+        (self.at, self.handed)
+    }
+
+    fn numbers(&self) -> Vec<u64> {
+        let Utf7Cursor { at, handed, shift, pending, value } = *self;
+        vec![at as u64, handed as u64, shift.into(), pending.into(), value.into()]
+    }
+
+    fn of_numbers(numbers: &[u64]) -> Utf7Cursor {
+        let &[at, handed, shift, pending, value] = numbers else { panic!("five numbers") };
+        Utf7Cursor {
+            at: at as usize,
+            handed: handed as usize,
+            shift: shift as u32,
+            pending: pending as u32,
+            value: value as u32,
+        }
+    }
+}
+
+impl Cursor for Jp2Cursor {
+    fn place(&self) -> (usize, usize) {
+        (self.at, self.handed)
+    }
+
+    fn numbers(&self) -> Vec<u64> {
+        let Jp2Cursor { at, handed, g0, g2, phase, first, second } = *self;
+        vec![at as u64, handed as u64, g0.into(), g2.into(), phase.into(), first.into(), second.into()]
+    }
+
+    fn of_numbers(numbers: &[u64]) -> Jp2Cursor {
+        let &[at, handed, g0, g2, phase, first, second] = numbers else { panic!("seven numbers") };
+        Jp2Cursor {
+            at: at as usize,
+            handed: handed as usize,
+            g0: g0 as u16,
+            g2: g2 as u16,
+            phase: phase as u8,
+            first: first as u8,
+            second: second as u8,
+        }
+    }
+}
+
+#[repr(C)]
+struct RawStepped<C> {
+    given: u32,
+    cell: u32,
+    answer: RawAnswer,
+    next: C,
+}
+
+extern "C" {
+    fn qalithonda_utf7_start() -> Utf7Cursor;
+    fn qalithonda_utf7_step(text: *const u8, text_len: usize, cursor: Utf7Cursor) -> RawStepped<Utf7Cursor>;
+    fn qalithonda_jp2_start() -> Jp2Cursor;
+    fn qalithonda_jp2_step(text: *const u8, text_len: usize, cursor: Jp2Cursor) -> RawStepped<Jp2Cursor>;
+}
+
+/// What a step gives.
+#[derive(PartialEq, Eq)]
+pub struct Stepped<C> {
+    pub given: u32,
+    pub cell: u32,
+    pub answer: Answer,
+    pub next: C,
+}
+
+impl<C> From<RawStepped<C>> for Stepped<C> {
+    fn from(RawStepped { given, cell, answer, next }: RawStepped<C>) -> Stepped<C> {
+        Stepped { given, cell, answer: answer.into(), next }
+    }
+}
+
+impl<C: Cursor> Display for Stepped<C> {
+    fn fmt(&self, f: &mut Formatter) -> fmt::Result {
+        let Stepped { given, cell, answer, next } = self;
+        write!(f, "given {given}, cell {cell:08X}, answer {answer}, next {next:?}")
+    }
+}
+
+/// The two functions that step through a text.
+pub struct Stepper<C> {
+    /// The name of the one that steps.
+    pub name: &'static str,
+    pub start: fn() -> C,
+    pub step: fn(&[u8], C) -> Stepped<C>,
+}
+
+// SAFETY of both: each pointer comes with the length of its slice, and nothing is written to.
+
+pub const UTF7: Stepper<Utf7Cursor> = Stepper {
+    name: "qalithonda_utf7_step",
+    start: || unsafe { qalithonda_utf7_start() },
+    step: |text, cursor| unsafe { qalithonda_utf7_step(text.as_ptr(), text.len(), cursor) }.into(),
+};
+
+pub const JP2: Stepper<Jp2Cursor> = Stepper {
+    name: "qalithonda_jp2_step",
+    start: || unsafe { qalithonda_jp2_start() },
+    step: |text, cursor| unsafe { qalithonda_jp2_step(text.as_ptr(), text.len(), cursor) }.into(),
+};

@@ -1,0 +1,111 @@
+//! Reading and stepping, for every format: what is given for what a format finds in a text.
+
+use super::{within_limit, Answer, Elements};
+
+/// A cell, and the place of the byte that completes it.
+#[derive(Clone, Copy, Debug, PartialEq, Eq)]
+pub struct Complete {
+    pub cell: u32,
+    pub place: usize,
+}
+
+/// What a format finds in a text: its cells, of which those after a fault mean nothing, and the first fault.
+pub struct Found {
+    pub cells: Vec<Complete>,
+    pub fault: Option<Answer>,
+}
+
+/// What stepping through a text gives: the cells that are handed out, and the answer of every step after them.
+#[derive(Clone, Debug, PartialEq, Eq)]
+pub struct Steps {
+    pub cells: Vec<Complete>,
+    pub answer: Answer,
+}
+
+/// Reads a text in a format.
+pub fn read(find: fn(&[u8]) -> Found, text: &[u8]) -> Elements<u32> {
+    within_limit(text.len())?;
+    let Found { cells, fault } = find(text);
+    match fault {
+        Some(fault) => Err(fault),
+        None => Ok(cells.iter().map(|complete| complete.cell).collect()),
+    }
+}
+
+/// Steps through a text in a format: "Each step hands out the next cell complete before the first fault; after those,
+/// and at once for 16, every step gives the answer of reading the whole text with room enough."
+pub fn steps(find: fn(&[u8]) -> Found, text: &[u8]) -> Steps {
+    if let Err(answer) = within_limit(text.len()) {
+        return Steps { cells: vec![], answer };
+    }
+    let Found { mut cells, fault } = find(text);
+    if let Some(answer) = fault {
+        cells.retain(|complete| complete.place < answer.place);
+        return Steps { cells, answer };
+    }
+    Steps { answer: Answer { number: 0, place: cells.len() }, cells }
+}
+
+/// The fault that reading a text gives, of those that its format finds in it and of its high bytes. "In reading, the
+/// earliest place decides; at one byte 1, then 2 or 4, then 3, 5 or 6; 7 precedes 8."
+pub fn first_fault(text: &[u8], faults: impl Iterator<Item = Answer>) -> Option<Answer> {
+    let rank = |number: u32| [1, 2, 4, 3, 5, 6, 7, 8].iter().position(|&other| other == number);
+    high_bytes(text).chain(faults).min_by_key(|fault| (fault.place, rank(fault.number)))
+}
+
+/// "1 | byte of 128 or more | that byte"
+fn high_bytes(text: &[u8]) -> impl Iterator<Item = Answer> + '_ {
+    let places = (0..text.len()).filter(|&place| text[place] >= 128);
+    places.map(|place| Answer { number: 1, place })
+}
+
+#[cfg(test)]
+mod tests {
+    use super::*;
+    use crate::formats;
+
+    #[test]
+    fn steps_through_the_examples() {
+        for format in formats::all() {
+            for example in format.steppings.iter().flat_map(|group| &group.examples) {
+                assert_eq!((format.steps)(&example.input), example.expected, "{example}");
+            }
+        }
+    }
+
+    #[test]
+    fn steps_hand_out_what_reading_gives() {
+        for format in formats::all() {
+            for example in format.readings.iter().flat_map(|group| &group.examples) {
+                let Steps { cells, answer } = (format.steps)(&example.input);
+                let cells: Vec<u32> = cells.iter().map(|complete| complete.cell).collect();
+                let given = if answer.number == 0 { Ok(cells) } else { Err(answer) };
+                assert_eq!(given, example.expected, "{example}");
+            }
+        }
+    }
+
+    #[test]
+    fn cells_are_handed_out_as_far_as_a_fault_or_the_end() {
+        for format in formats::all() {
+            for text in format.source.texts(1, "steps", 2_000, |rng| rng.below(60)) {
+                let Steps { cells, answer } = (format.steps)(&text);
+                assert!(cells.is_sorted_by_key(|complete| complete.place));
+                // What comes after the fault changes nothing of what was handed out before it.
+                if answer.number != 0 {
+                    let before = (format.steps)(&text[..answer.place]);
+                    assert_eq!(before.cells, cells, "{}", text.escape_ascii());
+                }
+            }
+        }
+    }
+
+    #[test]
+    fn a_text_over_the_limit_is_refused_at_once() {
+        for format in formats::all() {
+            let answer = Answer { number: 16, place: 65_536 };
+            assert_eq!((format.steps)(&[b'a'; 65_537]), Steps { cells: vec![], answer });
+            assert_eq!((format.steps)(&[b'a'; 65_536]).cells.len(), 65_536);
+        }
+    }
+}
