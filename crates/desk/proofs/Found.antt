@@ -1,0 +1,139 @@
+-- A replace's numbers: a reading has no more cells than bytes, so those of a line fit; and what they ask for. Assumes nothing.
+use Prim.Native.Nat.{ℕ, suc, _+_, _-_, _<_, _≤_}
+use mathlib.Core.Path.{_≡_, refl, ap, _∙_}
+use mathlib.Core.Bool.{true, false}
+use mathlib.Core.List.{List, [], _∷_}
+use mathlib.Core.Option.{Option, none}
+use native.Mathlib.Omega.{arith}
+use lib.ListN.{length, getD, take, drop, replicate, length-drop, length-replicate}
+use lib.Seq.{take-all, take-append-seam}
+use borrow.Author.Tests.{le-ltb}
+use Rattle.answer.specs.Answer.{numbered, inNumbers, limit}
+use Rattle.answer.specs.Output.{Outcome, leaves, filled, deliver}
+use Rattle.answer.specs.declared.Answer.{Answer}
+use Rattle.answer.specs.declared.Answer.the-variants.{Accepted, Refused}
+use Rattle.answer.specs.declared.Refusal.{Refusal}
+use Rattle.answer.proofs.Once.{number-pos}
+use Rattle.reading.specs.Reading.{Does, give, go, bad, Ending, accepted, fault, Rule, Reading, onRead, onEnding, readFrom, reading, readInto}
+use Rattle.reading.proofs.Laws.{SoundEnd, good-reading}
+use Rattle.ledger.specs.Page.{State}
+use Rattle.ledger.specs.Calls.{replaceOf}
+use Rattle.ledger.specs.Ledger.{Call}
+use Rattle.commands.specs.Lines.{stretch, saidIn}
+use Rattle.commands.specs.Numbers.{numbers}
+use Rattle.commands.proofs.Words.{stretch-most, end-within}
+use Rattle.commands.proofs.Kept.{numbers-kept}
+use Rattle.commands.specs.declared.Said.{Said}
+use Rattle.commands.specs.declared.Verb.the-variants.{Replace}
+use Rattle.desk.specs.Desk.{replacing, asked, callIn, afterCall}
+
+module _ {S : Type 0} (rule : Rule S) where
+  few-does :
+      (m : Does S) (at : ℕ) (rest : S → Reading) (n : ℕ) → ((st : S) → length (rest st .cells) ≤ n) →
+      length (onRead m at rest .cells) ≤ suc n
+  few-does (give v st) at rest n h = omega (arith, h st)
+  few-does (go st) at rest n h = omega (arith, h st)
+  few-does (bad k) at rest n h = omega arith
+
+  few-from : (bs : List ℕ) (at : ℕ) (st : S) → length (readFrom rule bs at st .cells) ≤ length bs
+  unfolding readFrom
+  few-from [] at st = omega arith
+  few-from (b ∷ bs) at st =
+      few-does (rule .byte st b) at (readFrom rule bs (at + 1)) (length bs) (few-from bs (at + 1))
+
+  pub few-cells : (s : List ℕ) → length (reading rule s .cells) ≤ length s
+  unfolding reading
+  few-cells s = few-from s 0 (rule .start)
+
+-- the page after one call is that after the same call
+pub same-call : (s : State) {a b : Option Call} → a ≡ b → afterCall a s ≡ afterCall b s
+same-call s e = ap (λ (call : Option Call). afterCall call s) e
+
+-- a place and a count are needed, and the rest are the cells
+pub too-few : (numbers : List ℕ) → length numbers < 2 → none ≡ replacing accepted numbers
+too-few [] h = refl
+too-few (place ∷ []) h = refl
+too-few (place ∷ count ∷ cells) h = absurd (omega arith)
+
+pub replaces :
+    (s : State) (numbers : List ℕ) {place count : ℕ} {cells : List ℕ} → 2 ≤ length numbers → place ≡ getD numbers 0 0 →
+    count ≡ getD numbers 1 0 → cells ≡ drop 2 numbers → replaceOf s place count cells .state ≡ afterCall (replacing accepted numbers) s
+replaces s [] h p c l = absurd (omega arith)
+replaces s (x ∷ []) h p c l = absurd (omega arith)
+replaces s (x ∷ y ∷ rest) h p c l = rw (p, c, l)
+
+-- what an output with room for all holds after an answer
+module _ (out o : List ℕ) where
+  accepted-by :
+      (e : Ending) (cells : List ℕ) (n : ℕ) → SoundEnd e → length cells ≤ length out → leaves (Accepted n) o ≡ onEnding e cells out →
+      (n ≡ length cells) × (replacing accepted (take n o) ≡ replacing e cells)
+  unfolding deliver
+  accepted-by accepted cells n w room q =
+      let d : leaves (Accepted n) o ≡ record { verdict = numbered 0 (length cells); out = filled cells out } =
+      rw (le-ltb (length out) (length cells) room) at q in
+      let k : n ≡ length cells = ap (λ (v : Outcome). v .verdict .place) d in
+      let f : o ≡ filled cells out = ap (λ (v : Outcome). v .out) d in
+      (k, rw (k, f, take-append-seam cells (drop (length cells) out)))
+  accepted-by (fault k p) cells n w room q = absurd (omega (arith, w, ap (λ (v : Outcome). v .verdict .number) q))
+
+  refused-by :
+      (e : Ending) (cells : List ℕ) (why : Refusal) (place : ℕ) → length cells ≤ length out → leaves (Refused why place) o ≡ onEnding e cells out →
+      replacing e cells ≡ none
+  unfolding deliver
+  refused-by accepted cells why place room q =
+      let d : leaves (Refused why place) o ≡ record { verdict = numbered 0 (length cells); out = filled cells out } =
+      rw (le-ltb (length out) (length cells) room) at q in
+      absurd (omega (arith, number-pos why, ap (λ (v : Outcome). v .verdict .number) d))
+  refused-by (fault k p) cells why place room q = refl
+
+-- the room that the desk has for them
+as-many : (n : ℕ) → limit ≤ n → limit ≤ length {A = ℕ} (replicate n 0)
+as-many n h = omega (arith, length-replicate {A = ℕ} n 0)
+
+pub room : limit ≤ length {A = ℕ} (replicate 65536 0)
+unfolding limit
+room = as-many 65536 (omega arith)
+
+-- a line's numbers, read into an output with room for as many as a line has bytes
+module _ (words out o : List ℕ) (short : length words ≤ limit) (wide : limit ≤ length out) where
+  fits : length (reading numbers words .cells) ≤ length out
+  fits = omega (arith, few-cells numbers words)
+
+  by : (v : Outcome) → v ≡ readInto numbers words out → v ≡ onEnding (reading numbers words .ending) (reading numbers words .cells) out
+  unfolding readInto
+  by v q = rw (le-ltb limit (length words) short) at q
+
+  module _ {a : Answer} (q : leaves a o ≡ readInto numbers words out) where
+    module _ {m n : ℕ} (e : a ≡ Accepted m) (k : n ≡ inNumbers a .place) where
+      known : (n ≡ length (reading numbers words .cells)) × (replacing accepted (take n o) ≡ asked Replace words)
+      known =
+          let s : n ≡ m = k ∙ ap (λ (x : Answer). inNumbers x .place) e in
+          rw s (accepted-by out o (reading numbers words .ending) (reading numbers words .cells) m (good-reading numbers-kept words .1) fits (rw e at (by _ q)))
+
+      pub found-few : n ≤ limit
+      found-few = omega (arith, known .0, few-cells numbers words)
+
+      pub found-all : replacing accepted (take n o) ≡ asked Replace words
+      found-all = known .1
+
+    pub found-none : {why : Refusal} {place : ℕ} → a ≡ Refused why place → asked Replace words ≡ none
+    found-none {why} {place} e =
+        refused-by out o (reading numbers words .ending) (reading numbers words .cells) why place fits (rw e at (by _ q))
+
+-- a part to the end
+pub to-end : (n : ℕ) (l : List ℕ) → take (length l - n) (drop n l) ≡ drop n l
+to-end n l = take-all (length l - n) (drop n l) (omega (arith, length-drop n l))
+
+-- what follows a command's name begins within its line
+pub rest-within : (line : List ℕ) → saidIn line .rest ≤ length line
+unfolding saidIn
+rest-within line =
+    let from : ℕ = stretch true line in
+    let to : ℕ = from + stretch false (drop from line) in
+    end-within true line to (end-within false line from (stretch-most true line))
+
+pub line-calls :
+    (line : List ℕ) {said : Said} → said ≡ saidIn line →
+    asked (said .verb) (take (length line - said .rest) (drop (said .rest) line)) ≡ callIn line
+unfolding callIn
+line-calls line e = rw (e, to-end (saidIn line .rest) line)

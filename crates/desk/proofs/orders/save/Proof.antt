@@ -1,0 +1,42 @@
+use mathlib.Core.Path.{sym}
+use lib.Seq.{length-take-le}
+use borrow.Author.Needs.{needs}
+use Rattle.desk.proofs.orders.save.Statement.{statement}
+use Rattle.desk.proofs.orders.save.Tie as tie
+
+name-end-requires : tie.Need-name-end-requires
+name-end-requires c κs = search needs
+
+slice-aggregate-complain : tie.Need-slice-aggregate-complain
+slice-aggregate-complain c = search needs
+
+complain-requires : tie.Need-complain-requires
+complain-requires c κs = search needs
+
+returns : tie.Need-returns
+returns c = search needs
+
+slice-aggregate-save-in : tie.Need-slice-aggregate-save-in
+slice-aggregate-save-in c = sym (length-take-le _ (c .before .before .before .before .before .before .before .args .words .now) (c .before .before .name-end .ensures))
+
+slice-aggregate-save-in-2 : tie.Need-slice-aggregate-save-in-2
+slice-aggregate-save-in-2 c = search needs
+
+save-in-requires : tie.Need-save-in-requires
+save-in-requires c κs = search needs
+
+returns-2 : tie.Need-returns-2
+returns-2 c = search needs
+
+pub save-spec : {M : Type 1} → statement M
+save-spec =
+    tie.close
+    (tie.spec
+    name-end-requires
+    slice-aggregate-complain
+    complain-requires
+    returns
+    slice-aggregate-save-in
+    slice-aggregate-save-in-2
+    save-in-requires
+    returns-2)

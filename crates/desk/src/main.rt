@@ -1,0 +1,55 @@
+// desk KIND FILE: opens a letter as a page, and obeys the commands that come on standard input, one a line.
+mod files;
+mod lines;
+mod orders;
+mod replies;
+
+use answer::Answer;
+use codec::Kind;
+use commands::Named;
+use files::Got;
+
+// The kind and the file that the program was started with.
+fn main() {
+    if os::arg_count() != 3 {
+        replies::complain(b"use: desk KIND FILE, where KIND is utf7h, utf7b or jp2");
+        return;
+    }
+    let mut word = [0u8; 8];
+    let n = os::arg(1, &mut word);
+    let named = commands::kind_named(&word[..n]);
+    match named {
+        Named::Known(kind) => open(kind),
+        Named::NoKind => replies::complain(b"KIND is utf7h, utf7b or jp2"),
+    }
+}
+
+// There is room for a byte more than a page takes, so that a letter that is too long is refused with 16.
+fn open(kind: Kind) {
+    let mut path = io::buffer();
+    let n = os::arg(2, &mut path);
+    if os::errno() != 0 {
+        replies::fail(b"FILE");
+        return;
+    }
+    let mut letter = [0u8; 65537];
+    let got = files::read(&path[..n], &mut letter);
+    match got {
+        Got::Bytes(size) => serve(kind, &letter[..size]),
+        Got::Failed => {}
+    }
+}
+
+// Opens the page, and works on it where that is accepted.
+fn serve(kind: Kind, letter: &[u8]) {
+    let mut text = [0u32; 65536];
+    let mut history = [0u32; 65536];
+    let opened = page::open(kind, letter, &mut text, &mut history);
+    let answer = opened.answer;
+    let p = opened.page;
+    replies::tell(answer);
+    match answer {
+        Answer::Accepted(_) => lines::work(p, letter, &mut text, &mut history),
+        Answer::Refused(_, _) => {}
+    }
+}

@@ -1,0 +1,217 @@
+// One command: the page after it is the definition's, whatever the line says.
+use crate::files;
+use crate::replies;
+use answer::Answer;
+use commands::Verb;
+use commands::numbers;
+use ledger::Edited;
+use ledger::Page;
+ghost use Prim.Native.Nat.{_≤_};
+ghost use mathlib.Core.Bool.{false};
+ghost use mathlib.Core.Path.{_≡_};
+ghost use lib.ListN.{length};
+ghost use lib.Dec.{eqb};
+ghost use Rattle.answer.specs.Answer.{limit};
+ghost use Rattle.reading.specs.Reading.{accepted};
+ghost use Rattle.ledger.specs.Page.{stateOf};
+ghost use Rattle.commands.specs.declared.Verb.the-variants.{Replace, Undo, Redo};
+ghost use Rattle.desk.specs.Desk.{replacing, asked, afterCall, afterLine};
+
+// The page after a command, and whether the desk is left.
+pub struct Done {
+    pub page: Page,
+    pub left: bool,
+}
+
+// Tells the answer of a call, and goes on with its page.
+fn told(edited: Edited) -> Page
+    ensures { λ r. ⌜ r ≡ edited .page ⌝ }
+{
+    let answer = edited.answer;
+    let page = edited.page;
+    replies::tell(answer);
+    page
+}
+
+// Replaces as some numbers say: a place, a count, and the cells.
+fn replace_by(p: Page, numbers: &[u32], text: &mut [u32], history: &mut [u32]) -> Page
+    ensures { λ r. ⌜ stateOf r (now (text .exit)) (now (history .exit))
+        ≡ afterCall (replacing accepted (now (numbers .entry))) (stateOf p (now (text .entry)) (now (history .entry))) ⌝ }
+{
+    if numbers.len() < 2 {
+        return p;
+    }
+    let place = records::wide(numbers[0]);
+    let count = records::wide(numbers[1]);
+    told(page::replace(p, place, count, &numbers[2..], &mut *text, &mut *history))
+}
+
+// "replace PLACE COUNT CELL.."
+fn replace(p: Page, words: &[u8], text: &mut [u32], history: &mut [u32]) -> Page
+    requires { ⌜ length (now words) ≤ limit ⌝ }
+    ensures { λ r. ⌜ stateOf r (now (text .exit)) (now (history .exit))
+        ≡ afterCall (asked Replace (now (words .entry))) (stateOf p (now (text .entry)) (now (history .entry))) ⌝ }
+{
+    let mut found = [0u32; 65536];
+    let read = numbers::read(words, &mut found);
+    let n = answer::place(read);
+    match read {
+        Answer::Accepted(_) => {
+            if n <= 65536 {
+                return replace_by(p, &found[..n], &mut *text, &mut *history);
+            }
+            p
+        }
+        Answer::Refused(_, _) => {
+            replies::complain(
+                b"replace PLACE COUNT CELL..: two decimal numbers, then cells in hex, none over FFFFFFFF",
+            );
+            p
+        }
+    }
+}
+
+// Whether nothing follows a command; what does is complained of.
+fn alone(words: &[u8]) -> bool
+    ensures { λ r. ⌜ r ≡ eqb (length (now (words .entry))) 0 ⌝ }
+{
+    if words.len() == 0 {
+        return true;
+    }
+    replies::complain(b"nothing may follow this command");
+    false
+}
+
+// "undo"
+fn undo(p: Page, words: &[u8], text: &mut [u32], history: &[u32]) -> Page
+    ensures { λ r. ⌜ stateOf r (now (text .exit)) (now (history .entry))
+        ≡ afterCall (asked Undo (now (words .entry))) (stateOf p (now (text .entry)) (now (history .entry))) ⌝ }
+{
+    if !alone(words) {
+        return p;
+    }
+    told(lent::undo_kept(p, &mut *text, history))
+}
+
+// "redo"
+fn redo(p: Page, words: &[u8], text: &mut [u32], history: &[u32]) -> Page
+    ensures { λ r. ⌜ stateOf r (now (text .exit)) (now (history .entry))
+        ≡ afterCall (asked Redo (now (words .entry))) (stateOf p (now (text .entry)) (now (history .entry))) ⌝ }
+{
+    if !alone(words) {
+        return p;
+    }
+    told(lent::redo_kept(p, &mut *text, history))
+}
+
+// "show"
+fn show(p: Page, words: &[u8], text: &[u32]) {
+    if !alone(words) {
+        return;
+    }
+    let n = p.length;
+    if n <= text.len() {
+        replies::show(&text[..n]);
+    }
+}
+
+// Where the last byte that is no blank ends.
+fn name_end(words: &[u8]) -> usize
+    ensures { λ r. ⌜ r ≤ length (now (words .entry)) ⌝ }
+{
+    let mut end = words.len();
+    while 0 < end {
+        if !commands::is_blank(words[end - 1]) {
+            return end;
+        }
+        end -= 1;
+    }
+    end
+}
+
+// Saves under a name, by way of an output.
+fn save_in(p: Page, name: &[u8], letter: &[u8], text: &[u32], history: &[u32], out: &mut [u8]) {
+    let answer = page::save(p, text, history, letter, &mut *out);
+    let n = answer::place(answer);
+    match answer {
+        Answer::Accepted(_) => {
+            if n <= out.len() {
+                if files::put(name, &out[..n]) {
+                    replies::tell(answer);
+                }
+            }
+        }
+        Answer::Refused(_, _) => replies::tell(answer),
+    }
+}
+
+// "save FILE": the name goes to the end of the line and may hold spaces. The answer is told when the file is in its place.
+fn save(p: Page, words: &[u8], letter: &[u8], text: &[u32], history: &[u32]) {
+    let end = name_end(words);
+    if end == 0 {
+        replies::complain(b"save FILE: the name is missing");
+        return;
+    }
+    let mut out = [0u8; 393219];
+    save_in(p, &words[..end], letter, text, history, &mut out);
+}
+
+fn stays(p: Page) -> Done
+    ensures { λ r. ⌜ r ≡ record { page = p; left = false } ⌝ }
+{
+    Done {
+        page: p,
+        left: false,
+    }
+}
+
+// A command with what follows its name.
+fn act(
+    p: Page,
+    verb: Verb,
+    words: &[u8],
+    letter: &[u8],
+    text: &mut [u32],
+    history: &mut [u32],
+) -> Done
+    requires { ⌜ length (now words) ≤ limit ⌝ }
+    ensures { λ r. ⌜ stateOf (r .page) (now (text .exit)) (now (history .exit))
+        ≡ afterCall (asked verb (now (words .entry))) (stateOf p (now (text .entry)) (now (history .entry))) ⌝ }
+{
+    match verb {
+        Verb::Nothing => stays(p),
+        Verb::Unknown => {
+            replies::complain(
+                b"no such command: show, replace PLACE COUNT CELL.., undo, redo, save FILE, quit",
+            );
+            stays(p)
+        }
+        Verb::Show => {
+            show(p, words, &*text);
+            stays(p)
+        }
+        Verb::Save => {
+            save(p, words, letter, &*text, &*history);
+            stays(p)
+        }
+        Verb::Replace => stays(replace(p, words, &mut *text, &mut *history)),
+        Verb::Undo => stays(undo(p, words, &mut *text, &*history)),
+        Verb::Redo => stays(redo(p, words, &mut *text, &*history)),
+        Verb::Quit => {
+            let left = alone(words);
+            Done { page: p, left }
+        }
+    }
+}
+
+// Obeys a line. The letter is lent again to save.
+pub fn obey(p: Page, line: &[u8], letter: &[u8], text: &mut [u32], history: &mut [u32]) -> Done
+    requires { ⌜ length (now line) ≤ limit ⌝ }
+    ensures { λ r. ⌜ stateOf (r .page) (now (text .exit)) (now (history .exit))
+        ≡ afterLine (stateOf p (now (text .entry)) (now (history .entry))) (now (line .entry)) ⌝ }
+{
+    let said = commands::parse(line);
+    let verb = said.verb;
+    let rest = said.rest;
+    act(p, verb, &line[rest..], letter, &mut *text, &mut *history)
+}
