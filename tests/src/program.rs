@@ -9,7 +9,7 @@ use std::thread;
 
 pub struct Program {
     pub name: &'static str,
-    path: PathBuf,
+    pub path: PathBuf,
 }
 
 impl Program {

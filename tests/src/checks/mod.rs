@@ -2,6 +2,7 @@
 
 mod call;
 mod cursors;
+mod desk;
 mod lister;
 mod memory;
 mod page;
@@ -31,6 +32,7 @@ pub fn parts(settings: Settings) -> Vec<Part> {
     parts.push(tally);
     parts.extend(page::parts(seed));
     parts.extend(memory::parts(settings));
+    parts.extend(desk::parts(seed));
     parts
 }
 

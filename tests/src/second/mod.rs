@@ -5,6 +5,8 @@
 //! comments are sentences of document 01.
 
 mod call;
+pub mod desk;
+pub mod files;
 pub mod jp2;
 mod kind;
 pub mod ledger;

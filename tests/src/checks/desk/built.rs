@@ -1,0 +1,157 @@
+//! The built program, run in folders of its own.
+
+use std::cell::{Cell, RefCell};
+use std::collections::BTreeMap;
+use std::ffi::OsStr;
+use std::os::unix::ffi::OsStrExt;
+use std::path::{self, PathBuf};
+use std::process::Command;
+use std::time::Duration;
+
+use super::folder::{umask, Folder};
+use super::same::{same_bytes, same_files, same_told};
+use super::script::{show, Script};
+use super::session::Session;
+use crate::examples::desk::Transcript;
+use crate::program::Program;
+use crate::report::Statuses;
+use crate::second::desk::{self as second, Complaint, Told};
+use crate::second::Answer;
+
+/// How long is waited for an answer, or for the end; and how long after that was once too short, while a script is made
+/// smaller.
+const PATIENCE: Duration = Duration::from_secs(15);
+const LITTLE_PATIENCE: Duration = Duration::from_millis(500);
+
+/// How long half a line must not be answered.
+const SILENCE: Duration = Duration::from_millis(20);
+
+pub struct Desk {
+    path: PathBuf,
+    /// The umask that it has, unless a shell sets another.
+    pub umask: u32,
+    patience: Cell<Duration>,
+    /// How often each was complained of.
+    pub complaints: RefCell<BTreeMap<String, usize>>,
+}
+
+impl Desk {
+    pub fn new() -> Desk {
+        // It is run in other folders.
+        let path = path::absolute(Program::new("desk").path).expect("a path");
+        Desk { path, umask: umask(), patience: Cell::new(PATIENCE), complaints: RefCell::default() }
+    }
+
+    /// Starts it in a folder; first, a shell does this, if it is anything.
+    pub fn start(&self, arguments: &[Vec<u8>], folder: &Folder, first: &str) -> Result<Session, String> {
+        let mut command = if first.is_empty() {
+            Command::new(&self.path)
+        } else {
+            let mut shell = Command::new("sh");
+            shell.args(["-c", &format!("{first} && exec \"$0\" \"$@\"")]).arg(&self.path);
+            shell
+        };
+        command.args(arguments.iter().map(|argument| OsStr::from_bytes(argument))).current_dir(&folder.path);
+        Session::start(command, self.patience.get())
+    }
+
+    /// Waits for its end, and gives what it wrote to standard output and to standard error.
+    fn end<'a>(&self, session: &'a mut Session) -> Result<(&'a [u8], &'a [u8]), String> {
+        session.end().inspect_err(|_| self.patience.set(LITTLE_PATIENCE))
+    }
+
+    /// Runs a script, and compares what it tells and leaves with what the second program does.
+    pub fn follow(&self, script: &Script, statuses: &mut Statuses) -> Result<(), String> {
+        // The second program comes first, for it stops where a name leads out of the folder.
+        let expected = second::run(&script.start(self.umask));
+        let folder = Folder::new(&script.files)?;
+        let mut session = self.start(&script.arguments, &folder, "")?;
+        session.feed(&script.lines.concat());
+        session.close();
+        let (output, errors) = self.end(&mut session)?;
+        same_told("standard output", &expected.told, Told::output, output)?;
+        same_told("standard error", &expected.told, Told::errors, errors)?;
+        same_files(&expected.files, &folder.files()?)?;
+        self.count(&expected.told, statuses);
+        Ok(())
+    }
+
+    /// Runs a script line by line: what is told for each is waited for before the next is written.
+    pub fn converse(&self, script: &Script, in_halves: bool, statuses: &mut Statuses) -> Result<(), String> {
+        let start = script.start(self.umask);
+        let expected = second::run(&start);
+        let folder = Folder::new(&script.files)?;
+        let mut session = self.start(&script.arguments, &folder, "")?;
+        let (first, others) = expected.told.split_first().expect("the start");
+        session.expect(&first.output(), &first.errors()).map_err(|difference| format!("at the start {difference}"))?;
+        for (number, (line, told)) in (1..).zip(second::lines(&start.input).zip(others)) {
+            let of_line = |difference| format!("for line {number}, {}, {difference}", show(line));
+            let (half, rest) = line.split_at(if in_halves { line.len() / 2 } else { 0 });
+            if in_halves {
+                session.feed(half);
+                session.expect_silence(SILENCE).map_err(of_line)?;
+            }
+            session.feed(rest);
+            if !line.ends_with(b"\n") {
+                session.close();
+            }
+            session.expect(&told.output(), &told.errors()).map_err(of_line)?;
+        }
+        // After `quit`, and where the letter is not opened, it ends although its input does not.
+        let is_open = matches!(first, Told::Answer(_, Answer { number: 0, .. }));
+        if is_open && expected.told.last() != Some(&Told::End) {
+            session.close();
+        }
+        session.end()?;
+        session.nothing_more()?;
+        same_files(&expected.files, &folder.files()?)?;
+        self.count(&expected.told, statuses);
+        Ok(())
+    }
+
+    /// Counts what was told.
+    fn count(&self, told: &[Told], statuses: &mut Statuses) {
+        for told in told {
+            match told {
+                Told::Answer(name, answer) => statuses.count(name, answer.number),
+                Told::Cells(_) => statuses.count(second::SHOW, 0),
+                Told::Complaint(complaint) => {
+                    *self.complaints.borrow_mut().entry(label(complaint)).or_default() += 1;
+                }
+                Told::Nothing | Told::End => {}
+            }
+        }
+    }
+
+    /// Compares what it tells and leaves with what is written out by hand, where new files have modes by this umask; a
+    /// shell does something first.
+    pub fn compare_transcript(&self, transcript: &Transcript, umask: u32, first: &str) -> Result<(), String> {
+        let folder = Folder::new(&transcript.before)?;
+        let mut session = self.start(&transcript.arguments, &folder, first)?;
+        session.feed(&transcript.input);
+        session.close();
+        let (output, errors) = session.end()?;
+        same_bytes("standard output", &transcript.output, output)?;
+        same_bytes("standard error", &transcript.errors, errors)?;
+        same_files(&transcript.after(umask), &folder.files()?)
+    }
+}
+
+/// How a complaint is counted.
+fn label(complaint: &Complaint) -> String {
+    let label = match complaint {
+        Complaint::Use => "use",
+        Complaint::Kind => "kind",
+        Complaint::LetterNameTooLong => "name of the letter too long",
+        Complaint::Letter(_, errno) => return format!("letter: {}", errno.text()),
+        Complaint::LineTooLong => "line too long",
+        Complaint::NoSuchCommand => "no such command",
+        Complaint::NothingMayFollow => "nothing may follow",
+        Complaint::Replace => "replace",
+        Complaint::NameMissing => "name missing",
+        Complaint::NameTooLong => "name too long",
+        Complaint::New(_, errno) => return format!("FILE.new: {}", errno.text()),
+        Complaint::Rename(_, errno) => return format!("FILE: {}", errno.text()),
+    };
+    label.to_string()
+}

@@ -1,0 +1,147 @@
+//! Scripts with letters, lines and pages that are as long as can be, and longer.
+
+use super::script::Script;
+use super::seeded::{long_name, on_letter, LONG_NAMES, NAMES, OTHERS};
+use crate::examples::desk::BAD_LINES;
+use crate::rng::Rng;
+use crate::second::desk::LONGEST_LINE;
+use crate::second::{Kind, LIMIT};
+use crate::texts;
+
+/// The byte that the letters are made of.
+const BYTE: u8 = b'a';
+
+/// The cell that it is read as, in hex.
+fn cell(kind: Kind) -> String {
+    format!("{:X}", kind.read(&[BYTE]).expect("a whole text")[0])
+}
+
+/// A script on a letter, with others beside it.
+fn script(kind: Kind, letter: &[u8], lines: Vec<Vec<u8>>) -> Script {
+    Script { lines, ..on_letter(kind, "letter", "letter", letter.to_vec(), OTHERS) }
+}
+
+/// Each of these, with LF.
+fn ended(lines: impl IntoIterator<Item = impl AsRef<[u8]>>) -> Vec<Vec<u8>> {
+    lines.into_iter().map(|line| [line.as_ref(), b"\n"].concat()).collect()
+}
+
+/// A letter of each frame, short and as long as can be, and letters that are too long.
+pub fn letters(kind: Kind) -> impl Iterator<Item = Script> {
+    let source = texts::of_kind(kind);
+    let of_frames = [40, LIMIT].into_iter().flat_map(|length| source.texts_of_length(length));
+    let faulty = [&b"\x80"[..], &[BYTE; LIMIT]].concat();
+    let too_long = [vec![BYTE; LIMIT + 1], faulty, vec![BYTE; 3 * LIMIT]];
+    of_frames.chain(too_long).map(move |letter| script(kind, &letter, ended(["show", "undo", "shows", "quit", "undo"])))
+}
+
+/// Pages as long as can be, with lines that they just take and lines that they just do not.
+pub fn pages(kind: Kind) -> Vec<Script> {
+    let cell = cell(kind);
+    let full = [
+        "show".to_string(),
+        format!("replace 0 0 {cell}"),
+        format!("replace {LIMIT} 0 {cell} {cell}"),
+        format!("replace {LIMIT} 0"),
+        format!("replace {} 1 {cell}", LIMIT - 1),
+        format!("replace {LIMIT} 1 {cell}"),
+        "undo".to_string(),
+        "undo".to_string(),
+        "undo".to_string(),
+        format!("replace 0 {}", LIMIT - 2),
+        format!("replace 0 {LIMIT} {cell}"),
+        format!("replace 0 {}", LIMIT - 3),
+        "replace 0 0".to_string(),
+        "save short".to_string(),
+        "show".to_string(),
+        "undo".to_string(),
+        "save as it came".to_string(),
+        "redo".to_string(),
+        "redo".to_string(),
+        "undo".to_string(),
+        format!("replace 0 {} {cell}", LIMIT - 4),
+        "save short".to_string(),
+    ];
+    vec![script(kind, &[BYTE; LIMIT], ended(full)), grown(kind)]
+}
+
+/// A page that grows by lines that are as long as can be, of cells that take many bytes each when they are written.
+fn grown(kind: Kind) -> Script {
+    let pattern = match kind {
+        Kind::Utf7Header | Kind::Utf7Body => "A3 2D ",
+        Kind::Jp2 => "952121 9F2121 ",
+    };
+    let start = "replace 0 0 ";
+    let cells = pattern.repeat((LONGEST_LINE - start.len()) / pattern.len());
+    let longest = format!("{:<1$}", format!("{start}{cells}"), LONGEST_LINE);
+    let lines = ended(["save empty"])
+        .into_iter()
+        .chain(vec![longest.into_bytes(); 8].into_iter().map(|line| [&line[..], b"\n"].concat()))
+        .chain(ended(["save large", "show", "undo", "save large", "undo", "redo", "redo", "save old"]));
+    script(kind, b"", lines.collect())
+}
+
+/// Lines about as long as can be and longer, all in one script; and scripts that end in such a line, without LF.
+pub fn lines(kind: Kind) -> Vec<Script> {
+    let lengths = [-1, 0, 1, 2].map(|off| LONGEST_LINE.strict_add_signed(off));
+    let longer = [70_000, 2 * LIMIT - 1, 2 * LIMIT, 2 * LIMIT + 1, 200_000];
+    let all = lengths.into_iter().chain(longer).flat_map(|length| long_lines(kind, length));
+    let lines = all.flat_map(|line| ended([&line[..], b"show"])).collect();
+    let whole = [script(kind, b"ab", lines)];
+    let last = lengths.into_iter().chain([70_000, 2 * LIMIT]).flat_map(|length| {
+        let [first, second, ..] = long_lines(kind, length);
+        [first, second].map(|line| script(kind, b"ab", ended(["undo"]).into_iter().chain([line]).collect()))
+    });
+    whole.into_iter().chain(last).collect()
+}
+
+/// Lines of this length: with many blanks, with many zeros, with words that are long, and with an end that by itself
+/// would be a command.
+fn long_lines(kind: Kind, length: usize) -> [Vec<u8>; 9] {
+    let cell = cell(kind);
+    let filled = |start: &str, filling: u8, end: &str| {
+        let count = length - start.len() - end.len();
+        [start.as_bytes(), &vec![filling; count], end.as_bytes()].concat()
+    };
+    [
+        filled("redo", b' ', ""),
+        filled("replace 0 0 ", b'0', &cell),
+        filled("", b'\t', "undo"),
+        filled("replace ", b'0', " 1"),
+        filled("replace 1 ", b'0', " FFFFFFFF"),
+        filled("", b'\r', ""),
+        filled("", b'x', "\rundo"),
+        filled("save ", b'n', ""),
+        filled("quit", b' ', "0"),
+    ]
+}
+
+/// Every name that is saved to, short and long; and names in a folder that has the letter alone.
+pub fn names(kind: Kind) -> Vec<Script> {
+    let long = LONG_NAMES.iter().map(|&length| long_name(length));
+    let lines = NAMES.iter().map(|name| name.to_vec()).chain(long).map(|name| [b"save ", &name[..]].concat());
+    let alone = on_letter(kind, "letter", "letter", b"ab".to_vec(), &[]);
+    vec![
+        script(kind, b"ab", ended(lines)),
+        Script { lines: ended(["save sub/out", "save sub", "save sub/out", "save busy"]), ..alone },
+    ]
+}
+
+/// Every line that is complained of, twice, with many lines of all lengths between them: more than is read at once.
+pub fn streams(seed: u64, kind: Kind) -> impl Iterator<Item = Script> {
+    let mut rng = Rng::new(seed, &format!("desk {} streams", kind.name()));
+    (0..2).map(move |_| {
+        let mut lines = Vec::new();
+        for bad in BAD_LINES.into_iter().flat_map(|(_, group)| group) {
+            lines.extend(ended([bad]));
+            let length = match rng.below(3) {
+                0 => rng.below(8),
+                1 => rng.below(300),
+                _ => rng.below(9_000),
+            };
+            let filling = rng.pick(b"x  \t");
+            lines.extend(ended([vec![filling; length], rng.pick(&[&b"show"[..], b""]).to_vec()]));
+        }
+        script(kind, b"ab", lines)
+    })
+}

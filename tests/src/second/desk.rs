@@ -1,0 +1,350 @@
+//! The program `desk`. It is no part of document 01 but for its page: quotations in comments are sentences of DESK.md,
+//! which README.md has as the part on `desk`. Where that is silent, a comment says what is taken.
+
+use super::files::{Errno, Files};
+use super::page::{self, Page, State};
+use super::{print_listing, Answer, Call, Kind, LIMIT};
+
+/// All that `desk` is started with.
+pub struct Start {
+    /// The arguments after the program's name.
+    pub arguments: Vec<Vec<u8>>,
+    /// What there is in the folder that it is started in.
+    pub files: Files,
+    pub umask: u32,
+    /// The whole of its standard input.
+    pub input: Vec<u8>,
+}
+
+/// All that is seen of it.
+pub struct End {
+    /// What it tells: at the start, and then for each line up to the end or to `quit`.
+    pub told: Vec<Told>,
+    pub files: Files,
+}
+
+/// What it tells at once.
+#[derive(Clone, Debug, PartialEq, Eq)]
+pub enum Told {
+    Nothing,
+    /// The answer of what has this name.
+    Answer(&'static str, Answer),
+    /// The cells that `show` shows.
+    Cells(Vec<u32>),
+    Complaint(Complaint),
+    /// It ends, although there may be more input.
+    End,
+}
+
+#[derive(Clone, Debug, PartialEq, Eq)]
+pub enum Complaint {
+    Use,
+    Kind,
+    LetterNameTooLong,
+    /// FILE cannot be opened or read.
+    Letter(Vec<u8>, Errno),
+    LineTooLong,
+    NoSuchCommand,
+    NothingMayFollow,
+    Replace,
+    NameMissing,
+    NameTooLong,
+    /// FILE.new cannot be made or written.
+    New(Vec<u8>, Errno),
+    /// FILE.new cannot be renamed to FILE.
+    Rename(Vec<u8>, Errno),
+}
+
+/// The words for the kinds.
+pub fn kind_word(kind: Kind) -> &'static str {
+    match kind {
+        Kind::Utf7Header => "utf7h",
+        Kind::Utf7Body => "utf7b",
+        Kind::Jp2 => "jp2",
+    }
+}
+
+/// How the answers are counted: those of an opened letter by kind, and those of each command.
+pub fn open_name(kind: Kind) -> &'static str {
+    match kind {
+        Kind::Utf7Header => "desk utf7h",
+        Kind::Utf7Body => "desk utf7b",
+        Kind::Jp2 => "desk jp2",
+    }
+}
+
+pub const SHOW: &str = "desk, show";
+pub const REPLACE: &str = "desk, replace";
+pub const UNDO: &str = "desk, undo";
+pub const REDO: &str = "desk, redo";
+pub const SAVE: &str = "desk, save";
+
+/// "FILE longer than 4,096 bytes"
+const LONGEST_LETTER_NAME: usize = 4_096;
+
+/// "A name of more than 4,092 bytes"
+const LONGEST_NAME: usize = 4_092;
+
+/// "a line of more than 65,535 bytes (without its LF)"
+pub const LONGEST_LINE: usize = 65_535;
+
+/// "Save is lent the letter as it arrived and an output of 393,219 bytes."
+const ROOM: usize = 393_219;
+
+impl Told {
+    /// What of it goes to standard output: "Answers go to standard output in the listers' style".
+    pub fn output(&self) -> Vec<u8> {
+        match self {
+            // "`status=N` and `count=N` (accepted) or `place=N` (refused), each line ended by LF"
+            Told::Answer(_, Answer { number: 0, place }) => format!("status=0\ncount={place}\n").into_bytes(),
+            Told::Answer(_, Answer { number, place }) => format!("status={number}\nplace={place}\n").into_bytes(),
+            // "`status=0`, `count=` the length, `cells=` the cells as the listers print them."
+            Told::Cells(cells) => print_listing(&Ok(cells.clone())).into_bytes(),
+            Told::Nothing | Told::Complaint(_) | Told::End => vec![],
+        }
+    }
+
+    /// What of it goes to standard error: "complaints to standard error, each one line that begins `desk: `."
+    pub fn errors(&self) -> Vec<u8> {
+        match self {
+            Told::Complaint(complaint) => [b"desk: ", &complaint.text()[..], b"\n"].concat(),
+            _ => vec![],
+        }
+    }
+}
+
+impl Complaint {
+    fn text(&self) -> Vec<u8> {
+        let text = match self {
+            Complaint::Use => "use: desk KIND FILE, where KIND is utf7h, utf7b or jp2",
+            Complaint::Kind => "KIND is utf7h, utf7b or jp2",
+            Complaint::LetterNameTooLong => "FILE: File name too long",
+            Complaint::LineTooLong => "a line is longer than 65535 bytes",
+            Complaint::NoSuchCommand => {
+                "no such command: show, replace PLACE COUNT CELL.., undo, redo, save FILE, quit"
+            }
+            Complaint::NothingMayFollow => "nothing may follow this command",
+            Complaint::Replace => {
+                "replace PLACE COUNT CELL..: two decimal numbers, then cells in hex, none over FFFFFFFF"
+            }
+            Complaint::NameMissing => "save FILE: the name is missing",
+            Complaint::NameTooLong => "the name of the file is too long",
+            Complaint::Letter(name, errno) | Complaint::New(name, errno) | Complaint::Rename(name, errno) => {
+                return [name, &b": "[..], errno.text().as_bytes()].concat();
+            }
+        };
+        text.as_bytes().to_vec()
+    }
+}
+
+/// Runs the program.
+pub fn run(start: &Start) -> End {
+    match open(start) {
+        Err(told) => End { told: vec![told], files: start.files.clone() },
+        Ok((told, mut desk)) => {
+            let mut told = vec![told];
+            for line in lines(&start.input) {
+                told.push(desk.obey(line));
+                if told.ends_with(&[Told::End]) {
+                    break;
+                }
+            }
+            End { told, files: desk.files }
+        }
+    }
+}
+
+/// "a line ends at LF; a last line without LF is a line too": the lines, each with its LF.
+pub fn lines(input: &[u8]) -> impl Iterator<Item = &[u8]> {
+    input.split_inclusive(|&byte| byte == b'\n')
+}
+
+/// What is told where the letter is opened, with the desk; or where it is not.
+fn open(start: &Start) -> Result<(Told, Desk), Told> {
+    let complain = |complaint| Err(Told::Complaint(complaint));
+    let [word, name] = &start.arguments[..] else { return complain(Complaint::Use) };
+    let Some(kind) = Kind::ALL.into_iter().find(|&kind| kind_word(kind).as_bytes() == word) else {
+        return complain(Complaint::Kind);
+    };
+    if name.len() > LONGEST_LETTER_NAME {
+        return complain(Complaint::LetterNameTooLong);
+    }
+    let arrived = match start.files.read(name) {
+        Ok(bytes) => bytes,
+        Err(errno) => return complain(Complaint::Letter(name.clone(), errno)),
+    };
+    // "the page opened with a text buffer and a history of 65,536 each; the answer is told"
+    let blank = State { page: Page::opened(kind, 0), text: vec![0; LIMIT], history: vec![0; LIMIT] };
+    let opened = page::left(&blank, &Call::Open { kind, arrived: arrived.clone() }, &[]);
+    let told = Told::Answer(open_name(kind), opened.answer);
+    if opened.answer.number != 0 {
+        return Err(told);
+    }
+    Ok((told, Desk { arrived, state: opened.state, files: start.files.clone(), umask: start.umask }))
+}
+
+/// "space, tab, CR, LF"
+fn is_blank(byte: u8) -> bool {
+    b" \t\r\n".contains(&byte)
+}
+
+/// Without the blanks at both ends.
+fn trimmed(bytes: &[u8]) -> &[u8] {
+    let start = bytes.iter().position(|&byte| !is_blank(byte)).unwrap_or(bytes.len());
+    let end = bytes.iter().rposition(|&byte| !is_blank(byte)).map_or(start, |last| last + 1);
+    &bytes[start..end]
+}
+
+/// A number in this base that is "at most 4294967295". Taken: decimal numbers have any number of leading zeros too.
+fn number(word: &[u8], base: u32) -> Option<u32> {
+    let digits: Vec<u32> = word.iter().map(|&byte| char::from(byte).to_digit(base)).collect::<Option<_>>()?;
+    let without_zeros = digits.into_iter().skip_while(|&digit| digit == 0);
+    without_zeros.into_iter().try_fold(0u32, |number, digit| number.checked_mul(base)?.checked_add(digit))
+}
+
+/// Its page, the letter as it arrived, and the files as they are.
+struct Desk {
+    arrived: Vec<u8>,
+    state: State,
+    files: Files,
+    umask: u32,
+}
+
+impl Desk {
+    /// Does what a line says, and tells what is told.
+    fn obey(&mut self, line: &[u8]) -> Told {
+        let line = line.strip_suffix(b"\n").unwrap_or(line);
+        if line.len() > LONGEST_LINE {
+            return Told::Complaint(Complaint::LineTooLong);
+        }
+        let words: Vec<&[u8]> = line.split(|&byte| is_blank(byte)).filter(|word| !word.is_empty()).collect();
+        match &words[..] {
+            [] => Told::Nothing,
+            [b"replace", numbers @ ..] => self.replace(numbers),
+            [b"save", ..] => self.save(trimmed(&trimmed(line)[b"save".len()..])),
+            [b"show" | b"undo" | b"redo" | b"quit", _, ..] => Told::Complaint(Complaint::NothingMayFollow),
+            [b"show"] => Told::Cells(self.state.text[..self.state.page.length].to_vec()),
+            [b"undo"] => self.call(UNDO, &Call::Undo),
+            [b"redo"] => self.call(REDO, &Call::Redo),
+            [b"quit"] => Told::End,
+            _ => Told::Complaint(Complaint::NoSuchCommand),
+        }
+    }
+
+    fn call(&mut self, name: &'static str, call: &Call) -> Told {
+        let left = page::left(&self.state, call, &[]);
+        self.state = left.state;
+        Told::Answer(name, left.answer)
+    }
+
+    /// "If a word is missing, holds another byte or is too large: (..), and nothing is changed." Taken: there may be no
+    /// CELL.
+    fn replace(&mut self, words: &[&[u8]]) -> Told {
+        let call = || {
+            let (&[place, count], cells) = words.split_first_chunk()?;
+            let [place, count] = [number(place, 10)?, number(count, 10)?].map(|number| number as usize);
+            let cells = cells.iter().map(|cell| number(cell, 16)).collect::<Option<_>>()?;
+            Some(Call::Replace { place, count, cells })
+        };
+        match call() {
+            Some(call) => self.call(REPLACE, &call),
+            None => Told::Complaint(Complaint::Replace),
+        }
+    }
+
+    fn save(&mut self, name: &[u8]) -> Told {
+        if name.is_empty() {
+            return Told::Complaint(Complaint::NameMissing);
+        }
+        if name.len() > LONGEST_NAME {
+            return Told::Complaint(Complaint::NameTooLong);
+        }
+        let saved = page::left(&self.state, &Call::Save { arrived: self.arrived.clone(), room: ROOM }, &[0; ROOM]);
+        // "Refused: the answer is told, no file is touched."
+        if saved.answer.number != 0 {
+            return Told::Answer(SAVE, saved.answer);
+        }
+        match self.put(name, &saved.output[..saved.answer.place]) {
+            Ok(()) => Told::Answer(SAVE, saved.answer),
+            Err(complaint) => Told::Complaint(complaint),
+        }
+    }
+
+    /// "Accepted: the bytes are written to a new file FILE.new, made for this (mode 0666 less the umask), synced, closed
+    /// and renamed to FILE". "If something fails, (..) the new file is removed, and FILE stays as it was."
+    fn put(&mut self, name: &[u8], bytes: &[u8]) -> Result<(), Complaint> {
+        let new_name = [name, b".new"].concat();
+        let mut files = self.files.clone();
+        let path = files.make(&new_name, bytes, 0o666 & !self.umask);
+        let path = path.map_err(|errno| Complaint::New(new_name, errno))?;
+        files.rename(&path, name).map_err(|errno| Complaint::Rename(name.to_vec(), errno))?;
+        self.files = files;
+        Ok(())
+    }
+}
+
+#[cfg(test)]
+mod tests {
+    use super::*;
+    use crate::examples::desk as examples;
+
+    #[test]
+    fn tells_and_leaves_what_is_written_out_by_hand() {
+        for transcript in examples::all() {
+            let (arguments, files) = (transcript.arguments.clone(), transcript.before.clone());
+            let end = run(&Start { arguments, files, umask: 0o27, input: transcript.input.clone() });
+            let written = |of: fn(&Told) -> Vec<u8>| -> Vec<u8> { end.told.iter().flat_map(of).collect() };
+            let text = |bytes: &[u8]| bytes.escape_ascii().to_string();
+            assert_eq!(text(&written(Told::output)), text(&transcript.output), "{transcript}");
+            assert_eq!(text(&written(Told::errors)), text(&transcript.errors), "{transcript}");
+            assert_eq!(end.files, transcript.after(0o27), "{transcript}");
+        }
+    }
+
+    /// What is told for a line on the letter "abc".
+    fn told(line: &[u8]) -> Told {
+        let files = examples::files(&[("letter", "abc")], 0o600);
+        let arguments = vec![b"utf7b".to_vec(), b"letter".to_vec()];
+        let mut told = run(&Start { arguments, files, umask: 0, input: line.to_vec() }).told;
+        assert_eq!(told.len(), 2);
+        told.remove(1)
+    }
+
+    #[test]
+    fn a_line_has_at_most_65535_bytes() {
+        let padded = |length: usize, end: &str| [&b"undo"[..], &vec![b' '; length - 4], end.as_bytes()].concat();
+        let (answer, too_long) =
+            (Told::Answer(UNDO, Answer { number: 13, place: 0 }), Told::Complaint(Complaint::LineTooLong));
+        for end in ["", "\n"] {
+            assert_eq!(told(&padded(65_535, end)), answer);
+            assert_eq!(told(&padded(65_536, end)), too_long);
+            assert_eq!(told(&padded(70_000, end)), too_long);
+        }
+        assert_eq!(told(&padded(65_535, "\r\n")), too_long);
+    }
+
+    #[test]
+    fn a_name_has_at_most_4092_bytes() {
+        let saved = |length: usize| told(&[b"save ", &b"./".repeat(length)[..length - 1], b"n \r\n"].concat());
+        assert_eq!(saved(4_091), Told::Answer(SAVE, Answer { number: 0, place: 3 }));
+        assert!(matches!(saved(4_092), Told::Complaint(Complaint::New(name, _)) if name.len() == 4_096));
+        assert_eq!(saved(4_093), Told::Complaint(Complaint::NameTooLong));
+    }
+
+    #[test]
+    fn a_name_with_a_nul_is_of_no_file() {
+        let name = b"a\0b.new".to_vec();
+        assert_eq!(told(b"save a\0b\n"), Told::Complaint(Complaint::New(name, crate::second::files::EINVAL)));
+    }
+
+    #[test]
+    fn a_letter_has_at_most_65536_bytes() {
+        for (length, answer) in [(65_536, (0, 65_536)), (65_537, (16, 65_536)), (200_000, (16, 65_536))] {
+            let files = examples::files(&[("letter", &"a".repeat(length))], 0o600);
+            let arguments = vec![b"jp2".to_vec(), b"letter".to_vec()];
+            let end = run(&Start { arguments, files, umask: 0, input: vec![] });
+            let (number, place) = answer;
+            assert_eq!(end.told, [Told::Answer("desk jp2", Answer { number, place })]);
+        }
+    }
+}
