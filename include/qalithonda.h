@@ -1,15 +1,16 @@
 /*
  * Qalithonda: the text part of a journal program.
  *
- * It reads and writes UTF-7 (RFC 2152) and ISO-2022-JP-2 (RFC 1554, "JP-2"), steps through a text
- * cell by cell, and keeps an editable page with undo and redo. Link with libqalithonda.a or
- * libqalithonda.so.
+ * It reads and writes UTF-7 (RFC 2152), ISO-2022-JP-2 (RFC 1554, "JP-2") and mailbox names of IMAP
+ * (RFC 3501, section 5.1.3), steps through a text cell by cell, and keeps an editable page with
+ * undo and redo. Link with libqalithonda.a or libqalithonda.so.
  *
- * Cells. A text is read to cells, which are 32-bit numbers. A UTF-7 cell is a UTF-16 unit, 0 to
- * 65535; half a surrogate pair is a unit like any other. A JP-2 cell is its set's registration
- * number times 65536, plus the code as sent (of a pair: first byte times 256 plus second).
+ * Cells. A text is read to cells, which are 32-bit numbers. A cell of UTF-7 or of a mailbox name is
+ * a UTF-16 unit, 0 to 65535; half a surrogate pair is a unit like any other. A JP-2 cell is its
+ * set's registration number times 65536, plus the code as sent (of a pair: first byte times 256
+ * plus second).
  *
- * Answers. A call is accepted with number 0 and a count, or refused with one of the numbers 1 to 16
+ * Answers. A call is accepted with number 0 and a count, or refused with one of the numbers 1 to 17
  * and a place; both are in `place`. The numbers that a function can give are listed with it, those
  * that are looked for first in front. In reading, the fault at the earliest place decides.
  *
@@ -45,16 +46,17 @@ extern "C" {
 enum qalithonda_number {
     QALITHONDA_ACCEPTED = 0,        /* accepted: the count of elements */
     QALITHONDA_HIGH_BYTE = 1,       /* byte of 128 or more: that byte */
-    QALITHONDA_LONE_SIGN = 2,       /* '+' followed by neither a Base64 letter nor '-': the byte
-                                       that follows, or the text's length */
+    QALITHONDA_LONE_SIGN = 2,       /* '+', in a mailbox name '&', followed by neither a Base64
+                                       letter nor '-': the byte that follows, or the text's
+                                       length */
     QALITHONDA_STRAY_BYTE = 3,      /* byte that no rule allows there: that byte */
-    QALITHONDA_LEFT_OVER_BITS = 4,  /* left-over bits of a run not zero: the byte that ends the run,
-                                       or the text's length */
+    QALITHONDA_LEFT_OVER_BITS = 4,  /* left-over bits of a run not zero: the byte that ends the run
+                                       (in a mailbox name its '-'), or the text's length */
     QALITHONDA_UNKNOWN_ESCAPE = 5,  /* escape neither ESC N nor a designation: first byte that fits
                                        none */
     QALITHONDA_EMPTY_G2 = 6,        /* ESC N with nothing in G2: the N */
-    QALITHONDA_CUT_SHORT = 7,       /* text ends in an escape, in a pair or after ESC N: the text's
-                                       length */
+    QALITHONDA_CUT_SHORT = 7,       /* text ends in an escape, in a pair or after ESC N, or a
+                                       mailbox name in a run: the text's length */
     QALITHONDA_NOT_ASCII = 8,       /* text ends with G0 not ASCII: the text's length */
     QALITHONDA_NO_ROOM = 9,         /* too little room: the elements needed in all */
     QALITHONDA_UNWRITABLE = 10,     /* cell not writable in this kind: its index */
@@ -63,7 +65,11 @@ enum qalithonda_number {
     QALITHONDA_NOTHING_LEFT = 13,   /* nothing to undo or redo: 0 */
     QALITHONDA_UNSOUND = 14,        /* page not sound: 0 */
     QALITHONDA_NOT_THE_TEXT = 15,   /* arrived bytes do not read as the text: 0 */
-    QALITHONDA_OVER_LIMIT = 16      /* more than 65,536 elements lent: 65,536 */
+    QALITHONDA_OVER_LIMIT = 16,     /* more than 65,536 elements lent: 65,536 */
+    QALITHONDA_NEEDLESS_SHIFT = 17  /* needless shift in a mailbox name. A unit of 32 to 126 in a
+                                       run: the letter that completes it. A run directly after a
+                                       run: its first letter. Six or more left-over bits, all zero:
+                                       the '-' that closes the run */
 };
 
 /* The kinds of page. */
@@ -129,6 +135,31 @@ qalithonda_numbers qalithonda_jp2_tally(const uint32_t *cells, size_t cells_len,
                                         uint32_t counts[9]);
 
 
+/* ---- Mailbox names ----
+ *
+ * The modified UTF-7 of IMAP. Bytes 32 to 126 stand for themselves, but '&' is "&-"; all other
+ * units are in runs, '&' to '-', of Base64 letters with ',' in the place of '/'. A name has one
+ * spelling only: an accepted name, written again from its cells, is the same bytes, and two names
+ * with the same cells are the same name. No page is of this format.
+ */
+
+/*
+ * Reads a name to cells. A name of n bytes has at most n cells.
+ * Accepted: the count of cells, which are in `cells`.
+ * Refused: 16 (text); 1, 2, 3, 4, 7, 17; 9 (cells).
+ */
+qalithonda_numbers qalithonda_mailbox_read(const uint8_t *text, size_t text_len,
+                                           uint32_t *cells, size_t cells_len);
+
+/*
+ * Writes cells as a name. n cells need at most 5n bytes.
+ * Accepted: the count of bytes, which are in `out`.
+ * Refused: 16 (cells); 10 (a cell above 65535); 9 (out).
+ */
+qalithonda_numbers qalithonda_mailbox_write(const uint32_t *cells, size_t cells_len,
+                                            uint8_t *out, size_t out_len);
+
+
 /* ---- Stepping through a text ----
  *
  * A step hands out one cell and the cursor behind it. Start with the cursor of `start`, hand each
@@ -183,19 +214,41 @@ typedef struct {
     qalithonda_jp2_cursor next;  /* the cursor behind the cell; unchanged where none is given */
 } qalithonda_jp2_stepped;
 
+/* A place in a mailbox name. */
+typedef struct {
+    size_t at;         /* the next byte */
+    size_t handed;     /* how many cells were handed out */
+    uint32_t shift;    /* 0 outside a run, 1 outside directly after a run, 2 after '&', 3 after '&'
+                          directly after a run, else in a run */
+    uint32_t pending;  /* in a run: how many bits wait for a full sixteen */
+    uint32_t value;    /* in a run: those bits as a number */
+} qalithonda_mailbox_cursor;
+
+/* A step: a cell, or the final answer. */
+typedef struct {
+    uint32_t given;                  /* 1: a cell; 0: the answer */
+    uint32_t cell;                   /* the cell; 0 where none is given */
+    qalithonda_numbers answer;       /* the final answer; {0, 0} where a cell is given */
+    qalithonda_mailbox_cursor next;  /* the cursor behind the cell; unchanged where none is given */
+} qalithonda_mailbox_stepped;
+
 /* The cursor at the start of a text. */
 qalithonda_utf7_cursor qalithonda_utf7_start(void);
 qalithonda_jp2_cursor qalithonda_jp2_start(void);
+qalithonda_mailbox_cursor qalithonda_mailbox_start(void);
 
 /*
  * Hands out the next cell, or the final answer.
  * Final answers, UTF-7: 16 (text); 1, 2, 3, 4; 0 with the count of cells.
  * Final answers, JP-2: 16 (text); 1, 3, 5, 6, 7, 8; 0 with the count of cells.
+ * Final answers, mailbox names: 16 (text); 1, 2, 3, 4, 7, 17; 0 with the count of cells.
  */
 qalithonda_utf7_stepped qalithonda_utf7_step(const uint8_t *text, size_t text_len,
                                              qalithonda_utf7_cursor cursor);
 qalithonda_jp2_stepped qalithonda_jp2_step(const uint8_t *text, size_t text_len,
                                            qalithonda_jp2_cursor cursor);
+qalithonda_mailbox_stepped qalithonda_mailbox_step(const uint8_t *text, size_t text_len,
+                                                   qalithonda_mailbox_cursor cursor);
 
 
 /* ---- The page ----

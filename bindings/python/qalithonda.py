@@ -1,10 +1,13 @@
-"""UTF-7 (RFC 2152) and ISO-2022-JP-2 (RFC 1554), read, written, stepped through and edited, over libqalithonda.so.
+"""UTF-7 (RFC 2152), ISO-2022-JP-2 (RFC 1554) and mailbox names of IMAP (RFC 3501, section 5.1.3), read, written and
+stepped through, and letters of the first two edited, over libqalithonda.so.
 
->>> from qalithonda import utf7, jp2
+>>> from qalithonda import utf7, jp2, mailbox
 >>> utf7.read(b"A+ImIDkQ.") == [0x41, 0x2262, 0x391, 0x2E]
 True
 >>> jp2.tally(jp2.read(b"a b"))
 [3, 0, 0, 0, 0, 0, 0, 0, 0]
+>>> mailbox.write(mailbox.read(b"~peter/&ZeVnLIqe-"))
+b'~peter/&ZeVnLIqe-'
 
 A refused call raises Refused and changes nothing. The library is looked for in the folder that the environment variable
 QALITHONDA_LIB names, or in ../../target/shared from here.
@@ -18,7 +21,7 @@ from array import array
 from pathlib import Path
 from typing import Iterable, List
 
-__all__ = ["LIMIT", "Kind", "Page", "Refusal", "Refused", "Steps", "jp2", "utf7"]
+__all__ = ["LIMIT", "Kind", "Page", "Refusal", "Refused", "Steps", "jp2", "mailbox", "utf7"]
 
 #: The most bytes that a text may have, the most cells that a list or a page may have, and the most words of a history.
 LIMIT = 65536
@@ -28,12 +31,12 @@ class Refusal(enum.IntEnum):
     """Why a call was refused. What the place counts is said with each."""
 
     HIGH_BYTE = 1  #: a byte of 128 or more: that byte
-    LONE_SIGN = 2  #: '+' followed by neither a Base64 letter nor '-': the byte that follows, or the text's length
+    LONE_SIGN = 2  #: '+', in a name '&', followed by neither a letter nor '-': the next byte, or the text's length
     STRAY_BYTE = 3  #: a byte that no rule allows there: that byte
-    LEFT_OVER_BITS = 4  #: left-over bits of a run not zero: the byte that ends the run, or the text's length
+    LEFT_OVER_BITS = 4  #: left-over bits of a run not zero: the byte that ends it (in a name '-'), or the text's length
     UNKNOWN_ESCAPE = 5  #: an escape neither ESC N nor a designation: the first byte that fits none
     EMPTY_G2 = 6  #: ESC N with nothing in G2: the N
-    CUT_SHORT = 7  #: the text ends in an escape, in a pair or after ESC N: the text's length
+    CUT_SHORT = 7  #: the text ends in an escape, in a pair or after ESC N, or a name in a run: the text's length
     NOT_ASCII = 8  #: the text ends with G0 not ASCII: the text's length
     NO_ROOM = 9  #: too little room: the elements needed in all
     UNWRITABLE = 10  #: a cell not writable in this kind: its index
@@ -43,16 +46,19 @@ class Refusal(enum.IntEnum):
     UNSOUND = 14  #: the page is not sound: 0 (a Page always is)
     NOT_THE_TEXT = 15  #: the arrived bytes do not read as the text: 0 (those of a Page always do)
     OVER_LIMIT = 16  #: more than LIMIT elements: that limit
+    #: a needless shift in a mailbox name. A unit of 32 to 126 in a run: the letter that completes it. A run directly
+    #: after a run: its first letter. Six or more left-over bits, all zero: the '-' that closes the run.
+    NEEDLESS_SHIFT = 17
 
 
 _MESSAGES = {
     Refusal.HIGH_BYTE: "the byte at {} is 128 or more",
-    Refusal.LONE_SIGN: "'+' is followed by neither a Base64 letter nor '-' at {}",
+    Refusal.LONE_SIGN: "'+' or '&' is followed by neither a Base64 letter nor '-' at {}",
     Refusal.STRAY_BYTE: "no rule allows the byte at {} there",
     Refusal.LEFT_OVER_BITS: "the run that ends at {} has left-over bits that are not zero",
     Refusal.UNKNOWN_ESCAPE: "the byte at {} fits no escape",
     Refusal.EMPTY_G2: "ESC N at {} with nothing in G2",
-    Refusal.CUT_SHORT: "the text ends at {} in an escape, in a pair or after ESC N",
+    Refusal.CUT_SHORT: "the text ends at {} in an escape, a pair or a run, or after ESC N",
     Refusal.NOT_ASCII: "the text ends at {} with G0 not ASCII",
     Refusal.NO_ROOM: "too little room, {} elements are needed",
     Refusal.UNWRITABLE: "the cell at {} is not writable in this kind",
@@ -62,6 +68,7 @@ _MESSAGES = {
     Refusal.UNSOUND: "the page is not sound",
     Refusal.NOT_THE_TEXT: "the arrived bytes do not read as the text",
     Refusal.OVER_LIMIT: "there are more than {} elements",
+    Refusal.NEEDLESS_SHIFT: "there is a needless shift, noticed at {}",
 }
 
 
@@ -131,6 +138,14 @@ class _Jp2Stepped(ctypes.Structure):
     _fields_ = [("given", _Word), ("cell", _Word), ("answer", _Numbers), ("next", _Jp2Cursor)]
 
 
+class _MailboxCursor(ctypes.Structure):
+    _fields_ = [("at", _Size), ("handed", _Size), ("shift", _Word), ("pending", _Word), ("value", _Word)]
+
+
+class _MailboxStepped(ctypes.Structure):
+    _fields_ = [("given", _Word), ("cell", _Word), ("answer", _Numbers), ("next", _MailboxCursor)]
+
+
 def _load():
     folder = os.environ.get("QALITHONDA_LIB") or Path(__file__).resolve().parent / "../../target/shared"
     file = Path(folder, "libqalithonda.so").resolve()
@@ -166,6 +181,10 @@ _jp2_write = _function("jp2_write", _Numbers, *_WORDS, *_OUT)
 _jp2_tally = _function("jp2_tally", _Numbers, *_WORDS, ctypes.POINTER(_Word))
 _jp2_start = _function("jp2_start", _Jp2Cursor)
 _jp2_step = _function("jp2_step", _Jp2Stepped, *_BYTES, _Jp2Cursor)
+_mailbox_read = _function("mailbox_read", _Numbers, *_BYTES, *_WORDS)
+_mailbox_write = _function("mailbox_write", _Numbers, *_WORDS, *_OUT)
+_mailbox_start = _function("mailbox_start", _MailboxCursor)
+_mailbox_step = _function("mailbox_step", _MailboxStepped, *_BYTES, _MailboxCursor)
 _utf7_header_open = _function("utf7_header_open", _Edited, *_BYTES, *_WORDS, *_WORDS)
 _utf7_body_open = _function("utf7_body_open", _Edited, *_BYTES, *_WORDS, *_WORDS)
 _jp2_open = _function("jp2_open", _Edited, *_BYTES, *_WORDS, *_WORDS)
@@ -221,7 +240,7 @@ def _write(function, cells: Iterable[int]) -> bytes:
 
 class Steps:
     """Steps through a text, one cell at a time: an iterator over the cells complete before the first fault, made by
-    utf7.steps or jp2.steps.
+    utf7.steps, jp2.steps or mailbox.steps.
 
     >>> steps = utf7.steps(b"A+ImIDkQ~")
     >>> [format(cell, "04X") for cell in steps]
@@ -324,6 +343,37 @@ class jp2:
     def steps(text: bytes) -> Steps:
         """Steps through a text, one cell at a time."""
         return Steps(text, _jp2_start, _jp2_step)
+
+
+class mailbox:
+    """Mailbox names of IMAP: the modified UTF-7 of RFC 3501, section 5.1.3. A cell is a UTF-16 unit, 0 to 65535.
+
+    A name has one spelling only: an accepted name, written again from its cells, is the same bytes, and two names with
+    the same cells are the same name.
+
+    >>> mailbox.read(b"R&-D") == [0x52, 0x26, 0x44]
+    True
+    >>> mailbox.write([0x65E5, 0x672C, 0x8A9E])
+    b'&ZeVnLIqe-'
+    >>> mailbox.read(b"R&ACY-D")
+    Traceback (most recent call last):
+    qalithonda.Refused: refused with 17: there is a needless shift, noticed at 4
+    """
+
+    @staticmethod
+    def read(name: bytes) -> List[int]:
+        """The cells of a name. Refused with 16, 1, 2, 3, 4, 7 or 17."""
+        return _read(_mailbox_read, name)
+
+    @staticmethod
+    def write(cells: Iterable[int]) -> bytes:
+        """The name of these cells. Refused with 16, or 10 for a cell above 65535."""
+        return _write(_mailbox_write, cells)
+
+    @staticmethod
+    def steps(name: bytes) -> Steps:
+        """Steps through a name, one cell at a time."""
+        return Steps(name, _mailbox_start, _mailbox_step)
 
 
 class Kind(enum.IntEnum):

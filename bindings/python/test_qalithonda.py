@@ -11,13 +11,14 @@ import unittest
 from pathlib import Path
 
 import qalithonda
-from qalithonda import LIMIT, Kind, Page, Refusal, Refused, jp2, utf7
+from qalithonda import LIMIT, Kind, Page, Refusal, Refused, jp2, mailbox, utf7
 
 HERE = Path(__file__).resolve().parent
 HEADER, BODY = utf7.Style.HEADER, utf7.Style.BODY
 P2 = b"A+ImIDkQ."
 P2_CELLS = [0x41, 0x2262, 0x391, 0x2E]
 P9 = b'\x1b$B$"\x1b(B'
+NAME = b"~peter/mail/&U,BTFw-/&ZeVnLIqe-"
 
 
 def load_tests(loader, tests, pattern):
@@ -79,6 +80,30 @@ class Formats(Case):
             counts[index] = 2
             self.assertEqual(jp2.tally([number << 16 | code] * 2), counts)
 
+    def test_mailbox_reads(self):
+        self.assertEqual(mailbox.read(b""), [])
+        self.assertEqual(mailbox.read(NAME), [ord(character) for character in "~peter/mail/台北/日本語"])
+        self.assertEqual(mailbox.read(b"&-"), [0x26])
+        self.assertEqual(mailbox.read(b"&AKM-&-"), [0xA3, 0x26])
+        self.assertEqual(mailbox.read(b"&AAA-"), [0])
+        self.assertEqual(mailbox.read(b"+-"), [0x2B, 0x2D])
+        self.refused(1, 1, mailbox.read, b"a\x80")
+        self.refused(2, 1, mailbox.read, b"&")
+        self.refused(3, 4, mailbox.read, b"&AKN!")
+        self.refused(3, 1, mailbox.read, b"a\0b")
+        self.refused(4, 4, mailbox.read, b"&AKN-")
+        self.refused(7, 4, mailbox.read, b"&AKN")
+        self.refused(17, 3, mailbox.read, b"&ACY-")
+        self.refused(17, 6, mailbox.read, b"&AKM-&AKM-")
+        self.refused(17, 2, mailbox.read, b"&A-")
+
+    def test_mailbox_writes(self):
+        self.assertEqual(mailbox.write([]), b"")
+        self.assertEqual(mailbox.write(mailbox.read(NAME)), NAME)
+        self.assertEqual(mailbox.write(P2_CELLS), b"A&ImIDkQ-.")
+        self.assertEqual(mailbox.write([0x26, 0x2B, 0x09]), b"&-+&AAk-")
+        self.refused(10, 1, mailbox.write, [0x41, 0x10000])
+
     def test_the_limit_is_within(self):
         self.assertEqual(len(utf7.read(b"A" * LIMIT)), LIMIT)
         self.assertEqual(len(jp2.write([0x060041] * LIMIT)), LIMIT)
@@ -89,6 +114,9 @@ class Formats(Case):
         self.refused(16, LIMIT, utf7.write, BODY, [0x41] * over)
         self.refused(16, LIMIT, jp2.write, [0x060041] * over)
         self.refused(16, LIMIT, jp2.tally, [0x060041] * over)
+        self.assertEqual(len(mailbox.read(b"A" * LIMIT)), LIMIT)
+        self.refused(16, LIMIT, mailbox.read, b"A" * over)
+        self.refused(16, LIMIT, mailbox.write, [0x41] * over)
 
     def test_bytes_of_any_type_are_read(self):
         for text in (bytearray(P2), memoryview(P2)):
@@ -107,7 +135,7 @@ class Formats(Case):
 
     def test_no_cell_is_cut_down(self):
         for cell in (-1, 2**32, 2**32 + 0x41, 2**64 + 0x41):
-            for call in (lambda cells: utf7.write(BODY, cells), jp2.write, jp2.tally):
+            for call in (lambda cells: utf7.write(BODY, cells), jp2.write, jp2.tally, mailbox.write):
                 with self.assertRaises(OverflowError):
                     call([cell])
         self.refused(10, 0, utf7.write, BODY, [2**32 - 1])
@@ -116,6 +144,7 @@ class Formats(Case):
 class Stepping(Case):
     UTF7_TEXTS = [b"", P2, b"+ZeVnLIqe-", b"+", b"+AKN-", b"A+ImIDkQ~", b"\x80"]
     JP2_TEXTS = [P9, P9[:5], b"\x1b.A\x1bNA\r\n\x1bNA", b"\x1b$("]
+    NAMES = [NAME, b"A&ImIDkQ-&-.", b"&AKM-&AKM-", b"&ACY-", b"&AKN", b"&"]
 
     def outcome(self, call, *arguments):
         try:
@@ -124,8 +153,8 @@ class Stepping(Case):
             return refused.number, refused.place
 
     def test_cells_and_answers_are_those_of_reading(self):
-        for form in (utf7, jp2):
-            for text in self.UTF7_TEXTS + self.JP2_TEXTS:
+        for form in (utf7, jp2, mailbox):
+            for text in self.UTF7_TEXTS + self.JP2_TEXTS + self.NAMES:
                 read = self.outcome(form.read, text)
                 count = len(read) if isinstance(read, list) else read
                 self.assertEqual(self.outcome(form.steps(text).answer), count)
@@ -137,9 +166,16 @@ class Stepping(Case):
         self.assertEqual(list(steps), [0x41, 0x2262, 0x391])
         self.refused(4, 8, steps.answer)
         self.assertEqual(list(jp2.steps(b'a\x1b$B$"$')), [0x060061, 0x572422])
+        steps = mailbox.steps(b"a&AKMAJg-")
+        self.assertEqual(list(steps), [0x61, 0xA3])
+        self.refused(17, 7, steps.answer)
 
     def test_the_answer_can_be_asked_at_any_time(self):
-        for steps, cells in ((utf7.steps(P2), P2_CELLS), (jp2.steps(b'a\x1b$B$"\x1b(B'), [0x060061, 0x572422])):
+        for steps, cells in (
+            (utf7.steps(P2), P2_CELLS),
+            (jp2.steps(b'a\x1b$B$"\x1b(B'), [0x060061, 0x572422]),
+            (mailbox.steps(b"A&ImIDkQ-."), P2_CELLS),
+        ):
             for cell in cells:
                 self.assertEqual(steps.answer(), len(cells))
                 self.assertEqual(next(steps), cell)
@@ -154,7 +190,7 @@ class Stepping(Case):
         self.assertEqual(list(steps), P2_CELLS)
 
     def test_a_text_over_the_limit_is_refused_at_once(self):
-        for form in (utf7, jp2):
+        for form in (utf7, jp2, mailbox):
             steps = form.steps(b"A" * (LIMIT + 1))
             self.assertEqual(list(steps), [])
             self.refused(16, LIMIT, steps.answer)
@@ -271,7 +307,7 @@ class Pages(Case):
 
 class Refusals(Case):
     def test_each_number_has_its_name_and_message(self):
-        self.assertEqual([refusal.value for refusal in Refusal], list(range(1, 17)))
+        self.assertEqual([refusal.value for refusal in Refusal], list(range(1, 18)))
         for refusal in Refusal:
             message = str(Refused(int(refusal), 12))
             self.assertTrue(message.startswith("refused with {}: ".format(int(refusal))), message)
@@ -294,6 +330,8 @@ class Loading(unittest.TestCase):
             qalithonda._Utf7Stepped: 56,
             qalithonda._Jp2Cursor: 24,
             qalithonda._Jp2Stepped: 48,
+            qalithonda._MailboxCursor: 32,
+            qalithonda._MailboxStepped: 56,
         }
         for struct, size in sizes.items():
             self.assertEqual(ctypes.sizeof(struct), size, struct.__name__)

@@ -2,7 +2,7 @@
 
 use crate::examples::{self, Group, Listing, Reading, Stepping, Writing};
 use crate::second::utf7::Style;
-use crate::second::{jp2, utf7, Elements, Kind, Steps};
+use crate::second::{jp2, mailbox, utf7, Elements, Kind, Steps};
 use crate::texts::{self, Source};
 
 pub struct Format {
@@ -48,8 +48,8 @@ impl Format {
 
 /// Every format, for the unit tests.
 #[cfg(test)]
-pub fn all() -> [Format; 2] {
-    [utf7(), jp2()]
+pub fn all() -> [Format; 3] {
+    [utf7(), jp2(), mailbox()]
 }
 
 /// The format of the texts of a kind of page.
@@ -102,5 +102,27 @@ pub fn jp2() -> Format {
         steppings: examples::jp2::steppings(),
         writers: vec![writer],
         source: &texts::jp2::SOURCE,
+    }
+}
+
+/// "a new kind for reading and writing but not for pages"
+pub fn mailbox() -> Format {
+    let writer = Writer {
+        name: "mailbox",
+        write: mailbox::write,
+        // As in UTF-7: one unit in a run of its own has three letters.
+        enough: |units| 5 * units,
+        writings: examples::mailbox::writings(),
+    };
+    Format {
+        name: "mailbox",
+        lister: Some(Lister { name: "mailbox_lister", listings: examples::mailbox::listings() }),
+        faults: &[1, 2, 3, 4, 7, 17],
+        read: mailbox::read,
+        readings: examples::mailbox::readings(),
+        steps: mailbox::steps,
+        steppings: examples::mailbox::steppings(),
+        writers: vec![writer],
+        source: &texts::mailbox::SOURCE,
     }
 }

@@ -79,6 +79,24 @@ pub struct Jp2Stepped {
     pub next: Jp2Cursor,
 }
 
+#[derive(Clone, Copy, Debug)]
+#[repr(C)]
+pub struct MailboxCursor {
+    at: usize,
+    handed: usize,
+    shift: u32,
+    pending: u32,
+    value: u32,
+}
+
+#[repr(C)]
+pub struct MailboxStepped {
+    pub given: u32,
+    pub cell: u32,
+    pub answer: Numbers,
+    pub next: MailboxCursor,
+}
+
 extern "C" {
     pub fn qalithonda_utf7_read(text: *const u8, text_len: usize, cells: *mut u32, cells_len: usize) -> Numbers;
     pub fn qalithonda_utf7_header_write(cells: *const u32, cells_len: usize, out: *mut u8, out_len: usize) -> Numbers;
@@ -91,6 +109,11 @@ extern "C" {
     pub fn qalithonda_jp2_tally(cells: *const u32, cells_len: usize, counts: *mut [u32; 9]) -> Numbers;
     pub fn qalithonda_jp2_start() -> Jp2Cursor;
     pub fn qalithonda_jp2_step(text: *const u8, text_len: usize, cursor: Jp2Cursor) -> Jp2Stepped;
+
+    pub fn qalithonda_mailbox_read(text: *const u8, text_len: usize, cells: *mut u32, cells_len: usize) -> Numbers;
+    pub fn qalithonda_mailbox_write(cells: *const u32, cells_len: usize, out: *mut u8, out_len: usize) -> Numbers;
+    pub fn qalithonda_mailbox_start() -> MailboxCursor;
+    pub fn qalithonda_mailbox_step(text: *const u8, text_len: usize, cursor: MailboxCursor) -> MailboxStepped;
 
     pub fn qalithonda_utf7_header_open(
         arrived: *const u8,
@@ -169,5 +192,7 @@ mod tests {
         assert_eq!(size_of::<Utf7Stepped>(), 56);
         assert_eq!(size_of::<Jp2Cursor>(), 24);
         assert_eq!(size_of::<Jp2Stepped>(), 48);
+        assert_eq!(size_of::<MailboxCursor>(), 32);
+        assert_eq!(size_of::<MailboxStepped>(), 56);
     }
 }

@@ -3,6 +3,7 @@
 
 mod ffi;
 pub mod jp2;
+pub mod mailbox;
 mod page;
 mod refused;
 mod room;

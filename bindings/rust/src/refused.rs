@@ -7,17 +7,20 @@ use std::fmt::{self, Display, Formatter};
 pub enum Refusal {
     /// A byte of 128 or more. The place is that byte.
     HighByte = 1,
-    /// `+` followed by neither a Base64 letter nor `-`. The place is the byte that follows, or the text's length.
+    /// `+`, in a mailbox name `&`, followed by neither a Base64 letter nor `-`. The place is the byte that follows, or
+    /// the text's length.
     LoneSign = 2,
     /// A byte that no rule allows there. The place is that byte.
     StrayByte = 3,
-    /// Left-over bits of a run that are not zero. The place is the byte that ends the run, or the text's length.
+    /// Left-over bits of a run that are not zero. The place is the byte that ends the run (in a mailbox name its `-`),
+    /// or the text's length.
     LeftOverBits = 4,
     /// An escape that is neither ESC N nor a designation. The place is the first byte that fits none.
     UnknownEscape = 5,
     /// ESC N with nothing in G2. The place is the N.
     EmptyG2 = 6,
-    /// The text ends in an escape, in a pair or after ESC N. The place is the text's length.
+    /// The text ends in an escape, in a pair or after ESC N, or a mailbox name in a run. The place is the text's
+    /// length.
     CutShort = 7,
     /// The text ends with G0 not ASCII. The place is the text's length.
     NotAscii = 8,
@@ -37,10 +40,14 @@ pub enum Refusal {
     NotTheText = 15,
     /// More than [`LIMIT`](crate::LIMIT) elements. The place is that limit.
     OverLimit = 16,
+    /// A needless shift in a mailbox name. For a unit of 32 to 126 in a run the place is the letter that completes it,
+    /// for a run directly after a run its first letter, and for six or more left-over bits, all zero, the `-` that
+    /// closes the run.
+    NeedlessShift = 17,
 }
 
 impl Refusal {
-    const ALL: [Refusal; 16] = [
+    const ALL: [Refusal; 17] = [
         Refusal::HighByte,
         Refusal::LoneSign,
         Refusal::StrayByte,
@@ -57,9 +64,10 @@ impl Refusal {
         Refusal::Unsound,
         Refusal::NotTheText,
         Refusal::OverLimit,
+        Refusal::NeedlessShift,
     ];
 
-    /// Its number, 1 to 16.
+    /// Its number, 1 to 17.
     pub fn number(self) -> u32 {
         self as u32
     }
@@ -94,12 +102,12 @@ impl Display for Refused {
         write!(f, "refused with {}: ", refusal.number())?;
         match refusal {
             Refusal::HighByte => write!(f, "the byte at {place} is 128 or more"),
-            Refusal::LoneSign => write!(f, "'+' is followed by neither a Base64 letter nor '-' at {place}"),
+            Refusal::LoneSign => write!(f, "'+' or '&' is followed by neither a Base64 letter nor '-' at {place}"),
             Refusal::StrayByte => write!(f, "no rule allows the byte at {place} there"),
             Refusal::LeftOverBits => write!(f, "the run that ends at {place} has left-over bits that are not zero"),
             Refusal::UnknownEscape => write!(f, "the byte at {place} fits no escape"),
             Refusal::EmptyG2 => write!(f, "ESC N at {place} with nothing in G2"),
-            Refusal::CutShort => write!(f, "the text ends at {place} in an escape, in a pair or after ESC N"),
+            Refusal::CutShort => write!(f, "the text ends at {place} in an escape, a pair or a run, or after ESC N"),
             Refusal::NotAscii => write!(f, "the text ends at {place} with G0 not ASCII"),
             Refusal::NoRoom => write!(f, "too little room, {place} elements are needed"),
             Refusal::Unwritable => write!(f, "the cell at {place} is not writable in this kind"),
@@ -109,6 +117,7 @@ impl Display for Refused {
             Refusal::Unsound => write!(f, "the page is not sound"),
             Refusal::NotTheText => write!(f, "the arrived bytes do not read as the text"),
             Refusal::OverLimit => write!(f, "there are more than {place} elements"),
+            Refusal::NeedlessShift => write!(f, "there is a needless shift, noticed at {place}"),
         }
     }
 }
@@ -121,8 +130,8 @@ mod tests {
 
     #[test]
     fn each_number_has_its_refusal() {
-        let numbers: Vec<u32> = (0..=17).filter_map(Refusal::of).map(Refusal::number).collect();
-        assert_eq!(numbers, (1..=16).collect::<Vec<_>>());
+        let numbers: Vec<u32> = (0..=18).filter_map(Refusal::of).map(Refusal::number).collect();
+        assert_eq!(numbers, (1..=17).collect::<Vec<_>>());
     }
 
     #[test]

@@ -2,8 +2,8 @@ use std::iter::FusedIterator;
 
 use crate::{ffi, Refused};
 
-/// Steps through a text, one cell at a time: the cells complete before the first fault, made by [`utf7::steps`] or
-/// [`jp2::steps`].
+/// Steps through a text, one cell at a time: the cells complete before the first fault, made by [`utf7::steps`],
+/// [`jp2::steps`] or [`mailbox::steps`].
 ///
 /// ```
 /// use qalithonda::{utf7, Refusal, Refused};
@@ -17,6 +17,7 @@ use crate::{ffi, Refused};
 ///
 /// [`utf7::steps`]: crate::utf7::steps
 /// [`jp2::steps`]: crate::jp2::steps
+/// [`mailbox::steps`]: crate::mailbox::steps
 #[derive(Clone, Debug)]
 pub struct Steps<'a> {
     text: &'a [u8],
@@ -27,6 +28,7 @@ pub struct Steps<'a> {
 enum Cursor {
     Utf7(ffi::Utf7Cursor),
     Jp2(ffi::Jp2Cursor),
+    Mailbox(ffi::MailboxCursor),
 }
 
 enum Step {
@@ -43,6 +45,11 @@ impl<'a> Steps<'a> {
     pub(crate) fn jp2(text: &'a [u8]) -> Steps<'a> {
         // SAFETY: nothing is lent.
         Steps { text, cursor: Cursor::Jp2(unsafe { ffi::qalithonda_jp2_start() }) }
+    }
+
+    pub(crate) fn mailbox(name: &'a [u8]) -> Steps<'a> {
+        // SAFETY: nothing is lent.
+        Steps { text: name, cursor: Cursor::Mailbox(unsafe { ffi::qalithonda_mailbox_start() }) }
     }
 
     /// The answer of reading the whole text with room enough: the count of its cells, or the first fault.
@@ -69,6 +76,12 @@ impl<'a> Steps<'a> {
             Cursor::Jp2(cursor) => {
                 // SAFETY: the pointer comes with the length of its slice, and every cursor is taken.
                 let stepped = unsafe { ffi::qalithonda_jp2_step(text, length, *cursor) };
+                *cursor = stepped.next;
+                (stepped.given, stepped.cell, stepped.answer)
+            }
+            Cursor::Mailbox(cursor) => {
+                // SAFETY: the pointer comes with the length of its slice, and every cursor is taken.
+                let stepped = unsafe { ffi::qalithonda_mailbox_step(text, length, *cursor) };
                 *cursor = stepped.next;
                 (stepped.given, stepped.cell, stepped.answer)
             }

@@ -1,11 +1,12 @@
 //! Reading, writing and the tally: that each function is the right one, and what it leaves.
 
 use qalithonda::utf7::Style;
-use qalithonda::{jp2, utf7, Refusal, Refused, LIMIT};
+use qalithonda::{jp2, mailbox, utf7, Refusal, Refused, LIMIT};
 
 const P2: &[u8] = b"A+ImIDkQ.";
 const P2_CELLS: [u32; 4] = [0x41, 0x2262, 0x391, 0x2E];
 const P9: &[u8] = b"\x1b$B$\"\x1b(B";
+const NAME: &[u8] = b"~peter/mail/&U,BTFw-/&ZeVnLIqe-";
 
 fn refused<T>(refusal: Refusal, place: usize) -> Result<T, Refused> {
     Err(Refused { refusal, place })
@@ -60,6 +61,34 @@ fn jp2_writes_and_counts() {
     }
 }
 
+#[test]
+fn mailbox_reads() {
+    assert_eq!(mailbox::read_to_vec(b""), Ok(vec![]));
+    let cells: Vec<u32> = "~peter/mail/台北/日本語".encode_utf16().map(u32::from).collect();
+    assert_eq!(mailbox::read_to_vec(NAME), Ok(cells));
+    assert_eq!(mailbox::read_to_vec(b"&-"), Ok(vec![0x26]));
+    assert_eq!(mailbox::read_to_vec(b"&AKM-&-"), Ok(vec![0xA3, 0x26]));
+    assert_eq!(mailbox::read_to_vec(b"+-"), Ok(vec![0x2B, 0x2D]));
+    assert_eq!(mailbox::read_to_vec(b"a\x80"), refused(Refusal::HighByte, 1));
+    assert_eq!(mailbox::read_to_vec(b"&"), refused(Refusal::LoneSign, 1));
+    assert_eq!(mailbox::read_to_vec(b"&AKN!"), refused(Refusal::StrayByte, 4));
+    assert_eq!(mailbox::read_to_vec(b"\t"), refused(Refusal::StrayByte, 0));
+    assert_eq!(mailbox::read_to_vec(b"&AKN-"), refused(Refusal::LeftOverBits, 4));
+    assert_eq!(mailbox::read_to_vec(b"&AKN"), refused(Refusal::CutShort, 4));
+    assert_eq!(mailbox::read_to_vec(b"&ACY-"), refused(Refusal::NeedlessShift, 3));
+    assert_eq!(mailbox::read_to_vec(b"&AKM-&AKM-"), refused(Refusal::NeedlessShift, 6));
+    assert_eq!(mailbox::read_to_vec(b"&A-"), refused(Refusal::NeedlessShift, 2));
+}
+
+#[test]
+fn mailbox_writes() {
+    assert_eq!(mailbox::write_to_vec(&[]), Ok(vec![]));
+    assert_eq!(mailbox::write_to_vec(&mailbox::read_to_vec(NAME).unwrap()), Ok(NAME.to_vec()));
+    assert_eq!(mailbox::write_to_vec(&P2_CELLS), Ok(b"A&ImIDkQ-.".to_vec()));
+    assert_eq!(mailbox::write_to_vec(&[0x26, 0x2B, 0x09]), Ok(b"&-+&AAk-".to_vec()));
+    assert_eq!(mailbox::write_to_vec(&[0x41, 0x10000]), refused(Refusal::Unwritable, 1));
+}
+
 /// Calls with every room up to two elements more than are needed: too little leaves the output as it was, and enough
 /// fills the first elements and no others.
 fn fills<T: Copy + Default + PartialEq + std::fmt::Debug>(
@@ -87,6 +116,8 @@ fn outputs_are_filled_as_far_as_the_count() {
     fills(b"A+ImIDkQ-.", 7, |out| utf7::write(Style::Header, &P2_CELLS, out));
     fills(&[0x572422], 7, |cells| jp2::read(P9, cells));
     fills(P9, 7, |out| jp2::write(&[0x572422], out));
+    fills(&P2_CELLS, 7, |cells| mailbox::read(b"A&ImIDkQ-.", cells));
+    fills(b"A&ImIDkQ-.", 7, |out| mailbox::write(&P2_CELLS, out));
 }
 
 #[test]
@@ -94,9 +125,11 @@ fn a_fault_leaves_the_output_as_it_was() {
     let (mut cells, mut out) = ([7; 9], [7; 9]);
     assert_eq!(utf7::read(b"A+ImIDkQ~", &mut cells), refused(Refusal::StrayByte, 8));
     assert_eq!(jp2::read(&P9[..5], &mut cells), refused(Refusal::NotAscii, 5));
+    assert_eq!(mailbox::read(b"a&ImIDkQ", &mut cells), refused(Refusal::CutShort, 8));
     assert_eq!(cells, [7; 9]);
     assert_eq!(utf7::write(Style::Body, &[0x41, 0x10000], &mut out), refused(Refusal::Unwritable, 1));
     assert_eq!(jp2::write(&[0x060041, 0], &mut out), refused(Refusal::Unwritable, 1));
+    assert_eq!(mailbox::write(&[0x41, 0x10000], &mut out), refused(Refusal::Unwritable, 1));
     assert_eq!(out, [7; 9]);
 }
 
@@ -118,6 +151,8 @@ fn the_limit_is_within() {
         assert_eq!(utf7::write_to_vec(Style::Body, &units).map(|bytes| bytes.len()), expected);
         assert_eq!(jp2::write_to_vec(&cells).map(|bytes| bytes.len()), expected);
         assert_eq!(jp2::tally(&cells).map(|counts| counts[0] as usize), expected);
+        assert_eq!(mailbox::read_to_vec(&text).map(|cells| cells.len()), expected);
+        assert_eq!(mailbox::write_to_vec(&units).map(|bytes| bytes.len()), expected);
     }
 }
 
@@ -128,4 +163,6 @@ fn the_room_that_the_papers_name_is_enough() {
     let shifts: Vec<u32> = [0x640041, 0x7E0041].repeat(50);
     assert_eq!(jp2::write_to_vec(&shifts).unwrap().len(), 6 * shifts.len());
     assert_eq!(jp2::write_to_vec(&[0x952121]).unwrap().len(), 6 + 3);
+    assert_eq!(mailbox::write_to_vec(&[0xA3]).unwrap().len(), 5);
+    assert!(mailbox::write_to_vec(&units).unwrap().len() <= 5 * units.len());
 }

@@ -1,6 +1,6 @@
 //! The page: document 01's worked page, and seeded calls compared with a list of texts.
 
-use qalithonda::{jp2, utf7, Kind, Page, Refusal, Refused, LIMIT};
+use qalithonda::{jp2, mailbox, utf7, Kind, Page, Refusal, Refused, LIMIT};
 
 const P2: &[u8] = b"A+ImIDkQ.";
 
@@ -112,6 +112,7 @@ fn pages_and_steps_go_to_other_threads() {
     sent(&Page::open(Kind::Jp2, b"", 0, 0).unwrap());
     sent(&utf7::steps(b""));
     sent(&jp2::steps(b""));
+    sent(&mailbox::steps(b""));
 }
 
 /// A number below a bound, of a sequence that is the same each time (xorshift).

@@ -6,7 +6,7 @@ ghost use Rattle.answer.specs.Answer.{limit, tooLong, inNumbers, numberO
 // "over 65,536": the most elements that a lent text, list, text buffer or history may have.
 pub const LIMIT: usize = 65536;
 
-// Why a call was refused, in the order of document 01's table, from number 1 on.
+// Why a call was refused, in the order of document 01's table, from number 1 on; the last is document 02's, order 1: needless shift.
 pub enum Refusal {
     HighByte,
     LoneSign,
@@ -24,6 +24,7 @@ pub enum Refusal {
     Unsound,
     NotTheText,
     OverLimit,
+    NeedlessShift,
 }
 
 // Accepted with the count of elements, or refused with the place.
@@ -65,6 +66,7 @@ fn refusal_number(why: Refusal) -> u32
         Refusal::Unsound => 14,
         Refusal::NotTheText => 15,
         Refusal::OverLimit => 16,
+        Refusal::NeedlessShift => 17,
     }
 }
 

@@ -12,7 +12,7 @@ use Rattle.answer.specs.Lists.{Each}
 use Rattle.answer.proofs.Below.{cond-case}
 use Rattle.bits.specs.Bits.{bits, allZero}
 use Rattle.bits.proofs.Bits.{length-bits, number-lt}
-use Rattle.base64.specs.Letters.{valueOf, setB}
+use Rattle.base64.specs.Letters.{valueOf, setB, slash}
 use Rattle.reading.specs.Reading.{Does, reading}
 use Rattle.reading.proofs.Laws.{Kept, SoundDoes, SoundEnd, good-reading}
 use Rattle.utf7.specs.Sets.{direct}
@@ -52,11 +52,11 @@ low-kept : (shift : Shift) (b : ℕ) → SoundShift shift → Sound (lowDoes shi
 unfolding lowDoes
 low-kept outside b h = outside-kept b
 low-kept opening b h =
-    cond-case Sound (setB b) (λ _. unit-kept (bits 6 (valueOf b)) (omega (arith, length-bits 6 (valueOf b))))
+    cond-case Sound (setB slash b) (λ _. unit-kept (bits 6 (valueOf slash b)) (omega (arith, length-bits 6 (valueOf slash b))))
     (λ _. cond-case Sound (eqb b 45) (λ _. (lit< tt, tt)) (λ _. lit< tt))
 low-kept (run pending) b h =
-    cond-case Sound (setB b)
-    (λ _. unit-kept (pending ++ bits 6 (valueOf b)) (simp (length-append, length-bits) (omega arith)))
+    cond-case Sound (setB slash b)
+    (λ _. unit-kept (pending ++ bits 6 (valueOf slash b)) (simp (length-append, length-bits) (omega arith)))
     (λ _. end-kept (allZero pending) b)
 
 byte-kept : (shift : Shift) (b : ℕ) → SoundShift shift → Sound (byteDoes shift b)

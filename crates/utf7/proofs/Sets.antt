@@ -1,4 +1,4 @@
--- What stands for itself is a byte below 128 and no '+'. Assumes nothing.
+-- What stands for itself is a byte below 128 and no sign that shifts. Assumes nothing.
 use Prim.Native.Nat.{ℕ, _+_, _<_, _≤_}
 use mathlib.Core.Path.{_≡_, refl, sym}
 use mathlib.Core.Bool.{Bool, true, false, _&&_, _||_, not, false≢true, or-true}
@@ -7,11 +7,11 @@ use native.Mathlib.Omega.{arith}
 use lib.Dec.{ltb, eqb, lit<}
 use borrow.Author.Tests.{ltb-true, ltb-false, leb-true, eqb-true, lt-ltb, ne-eqb, not-true}
 use Rattle.answer.proofs.Below.{both, allBelow, below, same, same-eq, allFrom, ranged}
-use Rattle.base64.specs.Letters.{within}
-use Rattle.base64.proofs.Letters.{within-both}
-use Rattle.utf7.specs.Sets.{member, alphanumeric, marksD, marksO, blanks, lineBlanks, setD, setO, direct, own}
+use Rattle.base64.specs.Letters.{within, slash}
+use Rattle.base64.proofs.Letters.{within-both, Sign, slash-sign, comma-sign}
+use Rattle.utf7.specs.Sets.{member, alphanumeric, marksD, marksO, blanks, lineBlanks, setD, setO, direct, printable, signOf, lastOf, Mail, own}
 use Rattle.utf7.specs.declared.Style.{Style}
-use Rattle.utf7.specs.declared.Style.the-variants.{Header, Body}
+use Rattle.utf7.specs.declared.Style.the-variants.{Header, Body, Name}
 
 or-case : {A : Type 0} (a b : Bool) → (a ≡ true → A) → (b ≡ true → A) → (a || b) ≡ true → A
 or-case true b f g e = f refl
@@ -60,30 +60,60 @@ pub direct-sign : (u : ℕ) → direct u ≡ true → eqb u 43 ≡ false
 direct-sign u e = not-true (eqb u 43) (both (ltb u 128) (not (eqb u 43)) (direct-low u e) .1)
 
 -- what is written as itself is read as itself
-pub own-direct : (style : Style) (u : ℕ) → own style u ≡ true → direct u ≡ true
+pub own-direct : (style : Style) → Mail style → (u : ℕ) → own style u ≡ true → direct u ≡ true
 unfolding own direct
-own-direct Header u e =
+own-direct Header m u e =
     or-case (setD u) (member blanks u) (λ q. rw q) (λ q. rw (q, or-true (setO u), or-true (setD u))) e
-own-direct Body u e = e
+own-direct Body m u e = e
+own-direct Name m u e = absurd m
 
-pub own-high : (style : Style) (u : ℕ) → 127 < u → own style u ≡ false
-own-high style u h = bool-false (own style u) (λ e. omega (arith, direct-byte u (own-direct style u e)))
+pub own-byte : (style : Style) (u : ℕ) → own style u ≡ true → u < 128
+unfolding own
+own-byte Header u e = direct-byte u (own-direct Header tt u e)
+own-byte Body u e = direct-byte u (own-direct Body tt u e)
+own-byte Name u e = omega (arith, leb-true u 126 (within-both 32 126 u (both (printable u) _ e .0) .1))
 
-pub own-sign : (style : Style) → own style 43 ≡ false
+own-high : (style : Style) (u : ℕ) → 127 < u → own style u ≡ false
+own-high style u h = bool-false (own style u) (λ e. omega (arith, own-byte style u e))
+
+pub own-sign : (style : Style) → own style (signOf style) ≡ false
 unfolding own direct setD setO alphanumeric
 own-sign Header = refl
 own-sign Body = refl
+own-sign Name = refl
+
+-- the sign and the last letter, in the styles of UTF-7 and in all
+pub mail-sign : (style : Style) → Mail style → signOf style ≡ 43
+mail-sign Header m = refl
+mail-sign Body m = refl
+mail-sign Name m = absurd m
+
+pub mail-last : (style : Style) → Mail style → lastOf style ≡ slash
+mail-last Header m = refl
+mail-last Body m = refl
+mail-last Name m = absurd m
+
+pub sign-byte : (style : Style) → signOf style < 128
+sign-byte Header = lit< tt
+sign-byte Body = lit< tt
+sign-byte Name = lit< tt
+
+pub last-sign : (style : Style) → Sign (lastOf style)
+last-sign Header = slash-sign
+last-sign Body = slash-sign
+last-sign Name = comma-sign
 
 -- the outcome over a range of codes, computed
 module _ (style : Style) (outcome : Bool) (from n : ℕ) (t : allFrom (own style) outcome from n ≡ true) where
   pub own-range : (u : ℕ) → from ≤ u → u < from + n → outcome ≡ own style u
   own-range u h k = sym (ranged (own style) outcome from n t u h k)
 
--- below 32 both styles have tab, LF and CR
-pub own-low : (style : Style) (u : ℕ) → u < 32 → own style u ≡ member lineBlanks u
+-- below 32 both styles of UTF-7 have tab, LF and CR
+pub own-low : (style : Style) → Mail style → (u : ℕ) → u < 32 → own style u ≡ member lineBlanks u
 unfolding own direct setD setO alphanumeric allBelow
-own-low Header u h = same-eq (member lineBlanks u) (own Header u) (below (λ k. same (member lineBlanks k) (own Header k)) 32 refl u h)
-own-low Body u h = same-eq (member lineBlanks u) (own Body u) (below (λ k. same (member lineBlanks k) (own Body k)) 32 refl u h)
+own-low Header m u h = same-eq (member lineBlanks u) (own Header u) (below (λ k. same (member lineBlanks k) (own Header k)) 32 refl u h)
+own-low Body m u h = same-eq (member lineBlanks u) (own Body u) (below (λ k. same (member lineBlanks k) (own Body k)) 32 refl u h)
+own-low Name m u h = absurd m
 
 -- past the last of a style's codes
 pub own-past : (style : Style) (from n : ℕ) → allFrom (own style) false from n ≡ true → 128 ≤ from + n → (u : ℕ) → from ≤ u → false ≡ own style u

@@ -5,7 +5,7 @@ use mathlib.Core.List.{List, _++_}
 use lib.ListN.{length, take, drop}
 use lib.Dec.{ltb, eqb}
 use Rattle.bits.specs.Bits.{bits, number, allZero}
-use Rattle.base64.specs.Letters.{valueOf, setB}
+use Rattle.base64.specs.Letters.{valueOf, setB, slash}
 use Rattle.reading.specs.Reading.{Does, give, go, bad, Ending, accepted, fault, Rule}
 use Rattle.utf7.specs.Sets.{direct}
 
@@ -30,8 +30,8 @@ endDoes zeros b = cond zeros (cond (eqb b 45) (go outside) (outsideDoes b)) (bad
 -- "A run's letters give six bits each, high bit first"; "+- is 002B. + and a byte of B opens a run."
 unfoldable pub lowDoes : Shift → ℕ → Does Shift
 lowDoes outside b = outsideDoes b
-lowDoes opening b = cond (setB b) (unitDoes (bits 6 (valueOf b))) (cond (eqb b 45) (give 43 outside) (bad 2))
-lowDoes (run pending) b = cond (setB b) (unitDoes (pending ++ bits 6 (valueOf b))) (endDoes (allZero pending) b)
+lowDoes opening b = cond (setB slash b) (unitDoes (bits 6 (valueOf slash b))) (cond (eqb b 45) (give 43 outside) (bad 2))
+lowDoes (run pending) b = cond (setB slash b) (unitDoes (pending ++ bits 6 (valueOf slash b))) (endDoes (allZero pending) b)
 
 -- "at one byte 1, then 2 or 4, then 3"
 unfoldable pub byteDoes : Shift → ℕ → Does Shift

@@ -1,11 +1,11 @@
--- Document 01, "UTF-7": the sets D and O, and what stands for itself.
+-- Document 01, "UTF-7": the sets D and O, and what stands for itself in each style of writing; and in mailbox names (document 02, order 1).
 use Prim.Native.Nat.{ℕ}
-use mathlib.Core.Bool.{Bool, false, _||_}
+use mathlib.Core.Bool.{Bool, false, _&&_, _||_, not}
 use mathlib.Core.List.{List, [], _∷_}
 use lib.Dec.{eqb}
-use Rattle.base64.specs.Letters.{within}
+use Rattle.base64.specs.Letters.{within, slash, comma}
 use Rattle.utf7.specs.declared.Style.{Style}
-use Rattle.utf7.specs.declared.Style.the-variants.{Header, Body}
+use Rattle.utf7.specs.declared.Style.the-variants.{Header, Body, Name}
 
 abbrev pub member : List ℕ → ℕ → Bool
 member [] u = false
@@ -42,7 +42,31 @@ setO u = member marksO u
 unfoldable pub direct : ℕ → Bool
 direct u = setD u || (setO u || member blanks u)
 
--- "Header style writes D, space, tab, CR and LF as themselves; body style adds O."
+-- "bytes 32 to 126"
+abbrev pub printable : ℕ → Bool
+printable u = within 32 126 u
+
+-- what shifts: '+', and '&' in names
+abbrev pub signOf : Style → ℕ
+signOf Header = 43
+signOf Body = 43
+signOf Name = 38
+
+-- the last letter of the alphabet: "`,` replaces `/`" in names
+abbrev pub lastOf : Style → ℕ
+lastOf Header = slash
+lastOf Body = slash
+lastOf Name = comma
+
+-- the styles of UTF-7; names are read by a rule of their own
+abbrev pub Mail : Style → Type 0
+Mail Header = Unit
+Mail Body = Unit
+Mail Name = ⊥
+
+-- "Header style writes D, space, tab, CR and LF as themselves; body style adds O." In names "bytes 32 to 126 stand for themselves", but the
+-- ampersand is `&-`.
 unfoldable pub own : Style → ℕ → Bool
 own Header u = setD u || member blanks u
 own Body u = direct u
+own Name u = printable u && not (eqb u 38)

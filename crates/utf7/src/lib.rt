@@ -1,12 +1,13 @@
 // UTF-7 (RFC 2152) as document 01 states it: definitions, laws, and the tests that tell its sets apart.
 ghost use mathlib.Core.Path.{_≡_};
-ghost use Rattle.utf7.specs.declared.Style.the-variants.{Header};
-ghost use Rattle.utf7.specs.Sets.{member, lineBlanks, direct, own};
+ghost use Rattle.utf7.specs.declared.Style.the-variants.{Header, Name};
+ghost use Rattle.utf7.specs.Sets.{member, lineBlanks, direct, signOf, lastOf, own};
 
-// "Writing has two styles."
+// "Writing has two styles", and mailbox names are a third.
 pub enum Style {
     Header,
     Body,
+    Name,
 }
 
 // Outside a run the byte stands for itself.
@@ -41,6 +42,29 @@ pub fn is_own(style: Style, u: u32) -> bool
     match style {
         Style::Header => is_header(u),
         Style::Body => is_direct(u),
+        Style::Name => is_name(u),
+    }
+}
+
+// What shifts.
+pub fn sign_of(style: Style) -> u32
+    ensures { λ r. ⌜ r ≡ signOf style ⌝ }
+{
+    match style {
+        Style::Header => 43,
+        Style::Body => 43,
+        Style::Name => 38,
+    }
+}
+
+// The last letter of the alphabet.
+pub fn last_of(style: Style) -> u8
+    ensures { λ r. ⌜ r ≡ lastOf style ⌝ }
+{
+    match style {
+        Style::Header => 47,
+        Style::Body => 47,
+        Style::Name => 44,
     }
 }
 
@@ -97,4 +121,16 @@ fn is_header(u: u32) -> bool
         return true;
     }
     is_line_blank(u)
+}
+
+fn is_name(u: u32) -> bool
+    ensures { λ r. ⌜ r ≡ own Name u ⌝ }
+{
+    if 126 < u {
+        return false;
+    }
+    if u < 32 {
+        return false;
+    }
+    u != 38
 }

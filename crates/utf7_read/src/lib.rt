@@ -97,7 +97,7 @@ fn low(st: State, b: u8) -> Move
     requires { ⌜ (b < 128) × Settled st ⌝ }
     ensures { λ r. ⌜ Moves r (lowDoes (shiftOf st) b) ⌝ }
 {
-    let x = base64::value_of(b);
+    let x = base64::value_of(b'/', b);
     match st {
         State::Outside => outside(b),
         State::Opening => {

@@ -8,25 +8,25 @@ use native.Mathlib.Numerals.{add-one}
 use lib.ListN.{length, getD, take, drop, length-append, length-drop, drop-of-length-le}
 use lib.Seq.{length-take-le, drop-drop, drop-cons}
 use lib.Dec.{eqb}
-use borrow.Author.Tests.{ne-eqb, not-true, not-false}
+use borrow.Author.Tests.{eq-eqb, ne-eqb, not-true, not-false}
 use Rattle.answer.proofs.Below.{both, cond-case}
-use Rattle.utf7.specs.Sets.{own}
+use Rattle.utf7.specs.Sets.{signOf, own}
 use Rattle.utf7.specs.Writing.{Piece, stretch, extend, pieces, spell, spellAll, writing}
 use Rattle.utf7.specs.declared.Style.{Style}
-use Rattle.utf7.proofs.Sets.{own-direct, own-sign, direct-byte}
+use Rattle.utf7.proofs.Sets.{own-byte, own-sign}
 use Rattle.utf7.proofs.Pieces.{length-run}
 use Rattle.utf7_write.specs.Stretch.{other, stretchLength}
 
 module _ (style : Style) where
-  own-else : (u : ℕ) → other style u ≡ false → eqb u 43 ≡ false → own style u ≡ true
+  own-else : (u : ℕ) → other style u ≡ false → eqb u (signOf style) ≡ false → own style u ≡ true
   unfolding other
   own-else u e f = not-false (own style u) (sym (and-true (not (own style u))) ∙ rw f at e)
 
   pieces-other : (u : ℕ) (us : List ℕ) → other style u ≡ true → pieces style (u ∷ us) ≡ extend u (pieces style us)
   unfolding pieces other
   pieces-other u us e =
-      let h = both (not (own style u)) (not (eqb u 43)) e in
-      rw (not-true (own style u) (h .0), not-true (eqb u 43) (h .1))
+      let h = both (not (own style u)) (not (eqb u (signOf style))) e in
+      rw (not-true (own style u) (h .0), not-true (eqb u (signOf style)) (h .1))
 
   extend-else :
       (u w : ℕ) (ws : List ℕ) → other style w ≡ false →
@@ -35,7 +35,7 @@ module _ (style : Style) where
   extend-else u w ws e =
       let alone : List Piece → Type 0 = λ ps. extend u ps ≡ stretch (u ∷ []) ∷ ps in
       cond-case alone (own style w) (λ _. refl)
-      (λ f. cond-case alone (eqb w 43) (λ _. refl) (λ g. absurd (true≢false (sym (own-else w e g) ∙ f))))
+      (λ f. cond-case alone (eqb w (signOf style)) (λ _. refl) (λ g. absurd (true≢false (sym (own-else w e g) ∙ f))))
 
   pub pieces-stretch :
       (u : ℕ) (us : List ℕ) → other style u ≡ true →
@@ -55,7 +55,7 @@ module _ (style : Style) where
 
   writing-stretch :
       (l : List ℕ) (u : ℕ) (us : List ℕ) → l ≡ u ∷ us → other style u ≡ true →
-      writing style l ≡ spell (stretch (take (stretchLength style l) l)) ++ writing style (drop (stretchLength style l) l)
+      writing style l ≡ spell style (stretch (take (stretchLength style l) l)) ++ writing style (drop (stretchLength style l) l)
   unfolding writing spellAll stretchLength
   writing-stretch l u us e k = rw (e, k, pieces-stretch u us k)
 
@@ -63,7 +63,7 @@ module _ (style : Style) where
 pub record Stretched (style : Style) (us : List ℕ) (i j : ℕ) : Type 0 where
   pub on : i < j
   pub inside : j ≤ length us
-  pub cut : writing style (drop i us) ≡ spell (stretch (take (j - i) (drop i us))) ++ writing style (drop j us)
+  pub cut : writing style (drop i us) ≡ spell style (stretch (take (j - i) (drop i us))) ++ writing style (drop j us)
   pub bytes : length (writing style (drop i us)) ≡ 2 + ((j - i) * 16 + 5) / 6 + length (writing style (drop j us))
 
 -- a unit at i that is written as itself: it is a byte, and the writing from i + 1 on
@@ -90,27 +90,27 @@ module _ (style : Style) (us : List ℕ) (i : ℕ) where
     unfolding stretchLength
     stretch-more e = rw (drop-cons us i 0 h, add-one, e)
 
-    pub write-sign : getD us i 0 ≡ 43 → writing style (drop i us) ≡ 43 ∷ 45 ∷ writing style (drop (i + 1) us)
+    pub write-sign : {s : ℕ} → s ≡ signOf style → getD us i 0 ≡ s → writing style (drop i us) ≡ s ∷ 45 ∷ writing style (drop (i + 1) us)
     unfolding writing pieces spellAll spell
-    write-sign e = rw (drop-cons us i 0 h, add-one, e, own-sign style)
+    write-sign q e = rw (drop-cons us i 0 h, add-one, e, q, own-sign style, eq-eqb (signOf style) (signOf style) refl)
 
-    pub itself : other style (getD us i 0) ≡ false → (getD us i 0 ≡ 43 → ⊥) → Itself style us i
+    pub itself : {s : ℕ} → s ≡ signOf style → other style (getD us i 0) ≡ false → (getD us i 0 ≡ s → ⊥) → Itself style us i
     unfolding writing pieces spellAll spell
-    itself e n =
-        let o = own-else style (getD us i 0) e (ne-eqb (getD us i 0) 43 n) in
-        record { low = direct-byte (getD us i 0) (own-direct style (getD us i 0) o); cut = rw (drop-cons us i 0 h, add-one, o) }
+    itself q e n =
+        let o = own-else style (getD us i 0) e (ne-eqb (getD us i 0) (signOf style) (rw q at n)) in
+        record { low = own-byte style (getD us i 0) o; cut = rw (drop-cons us i 0 h, add-one, o) }
 
     pub stretched : (j : ℕ) → other style (getD us i 0) ≡ true → j ≡ i + stretchLength style (drop i us) → Stretched style us i j
     stretched j e q =
         let k : j - i ≡ stretchLength style (drop i us) = omega arith in
         let l : j ≤ length us = omega (arith, stretch-within style (drop i us), length-drop i us) in
         let t : length (take (j - i) (drop i us)) ≡ j - i = length-take-le (j - i) (drop i us) (omega (arith, length-drop i us)) in
-        let c : writing style (drop i us) ≡ spell (stretch (take (j - i) (drop i us))) ++ writing style (drop j us) =
+        let c : writing style (drop i us) ≡ spell style (stretch (take (j - i) (drop i us))) ++ writing style (drop j us) =
         writing-stretch style (drop i us) (getD us i 0) (drop (suc i) us) (drop-cons us i 0 h) e
         ∙ rw (k, q, drop-drop (stretchLength style (drop i us)) i us) in
         record {
           on = omega (arith, stretch-more e);
           inside = l;
           cut = c;
-          bytes = rw (c, length-append (spell (stretch (take (j - i) (drop i us)))) (writing style (drop j us)), length-run, t);
+          bytes = rw (c, length-append (spell style (stretch (take (j - i) (drop i us)))) (writing style (drop j us)), length-run, t);
         }

@@ -3,12 +3,12 @@ use Prim.Native.Nat.{ℕ, suc}
 use mathlib.Core.Bool.{Bool, cond, _&&_, not}
 use mathlib.Core.List.{List, [], _∷_}
 use lib.Dec.{eqb}
-use Rattle.utf7.specs.Sets.{own}
+use Rattle.utf7.specs.Sets.{signOf, own}
 use Rattle.utf7.specs.declared.Style.{Style}
 
--- neither written as itself nor a '+'
+-- neither written as itself nor the sign
 unfoldable pub other : Style → ℕ → Bool
-other style u = not (own style u) && not (eqb u 43)
+other style u = not (own style u) && not (eqb u (signOf style))
 
 unfoldable pub stretchLength : Style → List ℕ → ℕ
 stretchLength style [] = 0

@@ -1,4 +1,4 @@
-// Writing UTF-7, in header and in body style.
+// Writing UTF-7, in header and in body style, and mailbox names.
 use answer::Answer;
 use answer::Refusal;
 use utf7::Style;
@@ -18,7 +18,7 @@ fn is_other(style: Style, u: u32) -> bool
     if utf7::is_own(style, u) {
         return false;
     }
-    u != 43
+    u != utf7::sign_of(style)
 }
 
 // The end of the longest stretch from a place on.
@@ -41,6 +41,7 @@ fn size(style: Style, cells: &[u32]) -> usize
     requires { ⌜ length (now cells) ≤ limit ⌝ }
     ensures { λ r. ⌜ r ≡ length (writing style (now (cells .entry))) ⌝ }
 {
+    let sign = utf7::sign_of(style);
     let mut i: usize = 0;
     let mut total: usize = 0;
     while i < cells.len() {
@@ -50,7 +51,7 @@ fn size(style: Style, cells: &[u32]) -> usize
             total += 2 + ((j - i) * 16 + 5) / 6;
             i = j;
         } else {
-            if u == 43 {
+            if u == sign {
                 total += 2;
                 i += 1;
             } else {
@@ -62,13 +63,14 @@ fn size(style: Style, cells: &[u32]) -> usize
     total
 }
 
-// One run: '+', the letters of its units, '-'.
-fn write_run(cells: &[u32], out: &mut [u8]) -> usize
-    requires { ⌜ Each IsUnit (now cells) × (length (spell (stretch (now cells))) ≤ length (now out)) ⌝ }
-    ensures { λ r. ⌜ (r ≡ length (spell (stretch (now (cells .entry)))))
-        × (now (out .exit) ≡ filled (spell (stretch (now (cells .entry)))) (now (out .entry))) ⌝ }
+// One run: the sign, the letters of its units, '-'.
+fn write_run(style: Style, cells: &[u32], out: &mut [u8]) -> usize
+    requires { ⌜ Each IsUnit (now cells) × (length (spell style (stretch (now cells))) ≤ length (now out)) ⌝ }
+    ensures { λ r. ⌜ (r ≡ length (spell style (stretch (now (cells .entry)))))
+        × (now (out .exit) ≡ filled (spell style (stretch (now (cells .entry)))) (now (out .entry))) ⌝ }
 {
-    out[0] = 43;
+    let last = utf7::last_of(style);
+    out[0] = utf7::sign_of(style) as u8;
     let mut at: usize = 1;
     let mut i: usize = 0;
     let mut n: u32 = 0;
@@ -77,7 +79,7 @@ fn write_run(cells: &[u32], out: &mut [u8]) -> usize
         if 6 <= n {
             n -= 6;
             let w = bits::power(n);
-            out[at] = base64::letter_of(v / w);
+            out[at] = base64::letter_of(last, v / w);
             v = v % w;
             at += 1;
         } else {
@@ -88,7 +90,7 @@ fn write_run(cells: &[u32], out: &mut [u8]) -> usize
             } else {
                 if 0 < n {
                     let w = bits::power(6 - n);
-                    out[at] = base64::letter_of(v * w);
+                    out[at] = base64::letter_of(last, v * w);
                     out[at + 1] = 45;
                     return at + 2;
                 }
@@ -104,18 +106,19 @@ fn write_all(style: Style, cells: &[u32], out: &mut [u8])
     requires { ⌜ Each IsUnit (now cells) × (length (writing style (now cells)) ≤ length (now out)) ⌝ }
     ensures { λ _. ⌜ now (out .exit) ≡ filled (writing style (now (cells .entry))) (now (out .entry)) ⌝ }
 {
+    let sign = utf7::sign_of(style);
     let mut i: usize = 0;
     let mut at: usize = 0;
     while i < cells.len() {
         let u = cells[i];
         if is_other(style, u) {
             let j = stretch_end(style, cells, i);
-            let n = write_run(&cells[i..j], &mut out[at..]);
+            let n = write_run(style, &cells[i..j], &mut out[at..]);
             at += n;
             i = j;
         } else {
-            if u == 43 {
-                out[at] = 43;
+            if u == sign {
+                out[at] = sign as u8;
                 out[at + 1] = 45;
                 at += 2;
                 i += 1;

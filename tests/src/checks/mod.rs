@@ -7,6 +7,7 @@ mod lister;
 mod memory;
 mod page;
 mod reading;
+mod spelling;
 mod stepping;
 mod subject;
 mod tally;
@@ -30,6 +31,8 @@ pub fn parts(settings: Settings) -> Vec<Part> {
     parts.extend(of_format(formats::utf7, &library::UTF7, seed));
     parts.extend(of_format(formats::jp2, &library::JP2, seed));
     parts.push(tally);
+    parts.extend(of_format(formats::mailbox, &library::MAILBOX, seed));
+    parts.push(Part::new("mailbox-spelling", move |report| spelling::run(report, seed)));
     parts.extend(page::parts(seed));
     parts.extend(memory::parts(settings));
     parts.extend(desk::parts(seed));

@@ -2,6 +2,7 @@
 
 pub mod desk;
 pub mod jp2;
+pub mod mailbox;
 pub mod page;
 pub mod utf7;
 

@@ -4,7 +4,7 @@ use super::item::{Item, What};
 use super::tokens::{cut, split, start, tokens};
 
 /// The structs that cross, as C names them. (A step is `stepped` in C: `step` is the function that makes it.)
-const STRUCTS: [(&str, &str); 7] = [
+const STRUCTS: [(&str, &str); 9] = [
     ("Numbers", "qalithonda_numbers"),
     ("HostPage", "qalithonda_page"),
     ("HostEdited", "qalithonda_edited"),
@@ -12,6 +12,8 @@ const STRUCTS: [(&str, &str); 7] = [
     ("HostUtf7Step", "qalithonda_utf7_stepped"),
     ("HostJp2Cursor", "qalithonda_jp2_cursor"),
     ("HostJp2Step", "qalithonda_jp2_stepped"),
+    ("HostMailboxCursor", "qalithonda_mailbox_cursor"),
+    ("HostMailboxStep", "qalithonda_mailbox_stepped"),
 ];
 
 /// The numbers that cross, as C names them.

@@ -4,7 +4,7 @@ pub mod page;
 pub mod steps;
 
 use crate::second::Answer;
-use steps::{Jp2Cursor, Stepper, Utf7Cursor};
+use steps::{Jp2Cursor, MailboxCursor, Stepper, Utf7Cursor};
 
 #[repr(C)]
 struct RawAnswer {
@@ -25,6 +25,8 @@ extern "C" {
     fn qalithonda_jp2_read(text: *const u8, text_len: usize, cells: *mut u32, cells_len: usize) -> RawAnswer;
     fn qalithonda_jp2_write(cells: *const u32, cells_len: usize, out: *mut u8, out_len: usize) -> RawAnswer;
     fn qalithonda_jp2_tally(cells: *const u32, cells_len: usize, counts: *mut [u32; 9]) -> RawAnswer;
+    fn qalithonda_mailbox_read(text: *const u8, text_len: usize, cells: *mut u32, cells_len: usize) -> RawAnswer;
+    fn qalithonda_mailbox_write(cells: *const u32, cells_len: usize, out: *mut u8, out_len: usize) -> RawAnswer;
 }
 
 /// A reader or writer: it is lent a list and an output.
@@ -60,6 +62,12 @@ pub const JP2: Functions<Jp2Cursor> = Functions {
     read: Function { name: "qalithonda_jp2_read", raw: qalithonda_jp2_read },
     step: steps::JP2,
     write: &[Function { name: "qalithonda_jp2_write", raw: qalithonda_jp2_write }],
+};
+
+pub const MAILBOX: Functions<MailboxCursor> = Functions {
+    read: Function { name: "qalithonda_mailbox_read", raw: qalithonda_mailbox_read },
+    step: steps::MAILBOX,
+    write: &[Function { name: "qalithonda_mailbox_write", raw: qalithonda_mailbox_write }],
 };
 
 pub const JP2_TALLY: &str = "qalithonda_jp2_tally";

@@ -17,73 +17,35 @@ pub trait Cursor: Copy + Eq + Debug + 'static {
     fn of_numbers(numbers: &[u64]) -> Self;
 }
 
-#[repr(C)]
-#[derive(Clone, Copy, Debug, PartialEq, Eq)]
-pub struct Utf7Cursor {
-    at: usize,
-    handed: usize,
-    shift: u32,
-    pending: u32,
-    value: u32,
-}
-
-#[repr(C)]
-#[derive(Clone, Copy, Debug, PartialEq, Eq)]
-pub struct Jp2Cursor {
-    at: usize,
-    handed: usize,
-    g0: u16,
-    g2: u16,
-    phase: u8,
-    first: u8,
-    second: u8,
-}
-
-impl Cursor for Utf7Cursor {
-    fn place(&self) -> (usize, usize) {
-        (self.at, self.handed)
-    }
-
-    fn numbers(&self) -> Vec<u64> {
-        let Utf7Cursor { at, handed, shift, pending, value } = *self;
-        vec![at as u64, handed as u64, shift.into(), pending.into(), value.into()]
-    }
-
-    fn of_numbers(numbers: &[u64]) -> Utf7Cursor {
-        let &[at, handed, shift, pending, value] = numbers else { panic!("five numbers") };
-        Utf7Cursor {
-            at: at as usize,
-            handed: handed as usize,
-            shift: shift as u32,
-            pending: pending as u32,
-            value: value as u32,
+/// Declares a cursor with its numbers, in the order of the C interface.
+macro_rules! cursor {
+    ($name:ident { $($field:ident: $number:ty),* }) => {
+        #[repr(C)]
+        #[derive(Clone, Copy, Debug, PartialEq, Eq)]
+        pub struct $name {
+            $($field: $number),*
         }
-    }
-}
 
-impl Cursor for Jp2Cursor {
-    fn place(&self) -> (usize, usize) {
-        (self.at, self.handed)
-    }
+        impl Cursor for $name {
+            fn place(&self) -> (usize, usize) {
+                (self.at, self.handed)
+            }
 
-    fn numbers(&self) -> Vec<u64> {
-        let Jp2Cursor { at, handed, g0, g2, phase, first, second } = *self;
-        vec![at as u64, handed as u64, g0.into(), g2.into(), phase.into(), first.into(), second.into()]
-    }
+            fn numbers(&self) -> Vec<u64> {
+                vec![$(self.$field as u64),*]
+            }
 
-    fn of_numbers(numbers: &[u64]) -> Jp2Cursor {
-        let &[at, handed, g0, g2, phase, first, second] = numbers else { panic!("seven numbers") };
-        Jp2Cursor {
-            at: at as usize,
-            handed: handed as usize,
-            g0: g0 as u16,
-            g2: g2 as u16,
-            phase: phase as u8,
-            first: first as u8,
-            second: second as u8,
+            fn of_numbers(numbers: &[u64]) -> $name {
+                let mut numbers = numbers.iter();
+                $name { $($field: *numbers.next().expect("a number for each field") as $number),* }
+            }
         }
-    }
+    };
 }
+
+cursor!(Utf7Cursor { at: usize, handed: usize, shift: u32, pending: u32, value: u32 });
+cursor!(Jp2Cursor { at: usize, handed: usize, g0: u16, g2: u16, phase: u8, first: u8, second: u8 });
+cursor!(MailboxCursor { at: usize, handed: usize, shift: u32, pending: u32, value: u32 });
 
 #[repr(C)]
 struct RawStepped<C> {
@@ -98,6 +60,8 @@ extern "C" {
     fn qalithonda_utf7_step(text: *const u8, text_len: usize, cursor: Utf7Cursor) -> RawStepped<Utf7Cursor>;
     fn qalithonda_jp2_start() -> Jp2Cursor;
     fn qalithonda_jp2_step(text: *const u8, text_len: usize, cursor: Jp2Cursor) -> RawStepped<Jp2Cursor>;
+    fn qalithonda_mailbox_start() -> MailboxCursor;
+    fn qalithonda_mailbox_step(text: *const u8, text_len: usize, cursor: MailboxCursor) -> RawStepped<MailboxCursor>;
 }
 
 /// What a step gives.
@@ -130,7 +94,7 @@ pub struct Stepper<C> {
     pub step: fn(&[u8], C) -> Stepped<C>,
 }
 
-// SAFETY of both: each pointer comes with the length of its slice, and nothing is written to.
+// SAFETY of all: each pointer comes with the length of its slice, and nothing is written to.
 
 pub const UTF7: Stepper<Utf7Cursor> = Stepper {
     name: "qalithonda_utf7_step",
@@ -142,4 +106,10 @@ pub const JP2: Stepper<Jp2Cursor> = Stepper {
     name: "qalithonda_jp2_step",
     start: || unsafe { qalithonda_jp2_start() },
     step: |text, cursor| unsafe { qalithonda_jp2_step(text.as_ptr(), text.len(), cursor) }.into(),
+};
+
+pub const MAILBOX: Stepper<MailboxCursor> = Stepper {
+    name: "qalithonda_mailbox_step",
+    start: || unsafe { qalithonda_mailbox_start() },
+    step: |text, cursor| unsafe { qalithonda_mailbox_step(text.as_ptr(), text.len(), cursor) }.into(),
 };

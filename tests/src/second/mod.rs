@@ -2,14 +2,16 @@
 //! written from that paper, as docs/DECISIONS.md reads it, without a look at the proved code, and by other means: texts
 //! are cut into parts by looking ahead, all their faults are gathered and the first is chosen, stepping hands out the
 //! cells found before it, bits are lists, and a call on a page makes new lists of all that it leaves. Quotations in
-//! comments are sentences of document 01.
+//! comments are sentences of document 01. Mailbox names are in it as order 1 of document 02 states them.
 
+mod bits;
 mod call;
 pub mod desk;
 pub mod files;
 pub mod jp2;
 mod kind;
 pub mod ledger;
+pub mod mailbox;
 pub mod page;
 mod reading;
 pub mod utf7;

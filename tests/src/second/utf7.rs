@@ -1,5 +1,6 @@
 //! UTF-7, after the section "UTF-7" of document 01.
 
+use super::bits::{bits, number};
 use super::reading::{self, first_fault, Found};
 use super::{all_writable, within_limit, Answer, Complete, Elements, Steps};
 
@@ -35,16 +36,6 @@ fn set_b() -> impl Iterator<Item = u8> {
 /// The value of a byte, if it is in set B.
 fn value(byte: u8) -> Option<usize> {
     set_b().position(|letter| letter == byte)
-}
-
-/// So many bits of a number, high bit first.
-fn bits(number: usize, count: usize) -> impl Iterator<Item = usize> {
-    (0..count).rev().map(move |place| number >> place & 1)
-}
-
-/// The number that these bits write, high bit first.
-fn number(bits: &[usize]) -> usize {
-    bits.iter().fold(0, |number, bit| 2 * number + bit)
 }
 
 /// Reads a text.

@@ -2,6 +2,7 @@
 
 pub mod jp2;
 pub mod lengths;
+pub mod mailbox;
 pub mod utf7;
 
 use crate::rng::Rng;
@@ -16,7 +17,7 @@ pub struct Source {
     pub telling_parts: &'static [&'static [u8]],
     /// The byte that opens what is more than one byte.
     pub opener: u8,
-    /// Bytes that change nothing where they stand before a text.
+    /// Bytes that change nothing where they stand before a text, if there are any.
     pub needless: &'static [u8],
     /// Makes a text that is accepted. Its length is the one asked for, or a little less.
     pub whole: fn(&mut Rng, usize) -> Vec<u8>,
@@ -44,6 +45,8 @@ pub struct Frame(pub &'static [u8], pub &'static [u8], pub &'static [u8]);
 pub struct Alphabet {
     pub name: &'static str,
     pub what: &'static str,
+    /// What each text starts with, and what it ends with.
+    pub around: [&'static [u8]; 2],
     pub parts: &'static [&'static [u8]],
     pub longest: u32,
 }
@@ -69,7 +72,11 @@ impl Alphabet {
         (0..=self.longest).flat_map(move |count| {
             let size = self.parts.len();
             let part = move |number: usize, place: u32| self.parts[number / size.pow(place) % size];
-            (0..size.pow(count)).map(move |number| (0..count).flat_map(|place| part(number, place)).copied().collect())
+            let [start, end] = self.around;
+            (0..size.pow(count)).map(move |number| {
+                let parts = (0..count).flat_map(|place| part(number, place));
+                start.iter().chain(parts).chain(end).copied().collect()
+            })
         })
     }
 }
@@ -252,7 +259,7 @@ mod tests {
 
     #[test]
     fn texts_and_lists_have_the_lengths_asked_for() {
-        for source in [&utf7::SOURCE, &jp2::SOURCE] {
+        for source in [&utf7::SOURCE, &jp2::SOURCE, &mailbox::SOURCE] {
             let texts: Vec<Vec<u8>> = source.texts(1, "lengths", 3_000, lengths::for_listers).collect();
             for length in [0, 1, 2, LISTER_LIMIT, LISTER_LIMIT + 1] {
                 assert!(texts.iter().any(|text| text.len() == length), "none of {length} bytes");
@@ -268,10 +275,12 @@ mod tests {
 
     #[test]
     fn every_short_text_of_an_alphabet_is_made() {
-        let alphabet = Alphabet { name: "", what: "", parts: &[b"a", b"bc"], longest: 2 };
-        let texts: Vec<Vec<u8>> = alphabet.texts().collect();
+        let alphabet = |around| Alphabet { name: "", what: "", around, parts: &[b"a", b"bc"], longest: 2 };
+        let texts: Vec<Vec<u8>> = alphabet([b"", b""]).texts().collect();
         let expected: [&[u8]; 7] = [b"", b"a", b"bc", b"aa", b"bca", b"abc", b"bcbc"];
         assert_eq!(texts, expected);
+        let around: Vec<Vec<u8>> = alphabet([b"&", b"-!"]).texts().collect();
+        assert_eq!(around, expected.map(|text| [b"&", text, b"-!"].concat()));
     }
 
     #[test]

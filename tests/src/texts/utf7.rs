@@ -25,6 +25,7 @@ pub static SOURCE: Source = Source {
         Alphabet {
             name: "five-bytes",
             what: "every text of up to five of the bytes + - / A Q . ~ and one over 127",
+            around: [b"", b""],
             parts: &[b"+", b"-", b"/", b"A", b"Q", b".", b"~", b"\x80"],
             longest: 5,
         },
@@ -32,6 +33,7 @@ pub static SOURCE: Source = Source {
         Alphabet {
             name: "six-parts",
             what: "every text of up to six of + AKM A Q - . and a byte over 127",
+            around: [b"", b""],
             parts: &[b"+", b"AKM", b"A", b"Q", b"-", b".", b"\x80"],
             longest: 6,
         },
@@ -115,7 +117,7 @@ fn unit(rng: &mut Rng, kind: usize) -> u32 {
 }
 
 /// A cell over 65,535: barely, by its high half alone, or anyhow.
-fn unwritable(rng: &mut Rng) -> u32 {
+pub fn unwritable(rng: &mut Rng) -> u32 {
     match rng.below(4) {
         0 => 65_536,
         1 => u32::MAX,
@@ -125,6 +127,6 @@ fn unwritable(rng: &mut Rng) -> u32 {
 }
 
 /// Every unit, and larger cells.
-fn lone_cells() -> Vec<u32> {
+pub fn lone_cells() -> Vec<u32> {
     (0..=65_535).chain([65_536, 0x0041_0041, u32::MAX]).collect()
 }

@@ -38,7 +38,7 @@ is-line-blank-requires c κs = search needs
 
 returns-7 : tie.Need-returns-7
 unfolding own
-returns-7 c = c .is-line-blank .ensures ∙ sym (own-low Body (c .before .before .before .before .before .before .before .args .u) (omega arith))
+returns-7 c = c .is-line-blank .ensures ∙ sym (own-low Body tt (c .before .before .before .before .before .before .before .args .u) (omega arith))
 
 pub is-direct-spec : {M : Type 1} → statement M
 is-direct-spec =

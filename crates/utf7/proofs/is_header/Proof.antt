@@ -61,7 +61,7 @@ is-line-blank-requires : tie.Need-is-line-blank-requires
 is-line-blank-requires c κs = search needs
 
 returns-13 : tie.Need-returns-13
-returns-13 c = c .is-line-blank .ensures ∙ sym (own-low Header (c .before .before .before .before .before .before .before .before .before .before .before .before .before .args .u) (omega arith))
+returns-13 c = c .is-line-blank .ensures ∙ sym (own-low Header tt (c .before .before .before .before .before .before .before .before .before .before .before .before .before .args .u) (omega arith))
 
 pub is-header-spec : {M : Type 1} → statement M
 is-header-spec =

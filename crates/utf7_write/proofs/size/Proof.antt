@@ -11,40 +11,45 @@ use Rattle.utf7_write.proofs.size.Statement.{statement}
 use Rattle.utf7_write.proofs.size.Tie as tie
 
 abbrev Inv-loop : tie.InvT-loop
-Inv-loop style cells i₀ total₀ i total =
+Inv-loop style cells sign i₀ total₀ i total =
     (total + length (writing style (drop i cells)) ≡ length (writing style cells)) × (i ≤ length cells) × (length (writing style cells) < 2 ^ 35)
 
 abbrev μ-loop : tie.MeasureT-loop
-μ-loop style cells i₀ total₀ i total = length cells - i
+μ-loop style cells sign i₀ total₀ i total = length cells - i
 
 -- where the loop stands once a unit is told apart, and the bytes from a place on
 abbrev loop-at : tie.After-is-other Inv-loop μ-loop → tie.At-loop Inv-loop μ-loop
 loop-at c = c .before .before .before
 
 abbrev bytes : tie.At-loop Inv-loop μ-loop → ℕ → ℕ
-bytes l i = length (writing (l .before .before .args .style) (drop i (l .before .before .args .cells .now)))
+bytes l i = length (writing (l .before .before .before .args .style) (drop i (l .before .before .before .args .cells .now)))
 
--- what a stretch, a '+' and a unit that is written as itself take
+-- what a stretch, a sign and a unit that is written as itself take
 found :
     (c : tie.After-stretch-end Inv-loop μ-loop) → let l = loop-at (c .before .before) in
-    Stretched (l .before .before .args .style) (l .before .before .args .cells .now) (l .loop .i) (c .stretch-end .result)
+    Stretched (l .before .before .before .args .style) (l .before .before .before .args .cells .now) (l .loop .i) (c .stretch-end .result)
 found c =
     let t = c .before .before in
     stretched _ _ _ (t .before .before .loop-test .taken) _ (sym (t .is-other .ensures) ∙ c .before .if1 .taken) (c .stretch-end .ensures)
 
 signed :
     (c : tie.Then2 Inv-loop μ-loop) → let l = loop-at (c .before .before) in bytes l (l .loop .i) ≡ suc (suc (bytes l (l .loop .i + 1)))
-signed c = ap length (write-sign _ _ _ (c .before .before .before .before .loop-test .taken) (c .if2 .taken))
+signed c =
+    let t = c .before .before in
+    ap length (write-sign _ _ _ (t .before .before .loop-test .taken) (loop-at t .before .sign-of .ensures) (c .if2 .taken))
 
 owned :
     (c : tie.Else2 Inv-loop μ-loop) → let l = loop-at (c .before .before) in bytes l (l .loop .i) ≡ suc (bytes l (l .loop .i + 1))
 owned c =
     let t = c .before .before in
-    ap length (itself _ _ _ (t .before .before .loop-test .taken) (sym (t .is-other .ensures) ∙ c .before .if1 .left) (c .if2 .left) .cut)
+    ap length (itself _ _ _ (t .before .before .loop-test .taken) (loop-at t .before .sign-of .ensures) (sym (t .is-other .ensures) ∙ c .before .if1 .left) (c .if2 .left) .cut)
+
+sign-of-requires : tie.Need-sign-of-requires Inv-loop μ-loop
+sign-of-requires c κs = search needs
 
 loop-holds : tie.Need-loop-holds Inv-loop μ-loop
 loop-holds c =
-    let s = c .before in
+    let s = c .before .before in
     (omega arith, omega arith, omega (arith, size-bound (s .args .style) (s .args .cells .now), s .pre, limit-small))
 
 mul-u : tie.Need-mul-u Inv-loop μ-loop
@@ -107,7 +112,7 @@ loop-again-3 c = omega (arith, owned c)
 returns : tie.Need-returns Inv-loop μ-loop
 returns c =
     let l = c .before in
-    let a = l .before .before .args in
+    let a = l .before .before .before .args in
     omega (arith, l .loop .inv .0, ap length (write-end (a .style) (a .cells .now) (l .loop .i) (c .loop-test .left)))
 
 pub size-spec : {M : Type 1} → statement M
@@ -116,6 +121,7 @@ size-spec =
     (tie.spec
     Inv-loop
     μ-loop
+    sign-of-requires
     loop-holds
     mul-u
     shared-slice-read-u

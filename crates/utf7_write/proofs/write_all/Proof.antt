@@ -5,6 +5,7 @@ use native.Mathlib.Omega.{arith}
 use lib.ListN.{length, getD, take, drop, length-set}
 use Rattle.answer.proofs.Below.{each-take, each-drop}
 use Rattle.answer.proofs.Put.{Put, put-start, put-as, put-lt, put-next, put-lent-room, put-lent, put-done}
+use Rattle.utf7.proofs.Sets.{sign-byte}
 use Rattle.utf7.specs.Writing.{IsUnit, stretch, spell, writing}
 use Rattle.utf7_write.proofs.Two.{Two, put-two}
 use Rattle.utf7_write.proofs.Stretches.{Stretched, Itself, stretched, write-end, write-sign, itself}
@@ -13,25 +14,25 @@ use Rattle.utf7_write.proofs.write_all.Statement.{statement}
 use Rattle.utf7_write.proofs.write_all.Tie as tie
 
 abbrev Inv-loop : tie.InvT-loop
-Inv-loop style cells out₀ i₀ at₀ out i at = Put (writing style cells) out₀ out at (writing style (drop i cells)) × (i ≤ length cells)
+Inv-loop style cells out₀ sign i₀ at₀ out i at = Put (writing style cells) out₀ out at (writing style (drop i cells)) × (i ≤ length cells)
 
 abbrev μ-loop : tie.MeasureT-loop
-μ-loop style cells out₀ i₀ at₀ out i at = length cells - i
+μ-loop style cells out₀ sign i₀ at₀ out i at = length cells - i
 
 -- where the loop stands once a unit is told apart, what is put there, and the writing from a place on
 abbrev loop-at : tie.After-is-other Inv-loop μ-loop → tie.At-loop Inv-loop μ-loop
 loop-at c = c .before .before .before
 
 abbrev rest : tie.At-loop Inv-loop μ-loop → ℕ → List ℕ
-rest l i = writing (l .before .before .before .args .style) (drop i (l .before .before .before .args .cells .now))
+rest l i = writing (l .before .before .before .before .args .style) (drop i (l .before .before .before .before .args .cells .now))
 
 abbrev ToPut : tie.At-loop Inv-loop μ-loop → List ℕ → Type 0
-ToPut l todo = Put (rest l 0) (l .before .before .before .args .out .now) (l .loop .out) (l .loop .at) todo
+ToPut l todo = Put (rest l 0) (l .before .before .before .before .args .out .now) (l .loop .out) (l .loop .at) todo
 
 -- a stretch
 found :
     (c : tie.After-stretch-end Inv-loop μ-loop) → let l = loop-at (c .before .before) in
-    let a = l .before .before .before .args in
+    let a = l .before .before .before .before .args in
     Stretched (a .style) (a .cells .now) (l .loop .i) (c .stretch-end .result)
 found c =
     let t = c .before .before in
@@ -40,36 +41,39 @@ found c =
 abbrev run : tie.After-stretch-end Inv-loop μ-loop → List ℕ
 run c =
     let l = loop-at (c .before .before) in
-    spell (stretch (take (c .stretch-end .result - l .loop .i) (drop (l .loop .i) (l .before .before .before .args .cells .now))))
+    spell (l .before .before .before .before .args .style) (stretch (take (c .stretch-end .result - l .loop .i) (drop (l .loop .i) (l .before .before .before .before .args .cells .now))))
 
 lent :
     (c : tie.After-stretch-end Inv-loop μ-loop) → let l = loop-at (c .before .before) in ToPut l (run c ++ rest l (c .stretch-end .result))
 lent c = put-as (found c .cut) (loop-at (c .before .before) .loop .inv .0)
 
--- a '+'
+-- a sign
 signed :
     (c : tie.Then2 Inv-loop μ-loop) → let l = loop-at (c .before .before) in
-    Two (rest l 0) (l .before .before .before .args .out .now) (l .loop .out) (l .loop .at) 43 45 (rest l (l .loop .i + 1))
+    Two (rest l 0) (l .before .before .before .before .args .out .now) (l .loop .out) (l .loop .at) (l .before .sign-of .result) 45 (rest l (l .loop .i + 1))
 signed c =
     let t = c .before .before in
-    put-two (put-as (write-sign _ _ _ (t .before .before .loop-test .taken) (c .if2 .taken)) (loop-at t .loop .inv .0))
+    put-two (put-as (write-sign _ _ _ (t .before .before .loop-test .taken) (loop-at t .before .sign-of .ensures) (c .if2 .taken)) (loop-at t .loop .inv .0))
 
 -- a unit that is written as itself
 own :
     (c : tie.Else2 Inv-loop μ-loop) → let l = loop-at (c .before .before) in
-    let a = l .before .before .before .args in
+    let a = l .before .before .before .before .args in
     Itself (a .style) (a .cells .now) (l .loop .i)
 own c =
     let t = c .before .before in
-    itself _ _ _ (t .before .before .loop-test .taken) (sym (t .is-other .ensures) ∙ c .before .if1 .left) (c .if2 .left)
+    itself _ _ _ (t .before .before .loop-test .taken) (loop-at t .before .sign-of .ensures) (sym (t .is-other .ensures) ∙ c .before .if1 .left) (c .if2 .left)
 
 owned :
     (c : tie.Else2 Inv-loop μ-loop) → let l = loop-at (c .before .before) in
-    ToPut l (getD (l .before .before .before .args .cells .now) (l .loop .i) 0 ∷ rest l (l .loop .i + 1))
+    ToPut l (getD (l .before .before .before .before .args .cells .now) (l .loop .i) 0 ∷ rest l (l .loop .i + 1))
 owned c = put-as (own c .cut) (loop-at (c .before .before) .loop .inv .0)
 
+sign-of-requires : tie.Need-sign-of-requires Inv-loop μ-loop
+sign-of-requires c κs = search needs
+
 loop-holds : tie.Need-loop-holds Inv-loop μ-loop
-loop-holds c = (put-start _ _ (c .before .before .pre .1), omega arith)
+loop-holds c = (put-start _ _ (c .before .before .before .pre .1), omega arith)
 
 mul-u : tie.Need-mul-u Inv-loop μ-loop
 mul-u c = search needs
@@ -108,7 +112,7 @@ write-run-requires : tie.Need-write-run-requires Inv-loop μ-loop
 write-run-requires c κs =
     let f = c .before .before in
     let l = loop-at (f .before .before) in
-    let s = l .before .before .before in (
+    let s = l .before .before .before .before in (
       each-take IsUnit (drop (l .loop .i) (s .args .cells .now)) (f .stretch-end .result - l .loop .i) (each-drop IsUnit (s .args .cells .now) (l .loop .i) (s .pre .0)),
       put-lent-room (run f) _ (lent f),
     )
@@ -118,7 +122,7 @@ add-at c =
     let w = c .before .before in
     let f = w .before .before .before in
     let p = put-lent (run f) _ (lent f) (w .write-run .ensures .1) in
-    omega (arith, p .upto, p .room, w .write-run .ensures .0, loop-at (f .before .before) .before .before .before .good)
+    omega (arith, p .upto, p .room, w .write-run .ensures .0, loop-at (f .before .before) .before .before .before .before .good)
 
 loop-less : tie.Need-loop-less Inv-loop μ-loop
 loop-less c = let s = found (c .before .before .before .before .before) in omega arith
@@ -129,6 +133,9 @@ loop-again c =
     let f = w .before .before .before in
     let p = put-lent (run f) _ (lent f) (w .write-run .ensures .1) in
     (rw (w .write-run .ensures .0) p, found f .inside)
+
+cast-out : tie.Need-cast-out Inv-loop μ-loop
+cast-out c = let l = loop-at (c .before .before) in omega (arith, l .before .sign-of .ensures, sign-byte (l .before .before .before .before .args .style))
 
 slice-write-out : tie.Need-slice-write-out Inv-loop μ-loop
 slice-write-out c = let s = signed c in search needs
@@ -151,8 +158,8 @@ loop-less-2 c = search needs
 loop-again-2 : tie.Need-loop-again-2 Inv-loop μ-loop
 loop-again-2 c = (signed c .put, omega arith)
 
-cast-out : tie.Need-cast-out Inv-loop μ-loop
-cast-out c = let o = own c in omega arith
+cast-out-2 : tie.Need-cast-out-2 Inv-loop μ-loop
+cast-out-2 c = let o = own c in omega arith
 
 slice-write-out-3 : tie.Need-slice-write-out-3 Inv-loop μ-loop
 slice-write-out-3 c = put-lt (owned c)
@@ -181,6 +188,7 @@ write-all-spec =
     (tie.spec
     Inv-loop
     μ-loop
+    sign-of-requires
     loop-holds
     mul-u
     shared-slice-read-u
@@ -197,6 +205,7 @@ write-all-spec =
     add-at
     loop-less
     loop-again
+    cast-out
     slice-write-out
     add-out
     slice-write-out-2
@@ -204,7 +213,7 @@ write-all-spec =
     add-i
     loop-less-2
     loop-again-2
-    cast-out
+    cast-out-2
     slice-write-out-3
     add-at-3
     add-i-2

@@ -19,6 +19,7 @@ pub fn parts(settings: Settings) -> Vec<Part> {
     vec![
         of_format(formats::utf7, &library::UTF7, settings),
         of_format(formats::jp2, &library::JP2, settings),
+        of_format(formats::mailbox, &library::MAILBOX, settings),
         Part::new("memory-jp2-tally", move |report| lists::tally(report, &formats::jp2(), settings)),
         Part::new("memory-page", move |report| page::run(report, settings)),
     ]
