@@ -8,9 +8,10 @@ use Rattle.reading.specs.Reading.{accepted}
 use Rattle.reading.proofs.Laws.{SoundEnd, good-reading}
 use Rattle.utf7.proofs.Kept.{utf7-kept}
 use Rattle.jp2.proofs.Kept.{jp2-kept}
+use Rattle.mailbox.proofs.Kept.{mailbox-kept}
 use Rattle.reading.specs.Matching.{sameCells}
 use Rattle.codec.specs.declared.Format.{Format}
-use Rattle.codec.specs.declared.Format.the-variants.{Utf7, Jp2}
+use Rattle.codec.specs.declared.Format.the-variants.{Utf7, Jp2, Mailbox}
 use Rattle.codec.specs.declared.Kind.{Kind}
 use Rattle.codec.specs.Kinds.{formatOf, readingOf, readingIn, readsIn, readsAs}
 
@@ -18,6 +19,7 @@ fault-in : (format : Format) (text : List ℕ) → SoundEnd (readingOf format te
 unfolding readingOf
 fault-in Utf7 text = good-reading utf7-kept text .1
 fault-in Jp2 text = good-reading jp2-kept text .1
+fault-in Mailbox text = good-reading mailbox-kept text .1
 
 pub fault-numbered : (kind : Kind) (text : List ℕ) → SoundEnd (readingIn kind text .ending)
 fault-numbered kind text = fault-in (formatOf kind) text

@@ -15,6 +15,7 @@ use Rattle.utf7.specs.declared.Style.the-variants.{Header, Body}
 use Rattle.jp2.specs.Rule.{jp2}
 use Rattle.jp2.specs.Writable.{firstForeign}
 use Rattle.jp2.specs.Writing as jp2-writing
+use Rattle.mailbox.specs.Rule.{mailbox}
 use Rattle.codec.specs.declared.Format.{Format}
 use Rattle.codec.specs.declared.Format.the-variants as format
 use Rattle.codec.specs.declared.Kind.{Kind}
@@ -41,6 +42,7 @@ bytesAtEnd Jp2 = 3
 unfoldable pub readingOf : Format → List ℕ → Reading
 readingOf format.Utf7 text = reading utf7 text
 readingOf format.Jp2 text = reading jp2 text
+readingOf format.Mailbox text = reading mailbox text
 
 -- reading into an output: 16, the earliest fault, 9
 unfoldable pub readIn : Format → List ℕ → List ℕ → Outcome

@@ -1,14 +1,15 @@
-// Both formats side by side, and by the kind of a page: what the page stands on.
+// The formats side by side, and by the kind of a page: what the page stands on.
 use answer::Answer;
 use utf7::Style;
 ghost use mathlib.Core.Path.{_≡_};
 ghost use Rattle.answer.specs.Output.{leaves};
 ghost use Rattle.codec.specs.Kinds.{formatOf, bytesPerCell, bytesAtEnd, readIn, firstUnwritable, writeIn, readsIn};
 
-// What a text is read as.
+// What a text is read as. A mailbox name is no kind of page.
 pub enum Format {
     Utf7,
     Jp2,
+    Mailbox,
 }
 
 // "A page has a kind (UTF-7 header, UTF-7 body, JP-2)."
@@ -66,6 +67,7 @@ pub fn read(format: Format, text: &[u8], out: &mut [u32]) -> Answer
     match format {
         Format::Utf7 => utf7_read::read(text, out),
         Format::Jp2 => jp2_read::read(text, out),
+        Format::Mailbox => mailbox_read::read(text, out),
     }
 }
 
@@ -76,6 +78,7 @@ pub fn reads_as(format: Format, text: &[u8], cells: &[u32]) -> bool
     match format {
         Format::Utf7 => utf7_read::reads_as(text, cells),
         Format::Jp2 => jp2_read::reads_as(text, cells),
+        Format::Mailbox => mailbox_read::reads_as(text, cells),
     }
 }
 

@@ -15,11 +15,12 @@ use Rattle.reading.specs.Stepping.{Next, cell, final, onward, onSpot, atStart, 
 use Rattle.reading.proofs.Cursors.{Cursors, stepFor, cursorAfter, step-cell, step-final, step-over}
 use Rattle.utf7_read.proofs.Nth.{utf7-cursors}
 use Rattle.jp2_read.proofs.Nth.{jp2-cursors}
+use Rattle.mailbox_read.proofs.Nth.{mailbox-cursors}
 use Rattle.stepper.specs.Stepper.{Gift, gift, startOf, stepOf, givenBy, readerAfter, readingOf, answerOf, nthGift}
 use Rattle.codec.specs.declared.Format.{Format}
 use Rattle.codec.specs.declared.Format as format
 use Rattle.stepper.specs.declared.Place.{Place}
-use Rattle.stepper.specs.declared.Place.the-variants.{Utf7, Jp2}
+use Rattle.stepper.specs.declared.Place.the-variants.{Utf7, Jp2, Mailbox}
 use Rattle.stepper.specs.declared.Reader.{Reader}
 
 onward-place : {C : Type 0} (f : C → Place) (x : Next C) (c : C) → onSpot (onward f x) (f c) ≡ f (onSpot x c)
@@ -61,6 +62,7 @@ module _ {S C : Type 0} {rule : Rule S} (cs : Cursors rule C) (place : C → Pla
 pub nth-step : (text : RefT (List ℕ)) (f : Format) (n : ℕ) → givenBy (readerAfter text f n) ≡ nthGift (now text) (readingOf f (now text)) n
 nth-step text format.the-variants.Utf7 = nth-given utf7-cursors Utf7 format.the-variants.Utf7 refl (λ _ _. refl) text
 nth-step text format.the-variants.Jp2 = nth-given jp2-cursors Jp2 format.the-variants.Jp2 refl (λ _ _. refl) text
+nth-step text format.the-variants.Mailbox = nth-given mailbox-cursors Mailbox format.the-variants.Mailbox refl (λ _ _. refl) text
 
 -- and the text stays what it was
 pub text-stays : (text : RefT (List ℕ)) (f : Format) (n : ℕ) → readerAfter text f n .text ≡ text

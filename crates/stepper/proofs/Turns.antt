@@ -1,4 +1,4 @@
--- A step of either format, as a step from a place. Assumes nothing.
+-- A step of any format, as a step from a place. Assumes nothing.
 use mathlib.Core.Path.{_≡_, ap}
 use Rattle.reading.specs.Stepping.{Next, onward, onSpot}
 use Rattle.stepper.specs.Stepper.{gift}

@@ -1,4 +1,4 @@
--- What a step of a reader that holds its text gives, and the reader after it, in either format.
+-- What a step of a reader that holds its text gives, and the reader after it, in any format.
 use Prim.Native.Nat.{ℕ, zero, suc}
 use mathlib.Core.Bool.{cond}
 use mathlib.Core.List.{List, []}
@@ -12,10 +12,12 @@ use Rattle.utf7.specs.Rule.{utf7}
 use Rattle.utf7_read.specs.Cursor as u
 use Rattle.jp2.specs.Rule.{jp2}
 use Rattle.jp2_read.specs.Cursor as j
+use Rattle.mailbox.specs.Rule.{mailbox}
+use Rattle.mailbox_read.specs.Cursor as m
 use Rattle.codec.specs.declared.Format.{Format}
 use Rattle.codec.specs.declared.Format as format
 use Rattle.stepper.specs.declared.Place.{Place}
-use Rattle.stepper.specs.declared.Place.the-variants.{Utf7, Jp2}
+use Rattle.stepper.specs.declared.Place.the-variants.{Utf7, Jp2, Mailbox}
 use Rattle.stepper.specs.declared.Handed.{Handed}
 use Rattle.stepper.specs.declared.Handed.the-variants.{Cell, Final}
 use Rattle.stepper.specs.declared.Reader.{Reader}
@@ -36,11 +38,13 @@ gift (final verdict) = theAnswer verdict
 abbrev pub startOf : Format → Place
 startOf format.the-variants.Utf7 = Utf7 (u.cursorOf (atStart utf7))
 startOf format.the-variants.Jp2 = Jp2 (j.cursorOf (atStart jp2))
+startOf format.the-variants.Mailbox = Mailbox (m.cursorOf (atStart mailbox))
 
 -- the step from any place
 abbrev pub stepOf : List ℕ → Place → Next Place
 stepOf text (Utf7 c) = onward Utf7 (u.stepOf text c)
 stepOf text (Jp2 c) = onward Jp2 (j.stepOf text c)
+stepOf text (Mailbox c) = onward Mailbox (m.stepOf text c)
 
 abbrev pub givenAt : List ℕ → Place → Gift
 givenAt text p = gift (stepOf text p)
@@ -67,6 +71,7 @@ readerAfter text f (suc n) = movedOf (readerAfter text f n)
 abbrev pub readingOf : Format → List ℕ → Reading
 readingOf format.the-variants.Utf7 text = reading utf7 text
 readingOf format.the-variants.Jp2 text = reading jp2 text
+readingOf format.the-variants.Mailbox text = reading mailbox text
 
 -- "Each step hands out the next cell complete before the first fault", and of a text over the limit none;
 abbrev pub cellsOf : List ℕ → Reading → List ℕ

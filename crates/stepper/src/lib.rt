@@ -1,4 +1,4 @@
-// A reader that remembers its text, over the steps of utf7_read and jp2_read: document 01, "step through a lent text one cell at a time".
+// A reader that remembers its text, over the steps of utf7_read, jp2_read and mailbox_read: document 01, "step through a lent text one cell at a time".
 use answer::Answer;
 use codec::Format;
 ghost use mathlib.Core.Path.{_≡_};
@@ -8,6 +8,7 @@ ghost use Rattle.stepper.specs.Stepper.{told, startOf, givenAt, placeAft
 pub enum Place {
     Utf7(utf7_read::Cursor),
     Jp2(jp2_read::Cursor),
+    Mailbox(mailbox_read::Cursor),
 }
 
 // What a step hands out: the next cell, or the answer of reading the whole text with room enough.
@@ -28,6 +29,27 @@ pub fn start(format: Format) -> Place
     match format {
         Format::Utf7 => Place::Utf7(utf7_read::start()),
         Format::Jp2 => Place::Jp2(jp2_read::start()),
+        Format::Mailbox => Place::Mailbox(mailbox_read::start()),
+    }
+}
+
+// One step from a place of a name.
+fn mailbox_turn(text: &[u8], c: mailbox_read::Cursor) -> Turn
+    ensures { λ r. ⌜ (told (r .handed) ≡ givenAt (now (text .entry)) (Place.Mailbox c)) × (r .place ≡ placeAfter (now (text .entry)) (Place.Mailbox c)) ⌝ }
+{
+    let found = mailbox_read::step(text, c);
+    match found {
+        mailbox_read::Stepped::Cell(given) => {
+            let next = given.next;
+            Turn {
+                handed: Handed::Cell(given.value),
+                place: Place::Mailbox(next),
+            }
+        }
+        mailbox_read::Stepped::Final(answer) => Turn {
+            handed: Handed::Final(answer),
+            place: Place::Mailbox(c),
+        },
     }
 }
 
@@ -68,6 +90,7 @@ pub fn step(text: &[u8], place: Place) -> Turn
                 },
             }
         }
+        Place::Mailbox(c) => mailbox_turn(text, c),
     }
 }
 

@@ -29,6 +29,12 @@ enum-known-found-3 c = search needs
 enum-known-found-4 : tie.Need-enum-known-found-4
 enum-known-found-4 c = search needs
 
+enum-known-place-3 : tie.Need-enum-known-place-3
+enum-known-place-3 c = search needs
+
+mailbox-turn-requires : tie.Need-mailbox-turn-requires
+mailbox-turn-requires c κs = search needs
+
 returns : tie.Need-returns
 returns c = rw (c .before .before .before .before .before .before .place .given .1) (turned Utf7 _ (rw (c .before .before .found .given .1) at (c .before .before .before .before .step .ensures)))
 
@@ -40,6 +46,9 @@ returns-3 c = rw (c .before .before .before .before .before .before .place2 .giv
 
 returns-4 : tie.Need-returns-4
 returns-4 c = rw (c .before .before .before .before .before .place2 .given .1) (turned Jp2 _ (rw (c .before .found4 .given .1) at (c .before .before .before .step2 .ensures)))
+
+returns-5 : tie.Need-returns-5
+returns-5 c = rw (c .before .before .place3 .given .1) (c .mailbox-turn .ensures)
 
 pub step-spec : {M : Type 1} → statement M
 step-spec =
@@ -53,7 +62,10 @@ step-spec =
     step-requires-2
     enum-known-found-3
     enum-known-found-4
+    enum-known-place-3
+    mailbox-turn-requires
     returns
     returns-2
     returns-3
-    returns-4)
+    returns-4
+    returns-5)

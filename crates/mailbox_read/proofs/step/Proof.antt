@@ -1,0 +1,140 @@
+use Prim.Native.Nat.{ℕ, _-_, _≤_}
+use mathlib.Core.Path.{_≡_, refl, sym, ap, _∙_}
+use mathlib.Core.List.{List}
+use native.Mathlib.Omega.{arith}
+use denote.Ref.{now}
+use lib.ListN.{length, drop}
+use borrow.Author.Needs.{needs}
+use borrow.Author.Tests.{ltb-true}
+use Rattle.reading.specs.Stepping.{Spot, Next, final, onward, nextFrom, nextAt}
+use Rattle.reading.proofs.Steps.{Going, going-give, going-go, going-bad, going-end, step-long}
+use Rattle.mailbox.specs.Rule.{Shift, mailbox}
+use Rattle.mailbox_read.specs.Cursor.{shiftOf, cursorOf, spotOf, Settled}
+use Rattle.mailbox_read.specs.declared.State.{State}
+use Rattle.mailbox_read.proofs.Moves.{moved, cell-told, least-at}
+use Rattle.mailbox_read.proofs.step.Statement.{statement}
+use Rattle.mailbox_read.proofs.step.Tie as tie
+
+-- the step that the loop is to find
+unfoldable sought : List ℕ → ℕ → ℕ → State → Next (Spot Shift)
+sought text at handed st = nextFrom mailbox (length text) (drop at text) (record { at = at; handed = handed; state = shiftOf st })
+
+abbrev Inv-loop : tie.InvT-loop
+Inv-loop text at₀ handed st₀ at st = Going mailbox text at handed (shiftOf st) (sought text at₀ handed st₀) × Settled st × (handed ≤ at)
+
+abbrev μ-loop : tie.MeasureT-loop
+μ-loop text at₀ handed st₀ at st = length text - at
+
+-- it is the one from the cursor
+asked :
+    (c : tie.After-settled Inv-loop μ-loop) →
+    let a = c .before .before .before .before .before .args in
+    sought (now (a .text)) (a .c .at) (c .before .lesser .result) (c .settled .result) ≡ nextAt mailbox (now (a .text)) (spotOf (a .c))
+unfolding sought nextAt
+asked c =
+    rw (c .before .lesser .ensures, c .settled .ensures .1, sym (c .before .before .before .over-limit .ensures) ∙ c .before .before .if1 .left)
+
+over-limit-requires : tie.Need-over-limit-requires Inv-loop μ-loop
+over-limit-requires c κs = search needs
+
+too-long-requires : tie.Need-too-long-requires Inv-loop μ-loop
+too-long-requires c κs = search needs
+
+returns : tie.Need-returns Inv-loop μ-loop
+returns c =
+    let o = c .before .before in
+    ap final (c .too-long .ensures) ∙ ap (onward cursorOf) (sym (step-long mailbox _ (ltb-true _ _ (sym (o .over-limit .ensures) ∙ c .before .if1 .taken)) _))
+
+lesser-requires : tie.Need-lesser-requires Inv-loop μ-loop
+lesser-requires c κs = search needs
+
+settled-requires : tie.Need-settled-requires Inv-loop μ-loop
+settled-requires c κs = search needs
+
+loop-holds : tie.Need-loop-holds Inv-loop μ-loop
+unfolding sought
+loop-holds c = (record { so = refl }, c .settled .ensures .0, rw (c .before .lesser .ensures) (least-at _ _))
+
+shared-slice-read-feed : tie.Need-shared-slice-read-feed Inv-loop μ-loop
+shared-slice-read-feed c = search needs
+
+feed-requires : tie.Need-feed-requires Inv-loop μ-loop
+feed-requires c κs = c .before .before .loop .inv .1
+
+enum-known-value : tie.Need-enum-known-value Inv-loop μ-loop
+enum-known-value c = search needs
+
+add-t20 : tie.Need-add-t20 Inv-loop μ-loop
+add-t20 c = search needs
+
+add-t21 : tie.Need-add-t21 Inv-loop μ-loop
+add-t21 c = search needs
+
+returns-2 : tie.Need-returns-2 Inv-loop μ-loop
+returns-2 c =
+    let f = c .before .before .before in
+    let i = f .before .before in
+    let m = moved (f .feed .ensures) (c .before .value .given .1) in
+    cell-told (m .1) (going-give (i .before .loop .inv .0) (i .loop-test .taken) (m .0) ∙ asked (i .before .before))
+
+enum-known-state : tie.Need-enum-known-state Inv-loop μ-loop
+enum-known-state c = search needs
+
+add-at : tie.Need-add-at Inv-loop μ-loop
+add-at c = search needs
+
+loop-less : tie.Need-loop-less Inv-loop μ-loop
+loop-less c = search needs
+
+loop-again : tie.Need-loop-again Inv-loop μ-loop
+loop-again c =
+    let f = c .before .before .before in
+    let i = f .before .before in
+    let m = moved (f .feed .ensures) (c .before .state .given .1) in
+    (going-go (i .before .loop .inv .0) (i .loop-test .taken) (m .0), m .1, omega arith)
+
+enum-known-why : tie.Need-enum-known-why Inv-loop μ-loop
+enum-known-why c = search needs
+
+returns-3 : tie.Need-returns-3 Inv-loop μ-loop
+returns-3 c =
+    let f = c .before .before .before in
+    let i = f .before .before in
+    ap (onward cursorOf)
+    (going-bad (i .before .loop .inv .0) (i .loop-test .taken) (moved (f .feed .ensures) (c .before .why .given .1) .0)
+    ∙ asked (i .before .before))
+
+finish-requires : tie.Need-finish-requires Inv-loop μ-loop
+finish-requires c κs = search needs
+
+returns-4 : tie.Need-returns-4 Inv-loop μ-loop
+returns-4 c =
+    let l = c .before .before in
+    ap final (c .finish .ensures) ∙ ap (onward cursorOf) (going-end (l .loop .inv .0) (c .before .loop-test .left) ∙ asked (l .before))
+
+pub step-spec : {M : Type 1} → statement M
+step-spec =
+    tie.close
+    (tie.spec
+    Inv-loop
+    μ-loop
+    over-limit-requires
+    too-long-requires
+    returns
+    lesser-requires
+    settled-requires
+    loop-holds
+    shared-slice-read-feed
+    feed-requires
+    enum-known-value
+    add-t20
+    add-t21
+    returns-2
+    enum-known-state
+    add-at
+    loop-less
+    loop-again
+    enum-known-why
+    returns-3
+    finish-requires
+    returns-4)

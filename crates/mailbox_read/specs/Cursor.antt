@@ -1,0 +1,70 @@
+-- What a cursor's numbers denote, and what a step from any cursor gives.
+use Prim.Native.Nat.{ℕ, _%_, _^_, _<_}
+use mathlib.Core.Bool.{cond}
+use mathlib.Core.Path.{_≡_}
+use mathlib.Core.List.{List}
+use lib.ListN.{length}
+use lib.Dec.{ltb}
+use Rattle.bits.specs.Bits.{bits, number}
+use Rattle.answer.specs.Answer.{numberOf, inNumbers}
+use Rattle.reading.specs.Reading.{Does, give, go, bad}
+use Rattle.reading.specs.Stepping.{Spot, Next, cell, final, onward, nextAt}
+use Rattle.mailbox.specs.Rule.{Shift, outside, opening, run, mailbox}
+use Rattle.mailbox_read.specs.declared.State.{State}
+use Rattle.mailbox_read.specs.declared.State.the-variants.{Outside, Opening, Run}
+use Rattle.mailbox_read.specs.declared.Move.{Move}
+use Rattle.mailbox_read.specs.declared.Move.the-variants.{Give, Go, Bad}
+use Rattle.mailbox_read.specs.declared.Cursor.{Cursor}
+use Rattle.mailbox_read.specs.declared.Stepped.{Stepped}
+use Rattle.mailbox_read.specs.declared.Stepped.the-variants.{Cell, Final}
+
+-- the pending bits that a count and a value denote: of any count, what it leaves by sixteen; of the value, that many of its lowest bits
+abbrev pub shiftOf : State → Shift
+shiftOf (Outside after) = outside after
+shiftOf (Opening after) = opening after
+shiftOf (Run n v) = run (bits (n % 16) v)
+
+abbrev pub stateOf : Shift → State
+stateOf (outside after) = Outside after
+stateOf (opening after) = Opening after
+stateOf (run pending) = Run (length pending) (number pending)
+
+abbrev pub least : ℕ → ℕ → ℕ
+least a b = cond (ltb b a) b a
+
+-- where any cursor stands; it has handed out no more cells than bytes lie before it
+abbrev pub spotOf : Cursor → Spot Shift
+spotOf c = record { at = c .at; handed = least (c .handed) (c .at); state = shiftOf (c .state) }
+
+-- the cursor that stands there
+abbrev pub cursorOf : Spot Shift → Cursor
+cursorOf p = record { at = p .at; handed = p .handed; state = stateOf (p .state) }
+
+-- a step as the documents number it, and the step from any cursor
+abbrev pub told : Stepped → Next Cursor
+told (Cell given) = cell (given .value) (given .next)
+told (Final answer) = final (inNumbers answer)
+
+abbrev pub stepOf : List ℕ → Cursor → Next Cursor
+stepOf text c = onward cursorOf (nextAt mailbox text (spotOf c))
+
+-- numbers that are just those of their bits
+abbrev pub Settled : State → Type 0
+Settled (Outside after) = Unit
+Settled (Opening after) = Unit
+Settled (Run n v) = (n < 16) × (v < 2 ^ n)
+
+abbrev pub SettledMove : Move → Type 0
+SettledMove (Give v st) = Settled st
+SettledMove (Go st) = Settled st
+SettledMove (Bad why) = Unit
+
+abbrev pub doesOf : Move → Does Shift
+doesOf (Give v st) = give v (shiftOf st)
+doesOf (Go st) = go (shiftOf st)
+doesOf (Bad why) = bad (numberOf why)
+
+-- the code's move is what a byte does
+pub record Moves (move : Move) (does : Does Shift) : Type 0 where
+  pub so : doesOf move ≡ does
+  pub settled : SettledMove move

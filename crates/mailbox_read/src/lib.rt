@@ -1,0 +1,338 @@
+// Reading mailbox names: a byte, a cell, and a whole text at a time.
+use answer::Answer;
+use answer::Refusal;
+ghost use mathlib.Core.Path.{_≡_};
+ghost use mathlib.Core.List.{_++_};
+ghost use Prim.Native.Nat.{_<_, _≤_, _^_};
+ghost use lib.ListN.{length};
+ghost use Rattle.bits.specs.Bits.{bits};
+ghost use Rattle.answer.specs.Answer.{inNumbers};
+ghost use Rattle.answer.specs.Output.{leaves, filled};
+ghost use Rattle.reading.specs.Reading.{closing, verdictOf, reading, readInto};
+ghost use Rattle.reading.specs.Stepping.{atStart};
+ghost use Rattle.reading.specs.Matching.{readsAs};
+ghost use Rattle.utf7.specs.Sets.{printable};
+ghost use Rattle.mailbox.specs.Rule.{mailbox, outsideDoes, unitDoes, closeDoes, lowDoes, byteDoes, endsIn};
+ghost use Rattle.mailbox_read.specs.Cursor.{shiftOf, cursorOf, least, told, stepOf, Settled, Moves};
+
+// Where a reader stands to runs.
+pub enum State {
+    // and whether a run was closed directly before
+    Outside(bool),
+    // directly after a '&', and whether a run was closed directly before that
+    Opening(bool),
+    // in a run: how many bits are pending, and their value
+    Run(u32, u32),
+}
+
+// Where a reader stands in its text.
+pub struct Cursor {
+    pub at: usize,
+    // how many cells were handed out
+    pub handed: usize,
+    pub state: State,
+}
+
+pub struct Given {
+    pub value: u32,
+    pub next: Cursor,
+}
+
+// What a step gives: the next cell, or the answer of reading the whole text with room enough.
+pub enum Stepped {
+    Cell(Given),
+    Final(Answer),
+}
+
+// What a byte does.
+pub enum Move {
+    // completes a cell
+    Give(u32, State),
+    Go(State),
+    Bad(Refusal),
+}
+
+fn is_printable(u: u32) -> bool
+    ensures { λ r. ⌜ r ≡ printable u ⌝ }
+{
+    if u < 32 {
+        return false;
+    }
+    u <= 126
+}
+
+// A byte outside a run.
+fn outside(after: bool, b: u8) -> Move
+    ensures { λ r. ⌜ Moves r (outsideDoes after b) ⌝ }
+{
+    if b == 38 {
+        return Move::Go(State::Opening(after));
+    }
+    if is_printable(b as u32) {
+        return Move::Give(b as u32, State::Outside(false));
+    }
+    Move::Bad(Refusal::StrayByte)
+}
+
+// A letter of value x in a run, after n pending bits of value v.
+fn letter(n: u32, v: u32, x: u32) -> Move
+    requires { ⌜ (n < 16) × (v < 2 ^ n) × (x < 64) ⌝ }
+    ensures { λ r. ⌜ Moves r (unitDoes (bits n v ++ bits 6 x)) ⌝ }
+{
+    let all = v * 64 + x;
+    if n < 10 {
+        return Move::Go(State::Run(n + 6, all));
+    }
+    let k = n - 10;
+    let w = bits::power(k);
+    let unit = all / w;
+    if is_printable(unit) {
+        return Move::Bad(Refusal::NeedlessShift);
+    }
+    Move::Give(unit, State::Run(k, all % w))
+}
+
+// The '-' that closes a run with n left-over bits of value v.
+fn close(n: u32, v: u32) -> Move
+    requires { ⌜ v < 2 ^ n ⌝ }
+    ensures { λ r. ⌜ Moves r (closeDoes (bits n v)) ⌝ }
+{
+    if v != 0 {
+        return Move::Bad(Refusal::LeftOverBits);
+    }
+    if n < 6 {
+        return Move::Go(State::Outside(true));
+    }
+    Move::Bad(Refusal::NeedlessShift)
+}
+
+fn low(st: State, b: u8) -> Move
+    requires { ⌜ Settled st ⌝ }
+    ensures { λ r. ⌜ Moves r (lowDoes (shiftOf st) b) ⌝ }
+{
+    let x = base64::value_of(b',', b);
+    match st {
+        State::Outside(after) => outside(after, b),
+        State::Opening(after) => {
+            if x < 64 {
+                if after {
+                    return Move::Bad(Refusal::NeedlessShift);
+                }
+                return letter(0, 0, x);
+            }
+            if b == 45 {
+                return Move::Give(38, State::Outside(false));
+            }
+            Move::Bad(Refusal::LoneSign)
+        }
+        State::Run(n, v) => {
+            if x < 64 {
+                return letter(n, v, x);
+            }
+            if b == 45 {
+                return close(n, v);
+            }
+            Move::Bad(Refusal::StrayByte)
+        }
+    }
+}
+
+// What a byte does in a state.
+fn feed(st: State, b: u8) -> Move
+    requires { ⌜ Settled st ⌝ }
+    ensures { λ r. ⌜ Moves r (byteDoes (shiftOf st) b) ⌝ }
+{
+    if b < 128 {
+        return low(st, b);
+    }
+    Move::Bad(Refusal::HighByte)
+}
+
+// The answer of a text of some size that ends in a state, after some cells.
+fn finish(size: usize, handed: usize, st: State) -> Answer
+    ensures { λ r. ⌜ inNumbers r ≡ closing (endsIn size (shiftOf st)) handed ⌝ }
+{
+    match st {
+        State::Outside(_) => Answer::Accepted(handed),
+        State::Opening(_) => Answer::Refused(Refusal::LoneSign, size),
+        State::Run(_, _) => Answer::Refused(Refusal::CutShort, size),
+    }
+}
+
+// The settled state that means the same.
+fn settled(st: State) -> State
+    ensures { λ r. ⌜ Settled r × (shiftOf r ≡ shiftOf st) ⌝ }
+{
+    match st {
+        State::Outside(after) => State::Outside(after),
+        State::Opening(after) => State::Opening(after),
+        State::Run(n, v) => {
+            let k = n % 16;
+            let w = bits::power(k);
+            State::Run(k, v % w)
+        }
+    }
+}
+
+fn lesser(a: usize, b: usize) -> usize
+    ensures { λ r. ⌜ r ≡ least a b ⌝ }
+{
+    if b < a {
+        return b;
+    }
+    a
+}
+
+// The cursor of a reader that has read nothing.
+pub fn start() -> Cursor
+    ensures { λ r. ⌜ r ≡ cursorOf (atStart mailbox) ⌝ }
+{
+    Cursor {
+        at: 0,
+        handed: 0,
+        state: State::Outside(false),
+    }
+}
+
+// The step from any cursor over a text.
+pub fn step(text: &[u8], c: Cursor) -> Stepped
+    ensures { λ r. ⌜ told r ≡ stepOf (now (text .entry)) c ⌝ }
+{
+    if answer::over_limit(text.len()) {
+        return Stepped::Final(answer::too_long());
+    }
+    let mut at = c.at;
+    let handed = lesser(c.handed, at);
+    let given = c.state;
+    let mut st = settled(given);
+    while at < text.len() {
+        match feed(st, text[at]) {
+            Move::Give(value, state) => {
+                let next = Cursor {
+                    at: at + 1,
+                    handed: handed + 1,
+                    state,
+                };
+                return Stepped::Cell(Given { value, next });
+            }
+            Move::Go(state) => {
+                st = state;
+                at += 1;
+            }
+            Move::Bad(why) => {
+                return Stepped::Final(Answer::Refused(why, at));
+            }
+        }
+    }
+    Stepped::Final(finish(text.len(), handed, st))
+}
+
+// The answer of reading a text with room enough.
+fn count(text: &[u8]) -> Answer
+    ensures { λ r. ⌜ inNumbers r ≡ verdictOf (reading mailbox (now (text .entry))) ⌝ }
+{
+    let mut at: usize = 0;
+    let mut n: usize = 0;
+    let mut st = State::Outside(false);
+    while at < text.len() {
+        match feed(st, text[at]) {
+            Move::Give(_, state) => {
+                st = state;
+                n += 1;
+                at += 1;
+            }
+            Move::Go(state) => {
+                st = state;
+                at += 1;
+            }
+            Move::Bad(why) => {
+                return Answer::Refused(why, at);
+            }
+        }
+    }
+    finish(at, n, st)
+}
+
+// The cells of a text go to the front of the output.
+fn fill(text: &[u8], out: &mut [u32])
+    requires { ⌜ length (reading mailbox (now text) .cells) ≤ length (now out) ⌝ }
+    ensures { λ _. ⌜ now (out .exit) ≡ filled (reading mailbox (now (text .entry)) .cells) (now (out .entry)) ⌝ }
+{
+    let mut at: usize = 0;
+    let mut n: usize = 0;
+    let mut st = State::Outside(false);
+    while at < text.len() {
+        match feed(st, text[at]) {
+            Move::Give(value, state) => {
+                out[n] = value;
+                st = state;
+                n += 1;
+                at += 1;
+            }
+            Move::Go(state) => {
+                st = state;
+                at += 1;
+            }
+            Move::Bad(_) => {
+                return;
+            }
+        }
+    }
+}
+
+// Reads a text into an output. The whole text is judged before a cell is written.
+pub fn read(text: &[u8], out: &mut [u32]) -> Answer
+    ensures { λ r. ⌜ leaves r (now (out .exit)) ≡ readInto mailbox (now (text .entry)) (now (out .entry)) ⌝ }
+{
+    if answer::over_limit(text.len()) {
+        return answer::too_long();
+    }
+    let found = count(text);
+    match found {
+        Answer::Refused(_, _) => {
+            return found;
+        }
+        Answer::Accepted(n) => {
+            if out.len() < n {
+                return Answer::Refused(Refusal::NoRoom, n);
+            }
+            fill(text, out);
+            found
+        }
+    }
+}
+
+// The text is accepted and reads as the cells. Nothing is lent to be written.
+pub fn reads_as(text: &[u8], cells: &[u32]) -> bool
+    ensures { λ r. ⌜ r ≡ readsAs mailbox (now (text .entry)) (now (cells .entry)) ⌝ }
+{
+    let mut at: usize = 0;
+    let mut n: usize = 0;
+    let mut st = State::Outside(false);
+    while at < text.len() {
+        match feed(st, text[at]) {
+            Move::Give(value, state) => {
+                if cells.len() <= n {
+                    return false;
+                }
+                if cells[n] != value {
+                    return false;
+                }
+                st = state;
+                n += 1;
+                at += 1;
+            }
+            Move::Go(state) => {
+                st = state;
+                at += 1;
+            }
+            Move::Bad(_) => {
+                return false;
+            }
+        }
+    }
+    match finish(at, n, st) {
+        Answer::Accepted(_) => n == cells.len(),
+        Answer::Refused(_, _) => false,
+    }
+}
