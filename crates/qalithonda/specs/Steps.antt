@@ -1,18 +1,23 @@
 -- Cursors as they cross to C, and what a host is told of a step.
 use Prim.Native.Nat.{ℕ}
 use mathlib.Core.Bool.{cond}
-use lib.Dec.{eqb}
+use lib.Dec.{ltb, eqb}
 use Rattle.answer.specs.Answer.{Verdict, numbered}
 use Rattle.reading.specs.Stepping.{Next, cell, final}
 use Rattle.utf7_read.specs.declared.State.{State}
 use Rattle.utf7_read.specs.declared.State.the-variants.{Outside, Opening, Run}
 use Rattle.utf7_read.specs.declared.Cursor.{Cursor}
+use Rattle.mailbox_read.specs.declared.State as mailbox-state
+use Rattle.mailbox_read.specs.declared.State.the-variants as name
+use Rattle.mailbox_read.specs.declared.Cursor as mailbox-cursor
 use Rattle.jp2_read.specs.declared.Cursor as jp2-cursor
 use Rattle.jp2_read.specs.declared.Phase.{Phase}
 use Rattle.jp2_read.specs.declared.Phase.the-variants.{Plain, Return, First, Shifted, Escape, Escape1, Escape2}
 use Rattle.qalithonda.specs.Numbers.{verdictIn}
 use Rattle.qalithonda.specs.declared.steps.HostUtf7Cursor.{HostUtf7Cursor}
 use Rattle.qalithonda.specs.declared.steps.HostUtf7Step.{HostUtf7Step}
+use Rattle.qalithonda.specs.declared.steps.HostMailboxCursor.{HostMailboxCursor}
+use Rattle.qalithonda.specs.declared.steps.HostMailboxStep.{HostMailboxStep}
 use Rattle.qalithonda.specs.declared.steps.HostJp2Cursor.{HostJp2Cursor}
 use Rattle.qalithonda.specs.declared.steps.HostJp2Step.{HostJp2Step}
 
@@ -46,6 +51,25 @@ utf7Out c = shiftOut (c .at) (c .handed) (c .state)
 
 abbrev pub utf7Told : HostUtf7Step → Step HostUtf7Cursor
 utf7Told r = record { given = r .given; value = r .cell; verdict = verdictIn (r .answer); next = r .next }
+
+-- mailbox names
+unfoldable pub nameShiftIn : ℕ → ℕ → ℕ → mailbox-state.State
+nameShiftIn shift pending value =
+    cond (ltb shift 2) (name.Outside (eqb shift 1)) (cond (ltb shift 4) (name.Opening (eqb shift 3)) (name.Run pending value))
+
+abbrev pub mailboxIn : HostMailboxCursor → mailbox-cursor.Cursor
+mailboxIn c = record { at = c .at; handed = c .handed; state = nameShiftIn (c .shift) (c .pending) (c .value) }
+
+abbrev pub nameShiftOut : ℕ → ℕ → mailbox-state.State → HostMailboxCursor
+nameShiftOut at handed (name.Outside after) = record { at = at; handed = handed; shift = cond after 1 0; pending = 0; value = 0 }
+nameShiftOut at handed (name.Opening after) = record { at = at; handed = handed; shift = cond after 3 2; pending = 0; value = 0 }
+nameShiftOut at handed (name.Run n v) = record { at = at; handed = handed; shift = 4; pending = n; value = v }
+
+abbrev pub mailboxOut : mailbox-cursor.Cursor → HostMailboxCursor
+mailboxOut c = nameShiftOut (c .at) (c .handed) (c .state)
+
+abbrev pub mailboxTold : HostMailboxStep → Step HostMailboxCursor
+mailboxTold r = record { given = r .given; value = r .cell; verdict = verdictIn (r .answer); next = r .next }
 
 -- JP-2; a phase number above 6 is taken for 6
 unfoldable pub phaseIn : ℕ → ℕ → ℕ → Phase

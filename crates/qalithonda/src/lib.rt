@@ -9,7 +9,8 @@ ghost use Rattle.answer.specs.Answer.{inNumbers};
 ghost use Rattle.reading.specs.Reading.{readInto};
 ghost use Rattle.utf7.specs.Rule.{utf7};
 ghost use Rattle.utf7.specs.Writing.{writeInto};
-ghost use Rattle.utf7.specs.declared.Style.the-variants.{Header, Body};
+ghost use Rattle.utf7.specs.declared.Style.the-variants.{Header, Body, Name};
+ghost use Rattle.mailbox.specs.Rule.{mailbox};
 ghost use Rattle.jp2.specs.Rule.{jp2};
 ghost use Rattle.jp2.specs.Writing as jp2-writing;
 ghost use Rattle.jp2.specs.Tally.{tallyOf};
@@ -49,6 +50,20 @@ pub extern "C" fn qalithonda_utf7_body_write(cells: &[u32], out: &mut [u8]) -> N
     ensures { λ r. ⌜ left r (now (out .exit)) ≡ writeInto Body (now (cells .entry)) (now (out .entry)) ⌝ }
 {
     in_numbers(utf7_write::write(Style::Body, cells, out))
+}
+
+#[no_mangle]
+pub extern "C" fn qalithonda_mailbox_read(text: &[u8], cells: &mut [u32]) -> Numbers
+    ensures { λ r. ⌜ left r (now (cells .exit)) ≡ readInto mailbox (now (text .entry)) (now (cells .entry)) ⌝ }
+{
+    in_numbers(mailbox_read::read(text, cells))
+}
+
+#[no_mangle]
+pub extern "C" fn qalithonda_mailbox_write(cells: &[u32], out: &mut [u8]) -> Numbers
+    ensures { λ r. ⌜ left r (now (out .exit)) ≡ writeInto Name (now (cells .entry)) (now (out .entry)) ⌝ }
+{
+    in_numbers(mailbox_write::write(cells, out))
 }
 
 #[no_mangle]

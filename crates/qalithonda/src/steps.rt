@@ -5,9 +5,11 @@ ghost use mathlib.Core.Path.{_≡_};
 ghost use Rattle.reading.specs.Stepping.{atStart};
 ghost use Rattle.utf7.specs.Rule.{utf7};
 ghost use Rattle.utf7_read.specs.Cursor as u;
+ghost use Rattle.mailbox.specs.Rule.{mailbox};
+ghost use Rattle.mailbox_read.specs.Cursor as m;
 ghost use Rattle.jp2.specs.Rule.{jp2};
 ghost use Rattle.jp2_read.specs.Cursor as j;
-ghost use Rattle.qalithonda.specs.Steps.{shiftIn, utf7In, utf7Out, utf7Told, phaseIn, jp2In, phasedAt, jp2Out, jp2Told, handedOn};
+ghost use Rattle.qalithonda.specs.Steps.{shiftIn, utf7In, utf7Out, utf7Told, nameShiftIn, mailboxIn, mailboxOut, mailboxTold, phaseIn, jp2In, phasedAt, jp2Out, jp2Told, handedOn};
 
 // A place in a UTF-7 text: its shift is 0 outside runs, 1 after a '+', else in a run with its pending bits, their count and value.
 #[repr(C)]
@@ -26,6 +28,25 @@ pub struct HostUtf7Step {
     pub cell: u32,
     pub answer: Numbers,
     pub next: HostUtf7Cursor,
+}
+
+// A place in a mailbox name: its shift is 0 outside runs, 1 there directly after a run, 2 after a '&', 3 after a '&' directly after a
+// run, else in a run with its pending bits, their count and value.
+#[repr(C)]
+pub struct HostMailboxCursor {
+    pub at: usize,
+    pub handed: usize,
+    pub shift: u32,
+    pub pending: u32,
+    pub value: u32,
+}
+
+#[repr(C)]
+pub struct HostMailboxStep {
+    pub given: u32,
+    pub cell: u32,
+    pub answer: Numbers,
+    pub next: HostMailboxCursor,
 }
 
 // A place in a JP-2 text: the sets in G0 and G2 (0: none), and the phase with its bytes: 0 between cells, 1 after a CR, 2 after
@@ -134,6 +155,99 @@ pub extern "C" fn qalithonda_utf7_step(text: &[u8], cursor: HostUtf7Cursor) -> H
         utf7_read::Stepped::Final(why) => {
             let answer = in_numbers(why);
             HostUtf7Step {
+                given: 0,
+                cell: 0,
+                answer,
+                next: cursor,
+            }
+        }
+    }
+}
+
+// Mailbox names
+
+fn name_shift_in(shift: u32, pending: u32, value: u32) -> mailbox_read::State
+    ensures { λ r. ⌜ r ≡ nameShiftIn shift pending value ⌝ }
+{
+    if shift < 2 {
+        return mailbox_read::State::Outside(shift == 1);
+    }
+    if shift < 4 {
+        return mailbox_read::State::Opening(shift == 3);
+    }
+    mailbox_read::State::Run(pending, value)
+}
+
+fn mailbox_cursor_in(c: HostMailboxCursor) -> mailbox_read::Cursor
+    ensures { λ r. ⌜ r ≡ mailboxIn c ⌝ }
+{
+    let state = name_shift_in(c.shift, c.pending, c.value);
+    mailbox_read::Cursor {
+        at: c.at,
+        handed: c.handed,
+        state,
+    }
+}
+
+fn mailbox_cursor_out(c: mailbox_read::Cursor) -> HostMailboxCursor
+    ensures { λ r. ⌜ r ≡ mailboxOut c ⌝ }
+{
+    let at = c.at;
+    let handed = c.handed;
+    let state = c.state;
+    match state {
+        mailbox_read::State::Outside(after) => HostMailboxCursor {
+            at,
+            handed,
+            shift: after as u32,
+            pending: 0,
+            value: 0,
+        },
+        mailbox_read::State::Opening(after) => HostMailboxCursor {
+            at,
+            handed,
+            shift: 2 + after as u32,
+            pending: 0,
+            value: 0,
+        },
+        mailbox_read::State::Run(pending, value) => HostMailboxCursor {
+            at,
+            handed,
+            shift: 4,
+            pending,
+            value,
+        },
+    }
+}
+
+#[no_mangle]
+pub extern "C" fn qalithonda_mailbox_start() -> HostMailboxCursor
+    ensures { λ r. ⌜ r ≡ mailboxOut (m.cursorOf (atStart mailbox)) ⌝ }
+{
+    mailbox_cursor_out(mailbox_read::start())
+}
+
+#[no_mangle]
+pub extern "C" fn qalithonda_mailbox_step(text: &[u8], cursor: HostMailboxCursor) -> HostMailboxStep
+    ensures { λ r. ⌜ mailboxTold r ≡ handedOn mailboxOut cursor (m.stepOf (now (text .entry)) (mailboxIn cursor)) ⌝ }
+{
+    let found = mailbox_read::step(text, mailbox_cursor_in(cursor));
+    match found {
+        mailbox_read::Stepped::Cell(handed) => {
+            let next = mailbox_cursor_out(handed.next);
+            HostMailboxStep {
+                given: 1,
+                cell: handed.value,
+                answer: Numbers {
+                    number: 0,
+                    place: 0,
+                },
+                next,
+            }
+        }
+        mailbox_read::Stepped::Final(why) => {
+            let answer = in_numbers(why);
+            HostMailboxStep {
                 given: 0,
                 cell: 0,
                 answer,
