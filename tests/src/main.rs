@@ -1,6 +1,6 @@
 //! Compares the built programs with the second program and with the examples of the papers.
 //!
-//! Run it from the root of the repository, after the listers and libqalithonda.a are built. Arguments choose parts of
+//! Run it from the root of the repository, after the listers, desk and libqalithonda.a are built. Arguments choose parts of
 //! it by name. The last line is `N passed, M failed`.
 
 mod calls;

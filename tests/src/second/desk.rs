@@ -1,5 +1,6 @@
-//! The program `desk`. It is no part of document 01 but for its page: quotations in comments are sentences of DESK.md,
-//! which README.md has as the part on `desk`. Where that is silent, a comment says what is taken.
+//! The program `desk`. Of document 01 it has the page and the listers' style; quotations in comments are sentences of
+//! docs/DESK.md, which tells the rest and is README.md's part on `desk`. It was written without a look at the proved code.
+//! Where docs/DESK.md is silent, a comment says what is taken.
 
 use super::files::{Errno, Files};
 use super::page::{self, Page, State};
@@ -67,17 +68,17 @@ pub fn kind_word(kind: Kind) -> &'static str {
 /// How the answers are counted: those of an opened letter by kind, and those of each command.
 pub fn open_name(kind: Kind) -> &'static str {
     match kind {
-        Kind::Utf7Header => "desk utf7h",
-        Kind::Utf7Body => "desk utf7b",
-        Kind::Jp2 => "desk jp2",
+        Kind::Utf7Header => "desk-utf7h",
+        Kind::Utf7Body => "desk-utf7b",
+        Kind::Jp2 => "desk-jp2",
     }
 }
 
-pub const SHOW: &str = "desk, show";
-pub const REPLACE: &str = "desk, replace";
-pub const UNDO: &str = "desk, undo";
-pub const REDO: &str = "desk, redo";
-pub const SAVE: &str = "desk, save";
+pub const SHOW: &str = "desk-show";
+pub const REPLACE: &str = "desk-replace";
+pub const UNDO: &str = "desk-undo";
+pub const REDO: &str = "desk-redo";
+pub const SAVE: &str = "desk-save";
 
 /// "FILE longer than 4,096 bytes"
 const LONGEST_LETTER_NAME: usize = 4_096;
@@ -198,8 +199,8 @@ fn trimmed(bytes: &[u8]) -> &[u8] {
 /// A number in this base that is "at most 4294967295". Taken: decimal numbers have any number of leading zeros too.
 fn number(word: &[u8], base: u32) -> Option<u32> {
     let digits: Vec<u32> = word.iter().map(|&byte| char::from(byte).to_digit(base)).collect::<Option<_>>()?;
-    let without_zeros = digits.into_iter().skip_while(|&digit| digit == 0);
-    without_zeros.into_iter().try_fold(0u32, |number, digit| number.checked_mul(base)?.checked_add(digit))
+    let mut without_zeros = digits.into_iter().skip_while(|&digit| digit == 0);
+    without_zeros.try_fold(0u32, |number, digit| number.checked_mul(base)?.checked_add(digit))
 }
 
 /// Its page, the letter as it arrived, and the files as they are.
@@ -259,7 +260,7 @@ impl Desk {
         if name.len() > LONGEST_NAME {
             return Told::Complaint(Complaint::NameTooLong);
         }
-        let saved = page::left(&self.state, &Call::Save { arrived: self.arrived.clone(), room: ROOM }, &[0; ROOM]);
+        let saved = page::left(&self.state, &Call::Save { arrived: self.arrived.clone(), room: ROOM }, &vec![0; ROOM]);
         // "Refused: the answer is told, no file is touched."
         if saved.answer.number != 0 {
             return Told::Answer(SAVE, saved.answer);
@@ -287,6 +288,7 @@ impl Desk {
 mod tests {
     use super::*;
     use crate::examples::desk as examples;
+    use crate::second::files::EINVAL;
 
     #[test]
     fn tells_and_leaves_what_is_written_out_by_hand() {
@@ -334,7 +336,7 @@ mod tests {
     #[test]
     fn a_name_with_a_nul_is_of_no_file() {
         let name = b"a\0b.new".to_vec();
-        assert_eq!(told(b"save a\0b\n"), Told::Complaint(Complaint::New(name, crate::second::files::EINVAL)));
+        assert_eq!(told(b"save a\0b\n"), Told::Complaint(Complaint::New(name, EINVAL)));
     }
 
     #[test]
@@ -344,7 +346,7 @@ mod tests {
             let arguments = vec![b"jp2".to_vec(), b"letter".to_vec()];
             let end = run(&Start { arguments, files, umask: 0, input: vec![] });
             let (number, place) = answer;
-            assert_eq!(end.told, [Told::Answer("desk jp2", Answer { number, place })]);
+            assert_eq!(end.told, [Told::Answer("desk-jp2", Answer { number, place })]);
         }
     }
 }

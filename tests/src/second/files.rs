@@ -93,7 +93,7 @@ impl Files {
         if name.is_empty() {
             return Err(ENOENT);
         }
-        // No name that the system can be handed has this byte.
+        // docs/DESK.md is silent. Taken: a name that the system cannot be handed is an argument that it would not take.
         if name.contains(&0) {
             return Err(EINVAL);
         }

@@ -83,7 +83,7 @@ fn grown(kind: Kind) -> Script {
 
 /// Lines about as long as can be and longer, all in one script; and scripts that end in such a line, without LF.
 pub fn lines(kind: Kind) -> Vec<Script> {
-    let lengths = [-1, 0, 1, 2].map(|off| LONGEST_LINE.strict_add_signed(off));
+    let lengths = [LONGEST_LINE - 1, LONGEST_LINE, LONGEST_LINE + 1, LONGEST_LINE + 2];
     let longer = [70_000, 2 * LIMIT - 1, 2 * LIMIT, 2 * LIMIT + 1, 200_000];
     let all = lengths.into_iter().chain(longer).flat_map(|length| long_lines(kind, length));
     let lines = all.flat_map(|line| ended([&line[..], b"show"])).collect();
@@ -121,8 +121,11 @@ pub fn names(kind: Kind) -> Vec<Script> {
     let long = LONG_NAMES.iter().map(|&length| long_name(length));
     let lines = NAMES.iter().map(|name| name.to_vec()).chain(long).map(|name| [b"save ", &name[..]].concat());
     let alone = on_letter(kind, "letter", "letter", b"ab".to_vec(), &[]);
+    // What is saved over the letter is not what arrived.
+    let over_the_letter = ["replace 0 1", "save letter", "undo", "save out", "redo", "undo", "save letter"];
     vec![
         script(kind, b"ab", ended(lines)),
+        script(kind, b"ab", ended(over_the_letter)),
         Script { lines: ended(["save sub/out", "save sub", "save sub/out", "save busy"]), ..alone },
     ]
 }

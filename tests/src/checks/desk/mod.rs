@@ -73,10 +73,10 @@ fn check_kind(report: &mut Report, kind: Kind, seed: u64) {
     expect_statuses(report, kind);
 }
 
-/// The statuses that scripts can be told. The buffers hold what any letter is read as, so that no open is 9; a line has
-/// less than 65,536 cells, so that no replace is 16; the page is always that of the last call and the letter that which
-/// was opened, so that nothing is 14 or 15; all cells are writable, and all that is written has room, so that each save
-/// is accepted.
+/// The statuses that scripts can be told. These they cannot: 9 of open, for no letter within the limit has more cells
+/// than the text buffer; 16 of all but open, for the buffers and the letter are within the limit, and no line has room
+/// for so many cells; 14, for each call is lent what the last one left; 15, for save is lent the letter that was opened;
+/// 10 and 9 of save, for all that is read or added is writable, and the output has room for the longest writing.
 fn expect_statuses(report: &mut Report, kind: Kind) {
     report.expect_statuses(second::open_name(kind), &formats::of_kind(kind).statuses(&[0, 16]));
     report.expect_statuses(second::SHOW, &[0]);
@@ -86,7 +86,7 @@ fn expect_statuses(report: &mut Report, kind: Kind) {
     report.expect_statuses(second::SAVE, &[0]);
 }
 
-/// What scripts can be complained of, and the errors of the system that names in them can cause.
+/// What can be complained of in scripts, and the errors of the system that names in them can cause.
 const COMPLAINTS: [&str; 14] = [
     "line too long",
     "no such command",

@@ -135,7 +135,7 @@ impl Draft {
 
     /// Adds a run of undo or of redo, or of one and then of the other; some go on past the end.
     fn add_turns(&mut self, rng: &mut Rng) {
-        let calls = rng.pick(&[[Call::Undo, Call::Redo], [Call::Redo, Call::Undo]].each_ref());
+        let calls = if rng.one_in(2) { [Call::Undo, Call::Redo] } else { [Call::Redo, Call::Undo] };
         for call in calls.iter().take(rng.between(1, 2)) {
             let steps = self.ledger.as_ref().map_or(0, |ledger| match call {
                 Call::Undo => ledger.standing.len(),
@@ -160,17 +160,16 @@ impl Draft {
 
     /// A line that is right but for one byte, or is right all the same.
     fn damaged(&self, rng: &mut Rng) -> Vec<u8> {
-        let right = match rng.below(6) {
-            0 => b"show".to_vec(),
-            1 => b"undo".to_vec(),
-            2 => b"redo".to_vec(),
-            3 => b"save out".to_vec(),
+        let mut damaged = match rng.below(6) {
+            0..=3 => {
+                let right: &[u8] = rng.pick(&[b"show", b"undo", b"redo", b"save out"]);
+                line(rng, &[right.to_vec()])
+            }
             _ => {
                 let cells = cells(rng, texts::of_kind(self.kind));
                 replace_line(rng, 0, 0, &cells)
             }
         };
-        let mut damaged = line(rng, &[right]);
         // Of these bytes none makes a name that leads out of the folder.
         let byte = rng.pick(b"   \t\t\r\n\n\0\x0B\x0C\x80\xFF0099AFGafgsx+-:@`");
         let place = rng.below(damaged.len());

@@ -4,8 +4,8 @@ use std::io::{Read, Write};
 use std::os::unix::process::ExitStatusExt;
 use std::process::{Child, Command, Stdio};
 use std::sync::mpsc::{self, Receiver, Sender};
-use std::thread;
 use std::time::{Duration, Instant};
+use std::{mem, thread};
 
 use crate::trial::quote;
 
@@ -93,9 +93,9 @@ impl Session {
         }
     }
 
-    /// Waits for a while, in which it must not write anything.
-    pub fn expect_silence(&mut self, while_: Duration) -> Result<(), String> {
-        let patience = std::mem::replace(&mut self.patience, while_);
+    /// Waits so long, in which it must not write anything.
+    pub fn expect_silence(&mut self, time: Duration) -> Result<(), String> {
+        let patience = mem::replace(&mut self.patience, time);
         self.wait(|session| session.output.has(b"?") || session.errors.has(b"?"));
         self.patience = patience;
         self.nothing_more()

@@ -24,7 +24,7 @@ pub fn run(report: &mut Report, desk: &Desk) {
             try_examples(transcripts, |transcript| desk.compare_transcript(transcript, desk.umask, first))
         });
     };
-    check("open-files", "many saves where one file can be open at a time", &[many_saves()], "ulimit -n 4");
+    check("open-files", "more saves than files can be open at a time", &[many_saves()], "ulimit -n 16");
     // A write beyond the limit then fails, and is no reason to be ended by a signal.
     let limit = "trap '' XFSZ && ulimit -f 1";
     check("full", "saves of which only the first bytes can be written", &[too_large()], limit);
@@ -53,8 +53,8 @@ fn two_saves() -> Transcript {
 }
 
 fn many_saves() -> Transcript {
-    let told = "status=0\ncount=3\n".repeat(9);
-    Transcript { saved: vec![("old", "abc")], ..transcript("many saves", "abc", &"save old\n".repeat(8), &told) }
+    let told = "status=0\ncount=3\n".repeat(21);
+    Transcript { saved: vec![("old", "abc")], ..transcript("many saves", "abc", &"save old\n".repeat(20), &told) }
 }
 
 /// What is saved is too large, at first.
