@@ -25,10 +25,10 @@ pub put-as : {text out₀ out todo todo' : List ℕ} {at : ℕ} → todo ≡ tod
 put-as e p = record { room = p .room; upto = p .upto; left = p .left ∙ e; front = p .front; same = p .same }
 
 -- what stands first in a list from a place on stands at the place
-pub head-at : (l r : List ℕ) (at x : ℕ) → drop at l ≡ x ∷ r → getD l at 0 ≡ x
-head-at l r at x e = rw add-zero at (sym (getD-drop at l 0 0)) ∙ ap (λ (k : List ℕ). getD k 0 0) e
+pub head-at : {A : Type 0} (l r : List A) (at : ℕ) (x d : A) → drop at l ≡ x ∷ r → getD l at d ≡ x
+head-at {A} l r at x d e = rw add-zero at (sym (getD-drop at l 0 d)) ∙ ap (λ (k : List A). getD k 0 d) e
 
-pub tail-at : (l r : List ℕ) (at x : ℕ) → drop at l ≡ x ∷ r → drop (at + 1) l ≡ r
+pub tail-at : {A : Type 0} (l r : List A) (at : ℕ) (x : A) → drop at l ≡ x ∷ r → drop (at + 1) l ≡ r
 tail-at l r at x e = sym (drop-drop 1 at l) ∙ ap (drop 1) e
 
 -- one element more
@@ -55,7 +55,7 @@ module _ {text out₀ out r : List ℕ} {at x : ℕ} (p : Put text out₀ out at
         room = p .room;
         upto = omega (arith, put-in);
         left = tail-at text r at x (p .left);
-        front = rw (p .front) (put-more text out₀ at x put-in (omega (arith, put-in, p .room)) (head-at text r at x (p .left)));
+        front = rw (p .front) (put-more text out₀ at x put-in (omega (arith, put-in, p .room)) (head-at text r at x 0 (p .left)));
         same = simp length-set (p .same);
       }
 

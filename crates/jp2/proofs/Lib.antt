@@ -4,6 +4,7 @@ pub mod Table
 pub mod Sets
 pub mod Rows
 pub mod Kept
+pub mod Spans
 pub mod Ends
 pub mod Round
 pub mod Size

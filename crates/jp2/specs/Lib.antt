@@ -1,5 +1,6 @@
 pub mod Table
 pub mod Rule
+pub mod Spans
 pub mod Writable
 pub mod Writing
 pub mod Tally

@@ -10,6 +10,7 @@ use borrow.Author.Tests.{le-ltb, ltb-false, ne-eqb}
 use Rattle.answer.proofs.Below.{cond-case}
 use Rattle.reading.specs.Reading.{Does}
 use Rattle.reading.specs.Stepping.{Spot, Next, cell, onward}
+use Rattle.reading.specs.declared.Marked.{Marked}
 use Rattle.jp2.specs.Table.{begins, isList}
 use Rattle.jp2.specs.Rule as rule
 use Rattle.jp2.specs.Rule.{plain, return, first, shifted, escape}
@@ -31,8 +32,8 @@ phase-back (Escape2 x y) = refl
 
 -- a step's cell is the definition's
 pub cell-told :
-    {value at handed : ℕ} {st : State} {x : Next (Spot rule.State)} → cell value (record { at = at; handed = handed; state = stateOf st }) ≡ x →
-    cell value (record { at = at; handed = handed; state = st }) ≡ onward cursorOf x
+    {m : Marked} {at handed : ℕ} {st : State} {x : Next (Spot rule.State)} → cell m (record { at = at; handed = handed; state = stateOf st }) ≡ x →
+    cell m (record { at = at; handed = handed; state = st }) ≡ onward cursorOf x
 cell-told {st = st} e = rw (← e, phase-back (st .phase))
 
 -- what an arm that found the move `m` knows

@@ -8,6 +8,7 @@ use Rattle.reading.specs.Reading.{Does, give, go, bad}
 use Rattle.reading.specs.Stepping.{Spot, Next, cell, final, onward, nextAt}
 use Rattle.jp2.specs.Rule as rule
 use Rattle.jp2.specs.Rule.{plain, return, first, shifted, escape, jp2}
+use Rattle.jp2.specs.Spans.{spanIn}
 use Rattle.jp2_read.specs.declared.Phase.{Phase}
 use Rattle.jp2_read.specs.declared.Phase.the-variants.{Plain, Return, First, Shifted, Escape, Escape1, Escape2}
 use Rattle.jp2_read.specs.declared.State.{State}
@@ -60,11 +61,11 @@ cursorOf p = record { at = p .at; handed = p .handed; state = stateFor (p .state
 
 -- a step as document 01 numbers it, and the step from any cursor
 abbrev pub told : Stepped → Next Cursor
-told (Cell given) = cell (given .value) (given .next)
+told (Cell given) = cell (given .cell) (given .next)
 told (Final answer) = final (inNumbers answer)
 
 abbrev pub stepOf : List ℕ → Cursor → Next Cursor
-stepOf text c = onward cursorOf (nextAt jp2 text (spotOf c))
+stepOf text c = onward cursorOf (nextAt jp2 spanIn text (spotOf c))
 
 -- the code's move as what a byte does
 abbrev pub doesOf : Move → Does rule.State

@@ -1,6 +1,7 @@
 // Reading ISO-2022-JP-2: a byte, a cell, and a whole text at a time.
 use answer::Answer;
 use answer::Refusal;
+use reading::Marked;
 ghost use mathlib.Core.Path.{_≡_};
 ghost use mathlib.Core.Bool.{cond, _&&_};
 ghost use mathlib.Core.List.{[], _∷_};
@@ -10,10 +11,12 @@ ghost use lib.Dec.{eqb};
 ghost use Rattle.answer.specs.Answer.{inNumbers};
 ghost use Rattle.answer.specs.Output.{leaves, filled};
 ghost use Rattle.reading.specs.Reading.{closing, verdictOf, reading, readInto};
+ghost use Rattle.reading.specs.Spans.{Takes};
 ghost use Rattle.reading.specs.Stepping.{atStart};
 ghost use Rattle.reading.specs.Matching.{readsAs};
 ghost use Rattle.jp2.specs.Table.{rowAt, isList};
 ghost use Rattle.jp2.specs.Rule.{plain, return, graphic, designated, inPhase, endPhase, jp2, singleDoes, firstDoes, secondDoes, betweenDoes, shiftedDoes, escapeDoes, byteDoes, endsIn};
+ghost use Rattle.jp2.specs.Spans.{phaseSpan};
 ghost use Rattle.jp2_read.specs.Cursor.{phaseOf, stateOf, inEscape, stateFor, doesOf, cursorOf, least, told, stepOf};
 
 // Where a reader stands to cells and escapes.
@@ -47,8 +50,9 @@ pub struct Cursor {
     pub state: State,
 }
 
+// A cell with its bytes, and where the next step starts.
 pub struct Given {
-    pub value: u32,
+    pub cell: Marked,
     pub next: Cursor,
 }
 
@@ -333,6 +337,22 @@ fn lesser(a: usize, b: usize) -> usize
     a
 }
 
+// How many bytes the cell has that a byte in this phase completes.
+fn width(st: State) -> usize
+    ensures { λ r. ⌜ Takes (phaseSpan (phaseOf (st .phase))) r ⌝ }
+{
+    let phase = st.phase;
+    match phase {
+        Phase::Plain => 1,
+        Phase::Return => 1,
+        Phase::First(_) => 2,
+        Phase::Shifted => 3,
+        Phase::Escape => 1,
+        Phase::Escape1(_) => 1,
+        Phase::Escape2(_, _) => 1,
+    }
+}
+
 // The state at the start of a text.
 fn begin() -> State
     ensures { λ r. ⌜ r ≡ stateFor (jp2 .start) ⌝ }
@@ -366,14 +386,16 @@ pub fn step(text: &[u8], c: Cursor) -> Stepped
     let handed = lesser(c.handed, at);
     let mut st = c.state;
     while at < text.len() {
-        match feed(st, text[at]) {
+        let b = text[at];
+        match feed(st, b) {
             Move::Give(value, state) => {
+                let cell = reading::mark(value, width(st), at + 1);
                 let next = Cursor {
                     at: at + 1,
                     handed: handed + 1,
                     state,
                 };
-                return Stepped::Cell(Given { value, next });
+                return Stepped::Cell(Given { cell, next });
             }
             Move::Go(state) => {
                 st = state;

@@ -1,5 +1,6 @@
 pub mod Kept
 pub mod Round
+pub mod Spans
 pub mod ReadsBack
 pub mod OneSpelling
 pub mod Cases

@@ -30,11 +30,11 @@ abbrev pub Other : ℕ → Type 0
 Other u = printable u ≡ false
 
 -- what a letter does in a run; after a '&' it does the same as in a run without pending bits
-letter-runs : (p : List Bool) (b : ℕ) → setB comma b ≡ true → byteDoes (run p) b ≡ unitDoes (p ++ bits 6 (valueOf comma b))
+pub letter-runs : (p : List Bool) (b : ℕ) → setB comma b ≡ true → byteDoes (run p) b ≡ unitDoes (p ++ bits 6 (valueOf comma b))
 unfolding byteDoes lowDoes
 letter-runs p b h = simp (lt-ltb b 128 (value-low comma comma-sign b h), h)
 
-letter-opens : (b : ℕ) → setB comma b ≡ true → byteDoes (opening false) b ≡ byteDoes (run []) b
+pub letter-opens : (b : ℕ) → setB comma b ≡ true → byteDoes (opening false) b ≡ byteDoes (run []) b
 unfolding byteDoes lowDoes
 letter-opens b h = simp (lt-ltb b 128 (value-low comma comma-sign b h), h)
 

@@ -15,6 +15,7 @@ use Rattle.bits.specs.Bits.{bits, number}
 use Rattle.bits.proofs.Bits.{length-bits, number-bits, bits-append, bits-take, bits-drop, bits-mod, zero-bits, spelled}
 use Rattle.reading.specs.Reading.{Does, go, bad}
 use Rattle.reading.specs.Stepping.{Spot, Next, cell, onward}
+use Rattle.reading.specs.declared.Marked.{Marked}
 use Rattle.utf7.specs.Sets.{printable}
 use Rattle.mailbox.specs.Rule.{Shift, outside, opening, run, givesUnit, unitDoes, closeDoes}
 use Rattle.mailbox.proofs.Kept.{SoundShift}
@@ -99,8 +100,8 @@ closed n v h = rw (zero-bits n v h, length-bits n v)
 
 -- a step's cell, at a settled state, is the definition's
 pub cell-told :
-    {value at handed : ℕ} {st : State} {x : Next (Spot Shift)} → Settled st → cell value (record { at = at; handed = handed; state = shiftOf st }) ≡ x →
-    cell value (record { at = at; handed = handed; state = st }) ≡ onward cursorOf x
+    {m : Marked} {at handed : ℕ} {st : State} {x : Next (Spot Shift)} → Settled st → cell m (record { at = at; handed = handed; state = shiftOf st }) ≡ x →
+    cell m (record { at = at; handed = handed; state = st }) ≡ onward cursorOf x
 cell-told {st = st} h e = rw (← e, settled-back st h)
 
 pub least-at : (a b : ℕ) → least a b ≤ b

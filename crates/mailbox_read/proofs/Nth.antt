@@ -5,17 +5,19 @@ use mathlib.Core.List.{List}
 use lib.ListN.{length, getD}
 use Rattle.answer.specs.Answer.{limit, tooLong}
 use Rattle.reading.specs.Reading.{verdictOf, reading}
+use Rattle.reading.specs.Spans.{noMark, markedIn}
 use Rattle.reading.specs.Stepping.{cell, final}
 use Rattle.reading.proofs.Cursors as cursors
 use Rattle.reading.proofs.Cursors.{Cursors, cursorAfter}
 use Rattle.mailbox.specs.Rule.{mailbox}
+use Rattle.mailbox.specs.Spans.{spanIn}
 use Rattle.utf7.specs.Writing.{IsUnit}
 use Rattle.mailbox.proofs.Kept.{SoundShift, mailbox-kept}
 use Rattle.mailbox_read.specs.Cursor.{spotOf, cursorOf, stepOf}
 use Rattle.mailbox_read.specs.declared.Cursor.{Cursor}
 use Rattle.mailbox_read.proofs.Moves.{settled-cursor}
 
-abbrev pub mailbox-cursors : Cursors mailbox Cursor
+abbrev pub mailbox-cursors : Cursors mailbox spanIn Cursor
 mailbox-cursors =
     record {
       Sound = SoundShift;
@@ -32,7 +34,7 @@ module _ (text : List ℕ) where
   after n = cursorAfter mailbox-cursors text n
 
   pub step-cell :
-      length text ≤ limit → (n : ℕ) → n < length (reading mailbox text .cells) → stepOf text (after n) ≡ cell (getD (reading mailbox text .cells) n 0) (after (suc n))
+      length text ≤ limit → (n : ℕ) → n < length (reading mailbox text .cells) → stepOf text (after n) ≡ cell (getD (markedIn mailbox spanIn text) n noMark) (after (suc n))
   step-cell = cursors.step-cell mailbox-cursors text
 
   pub step-final : length text ≤ limit → (n : ℕ) → length (reading mailbox text .cells) ≤ n → stepOf text (after n) ≡ final (verdictOf (reading mailbox text))

@@ -10,6 +10,7 @@ use Rattle.answer.specs.Answer.{numberOf, inNumbers}
 use Rattle.reading.specs.Reading.{Does, give, go, bad}
 use Rattle.reading.specs.Stepping.{Spot, Next, cell, final, onward, nextAt}
 use Rattle.mailbox.specs.Rule.{Shift, outside, opening, run, mailbox}
+use Rattle.mailbox.specs.Spans.{spanIn}
 use Rattle.mailbox_read.specs.declared.State.{State}
 use Rattle.mailbox_read.specs.declared.State.the-variants.{Outside, Opening, Run}
 use Rattle.mailbox_read.specs.declared.Move.{Move}
@@ -42,11 +43,11 @@ cursorOf p = record { at = p .at; handed = p .handed; state = stateOf (p .state)
 
 -- a step as the documents number it, and the step from any cursor
 abbrev pub told : Stepped → Next Cursor
-told (Cell given) = cell (given .value) (given .next)
+told (Cell given) = cell (given .cell) (given .next)
 told (Final answer) = final (inNumbers answer)
 
 abbrev pub stepOf : List ℕ → Cursor → Next Cursor
-stepOf text c = onward cursorOf (nextAt mailbox text (spotOf c))
+stepOf text c = onward cursorOf (nextAt mailbox spanIn text (spotOf c))
 
 -- numbers that are just those of their bits
 abbrev pub Settled : State → Type 0

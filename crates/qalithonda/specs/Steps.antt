@@ -3,6 +3,8 @@ use Prim.Native.Nat.{ℕ}
 use mathlib.Core.Bool.{cond}
 use lib.Dec.{ltb, eqb}
 use Rattle.answer.specs.Answer.{Verdict, numbered}
+use Rattle.reading.specs.Spans.{noMark}
+use Rattle.reading.specs.declared.Marked.{Marked}
 use Rattle.reading.specs.Stepping.{Next, cell, final}
 use Rattle.utf7_read.specs.declared.State.{State}
 use Rattle.utf7_read.specs.declared.State.the-variants.{Outside, Opening, Run}
@@ -21,17 +23,17 @@ use Rattle.qalithonda.specs.declared.steps.HostMailboxStep.{HostMailboxS
 use Rattle.qalithonda.specs.declared.steps.HostJp2Cursor.{HostJp2Cursor}
 use Rattle.qalithonda.specs.declared.steps.HostJp2Step.{HostJp2Step}
 
--- what a host is told of a step: whether a cell is given, the cell (else 0), the answer (0 and 0 while cells are given), the next cursor
+-- what a host is told of a step: whether a cell is given, the cell with its bytes (else zeros), the answer (0 and 0 while cells are given), the next cursor
 pub record Step (C : Type 0) : Type 0 where
   pub given : ℕ
-  pub value : ℕ
+  pub marked : Marked
   pub verdict : Verdict
   pub next : C
 
 -- a step as a host is told of it; after the last cell its own cursor is given back
 abbrev pub handedOn : {P C : Type 0} → (P → C) → C → Next P → Step C
-handedOn out own (cell v p) = record { given = 1; value = v; verdict = numbered 0 0; next = out p }
-handedOn out own (final verdict) = record { given = 0; value = 0; verdict = verdict; next = own }
+handedOn out own (cell m p) = record { given = 1; marked = m; verdict = numbered 0 0; next = out p }
+handedOn out own (final verdict) = record { given = 0; marked = noMark; verdict = verdict; next = own }
 
 -- UTF-7
 unfoldable pub shiftIn : ℕ → ℕ → ℕ → State
@@ -50,7 +52,7 @@ abbrev pub utf7Out : Cursor → HostUtf7Cursor
 utf7Out c = shiftOut (c .at) (c .handed) (c .state)
 
 abbrev pub utf7Told : HostUtf7Step → Step HostUtf7Cursor
-utf7Told r = record { given = r .given; value = r .cell; verdict = verdictIn (r .answer); next = r .next }
+utf7Told r = record { given = r .given; marked = record { value = r .cell; begin = r .begin; end = r .end }; verdict = verdictIn (r .answer); next = r .next }
 
 -- mailbox names
 unfoldable pub nameShiftIn : ℕ → ℕ → ℕ → mailbox-state.State
@@ -69,7 +71,7 @@ abbrev pub mailboxOut : mailbox-cursor.Cursor → HostMailboxCursor
 mailboxOut c = nameShiftOut (c .at) (c .handed) (c .state)
 
 abbrev pub mailboxTold : HostMailboxStep → Step HostMailboxCursor
-mailboxTold r = record { given = r .given; value = r .cell; verdict = verdictIn (r .answer); next = r .next }
+mailboxTold r = record { given = r .given; marked = record { value = r .cell; begin = r .begin; end = r .end }; verdict = verdictIn (r .answer); next = r .next }
 
 -- JP-2; a phase number above 6 is taken for 6
 unfoldable pub phaseIn : ℕ → ℕ → ℕ → Phase
@@ -114,4 +116,4 @@ abbrev pub jp2Out : jp2-cursor.Cursor → HostJp2Cursor
 jp2Out c = phaseOut c (c .state .phase)
 
 abbrev pub jp2Told : HostJp2Step → Step HostJp2Cursor
-jp2Told r = record { given = r .given; value = r .cell; verdict = verdictIn (r .answer); next = r .next }
+jp2Told r = record { given = r .given; marked = record { value = r .cell; begin = r .begin; end = r .end }; verdict = verdictIn (r .answer); next = r .next }

@@ -21,11 +21,13 @@ pub struct HostUtf7Cursor {
     pub value: u32,
 }
 
-// A step: 1 and the cell, or 0 and the final answer; and the cursor for the next step.
+// A step: 1, the cell and where its bytes begin and end, or 0 and the final answer; and the cursor for the next step.
 #[repr(C)]
 pub struct HostUtf7Step {
     pub given: u32,
     pub cell: u32,
+    pub begin: usize,
+    pub end: usize,
     pub answer: Numbers,
     pub next: HostUtf7Cursor,
 }
@@ -45,6 +47,8 @@ pub struct HostMailboxCursor {
 pub struct HostMailboxStep {
     pub given: u32,
     pub cell: u32,
+    pub begin: usize,
+    pub end: usize,
     pub answer: Numbers,
     pub next: HostMailboxCursor,
 }
@@ -66,6 +70,8 @@ pub struct HostJp2Cursor {
 pub struct HostJp2Step {
     pub given: u32,
     pub cell: u32,
+    pub begin: usize,
+    pub end: usize,
     pub answer: Numbers,
     pub next: HostJp2Cursor,
 }
@@ -141,10 +147,13 @@ pub extern "C" fn qalithonda_utf7_step(text: &[u8], cursor: HostUtf7Cursor) -> H
     let found = utf7_read::step(text, utf7_cursor_in(cursor));
     match found {
         utf7_read::Stepped::Cell(handed) => {
+            let cell = handed.cell;
             let next = utf7_cursor_out(handed.next);
             HostUtf7Step {
                 given: 1,
-                cell: handed.value,
+                cell: cell.value,
+                begin: cell.begin,
+                end: cell.end,
                 answer: Numbers {
                     number: 0,
                     place: 0,
@@ -157,6 +166,8 @@ pub extern "C" fn qalithonda_utf7_step(text: &[u8], cursor: HostUtf7Cursor) -> H
             HostUtf7Step {
                 given: 0,
                 cell: 0,
+                begin: 0,
+                end: 0,
                 answer,
                 next: cursor,
             }
@@ -234,10 +245,13 @@ pub extern "C" fn qalithonda_mailbox_step(text: &[u8], cursor: HostMailboxCursor
     let found = mailbox_read::step(text, mailbox_cursor_in(cursor));
     match found {
         mailbox_read::Stepped::Cell(handed) => {
+            let cell = handed.cell;
             let next = mailbox_cursor_out(handed.next);
             HostMailboxStep {
                 given: 1,
-                cell: handed.value,
+                cell: cell.value,
+                begin: cell.begin,
+                end: cell.end,
                 answer: Numbers {
                     number: 0,
                     place: 0,
@@ -250,6 +264,8 @@ pub extern "C" fn qalithonda_mailbox_step(text: &[u8], cursor: HostMailboxCursor
             HostMailboxStep {
                 given: 0,
                 cell: 0,
+                begin: 0,
+                end: 0,
                 answer,
                 next: cursor,
             }
@@ -343,10 +359,13 @@ pub extern "C" fn qalithonda_jp2_step(text: &[u8], cursor: HostJp2Cursor) -> Hos
     let found = jp2_read::step(text, jp2_cursor_in(cursor));
     match found {
         jp2_read::Stepped::Cell(handed) => {
+            let cell = handed.cell;
             let next = jp2_cursor_out(handed.next);
             HostJp2Step {
                 given: 1,
-                cell: handed.value,
+                cell: cell.value,
+                begin: cell.begin,
+                end: cell.end,
                 answer: Numbers {
                     number: 0,
                     place: 0,
@@ -359,6 +378,8 @@ pub extern "C" fn qalithonda_jp2_step(text: &[u8], cursor: HostJp2Cursor) -> Hos
             HostJp2Step {
                 given: 0,
                 cell: 0,
+                begin: 0,
+                end: 0,
                 answer,
                 next: cursor,
             }

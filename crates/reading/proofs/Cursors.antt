@@ -6,16 +6,17 @@ use mathlib.Core.List.{List}
 use lib.ListN.{length, getD}
 use Rattle.answer.specs.Answer.{limit, tooLong}
 use Rattle.reading.specs.Reading.{Rule, verdictOf, reading}
+use Rattle.reading.specs.Spans.{Marking, noMark, markedIn}
 use Rattle.reading.specs.Stepping.{Spot, Next, cell, final, onward, onSpot, nextAt, atStart, afterSteps}
 use Rattle.reading.proofs.Laws.{Kept}
 use Rattle.reading.proofs.Steps.{SoundSpot, sound-after, nth-cell, nth-final, step-long}
 
 onward-spot : {P Q : Type 0} (f : P → Q) (x : Next P) (p : P) → onSpot (onward f x) (f p) ≡ f (onSpot x p)
-onward-spot f (cell v q) p = refl
+onward-spot f (cell m q) p = refl
 onward-spot f (final a) p = refl
 
 -- cursors of type C: the spot that each denotes, and the cursor that stands at a spot; at the spots that a reader can stand at, one undoes the other
-pub record Cursors {S : Type 0} (rule : Rule S) (C : Type 0) : Type 1 where
+pub record Cursors {S : Type 0} (rule : Rule S) (marking : Marking S) (C : Type 0) : Type 1 where
   pub Sound : S → Type 0
   pub Good : ℕ → Type 0
   pub kept : Kept rule Sound Good
@@ -23,27 +24,27 @@ pub record Cursors {S : Type 0} (rule : Rule S) (C : Type 0) : Type 1 where
   pub cursor : Spot S → C
   pub back : (p : Spot S) → SoundSpot Sound p → spot (cursor p) ≡ p
 
-module _ {S C : Type 0} {rule : Rule S} (cs : Cursors rule C) (text : List ℕ) where
+module _ {S C : Type 0} {rule : Rule S} {marking : Marking S} (cs : Cursors rule marking C) (text : List ℕ) where
   -- the step from any cursor, and the cursor after n steps from the start
   abbrev pub stepFor : C → Next C
-  stepFor c = onward (cs .cursor) (nextAt rule text (cs .spot c))
+  stepFor c = onward (cs .cursor) (nextAt rule marking text (cs .spot c))
 
   unfoldable pub cursorAfter : ℕ → C
   cursorAfter n = afterSteps stepFor (cs .cursor (atStart rule)) n
 
   abbrev spotAfter : ℕ → Spot S
-  spotAfter n = afterSteps (nextAt rule text) (atStart rule) n
+  spotAfter n = afterSteps (nextAt rule marking text) (atStart rule) n
 
   spot-back : (n : ℕ) → cs .spot (cs .cursor (spotAfter n)) ≡ spotAfter n
-  spot-back n = cs .back (spotAfter n) (sound-after (cs .kept) text n)
+  spot-back n = cs .back (spotAfter n) (sound-after marking (cs .kept) text n)
 
   cursor-spot : (n : ℕ) → cursorAfter n ≡ cs .cursor (spotAfter n)
   unfolding cursorAfter afterSteps
   cursor-spot zero = refl
   cursor-spot (suc n) =
-      rw (cursor-spot n, spot-back n) (onward-spot (cs .cursor) (nextAt rule text (spotAfter n)) (spotAfter n))
+      rw (cursor-spot n, spot-back n) (onward-spot (cs .cursor) (nextAt rule marking text (spotAfter n)) (spotAfter n))
 
-  step-spot : (n : ℕ) → stepFor (cursorAfter n) ≡ onward (cs .cursor) (nextAt rule text (spotAfter n))
+  step-spot : (n : ℕ) → stepFor (cursorAfter n) ≡ onward (cs .cursor) (nextAt rule marking text (spotAfter n))
   step-spot n = rw (cursor-spot n, spot-back n)
 
   -- a cursor that steps from the start lead to is the one that stands at its spot: the repair of a step changes nothing there
@@ -51,15 +52,15 @@ module _ {S C : Type 0} {rule : Rule S} (cs : Cursors rule C) (text : List ℕ) 
   repair-identity n = rw (cursor-spot n) (ap (cs .cursor) (spot-back n))
 
   module _ (fits : length text ≤ limit) where
-    -- the n-th step gives the n-th cell
+    -- the n-th step gives the n-th cell, with its bytes
     pub step-cell :
-        (n : ℕ) → n < length (reading rule text .cells) → stepFor (cursorAfter n) ≡ cell (getD (reading rule text .cells) n 0) (cursorAfter (suc n))
-    step-cell n h = rw (step-spot n, cursor-spot (suc n)) (ap (onward (cs .cursor)) (nth-cell rule text fits n h))
+        (n : ℕ) → n < length (reading rule text .cells) → stepFor (cursorAfter n) ≡ cell (getD (markedIn rule marking text) n noMark) (cursorAfter (suc n))
+    step-cell n h = rw (step-spot n, cursor-spot (suc n)) (ap (onward (cs .cursor)) (nth-cell rule marking text fits n h))
 
     -- every later step gives the answer of reading the whole text with room enough
     pub step-final : (n : ℕ) → length (reading rule text .cells) ≤ n → stepFor (cursorAfter n) ≡ final (verdictOf (reading rule text))
-    step-final n h = rw (step-spot n) (ap (onward (cs .cursor)) (nth-final rule text fits n h))
+    step-final n h = rw (step-spot n) (ap (onward (cs .cursor)) (nth-final rule marking text fits n h))
 
   -- over the limit every step, from any cursor at all, gives 16
   pub step-over : limit < length text → (c : C) → stepFor c ≡ final tooLong
-  step-over h c = ap (onward (cs .cursor)) (step-long rule text h (cs .spot c))
+  step-over h c = ap (onward (cs .cursor)) (step-long rule marking text h (cs .spot c))

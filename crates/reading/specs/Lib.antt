@@ -1,3 +1,4 @@
 pub mod Reading
+pub mod Spans
 pub mod Stepping
 pub mod Matching

@@ -4,19 +4,22 @@ use mathlib.Core.Path.{_≡_, refl, sym, ap, _∙_}
 use mathlib.Core.Bool.{Bool, true, false, cond}
 use mathlib.Core.List.{List}
 use native.Mathlib.Omega.{arith}
-use lib.ListN.{length}
+use lib.ListN.{length, length-map}
 use lib.Dec.{ltb}
 use denote.Ref.{RefT, now}
 use borrow.Author.Tests.{le-ltb, ltb-true, ltb-false}
 use Rattle.answer.specs.Answer.{limit, tooLong}
 use Rattle.answer.specs.Output.{refusing, deliver}
 use Rattle.reading.specs.Reading.{Ending, accepted, fault, Rule, verdictOf, closing, onEnding, reading, readInto}
+use Rattle.reading.specs.Spans.{Marking, markedIn}
+use Rattle.reading.specs.declared.Marked.{Marked}
 use Rattle.reading.specs.Stepping.{Next, cell, final, onward, onSpot, atStart, afterSteps}
+use Rattle.reading.proofs.Spans.{marked-cells}
 use Rattle.reading.proofs.Cursors.{Cursors, stepFor, cursorAfter, step-cell, step-final, step-over}
 use Rattle.utf7_read.proofs.Nth.{utf7-cursors}
 use Rattle.jp2_read.proofs.Nth.{jp2-cursors}
 use Rattle.mailbox_read.proofs.Nth.{mailbox-cursors}
-use Rattle.stepper.specs.Stepper.{Gift, gift, startOf, stepOf, givenBy, readerAfter, readingOf, answerOf, nthGift}
+use Rattle.stepper.specs.Stepper.{Gift, gift, startOf, stepOf, givenBy, readerAfter, readingOf, markedOf, answerOf, nthGift}
 use Rattle.codec.specs.declared.Format.{Format}
 use Rattle.codec.specs.declared.Format as format
 use Rattle.stepper.specs.declared.Place.{Place}
@@ -24,18 +27,18 @@ use Rattle.stepper.specs.declared.Place.the-variants.{Utf7, Jp2, Mailbox
 use Rattle.stepper.specs.declared.Reader.{Reader}
 
 onward-place : {C : Type 0} (f : C → Place) (x : Next C) (c : C) → onSpot (onward f x) (f c) ≡ f (onSpot x c)
-onward-place f (cell v next) c = refl
+onward-place f (cell m next) c = refl
 onward-place f (final answer) c = refl
 
 gift-onward : {C : Type 0} (f : C → Place) (x : Next C) → gift (onward f x) ≡ gift x
-gift-onward f (cell v next) = refl
+gift-onward f (cell m next) = refl
 gift-onward f (final answer) = refl
 
 none-left : (n : ℕ) (v : Gift) {answer : Gift} → cond (ltb n 0) v answer ≡ answer
 none-left n v = rw (le-ltb n 0 (omega arith))
 
 -- a format whose places are some cursors: it starts at their start, and steps from a place are steps from its cursor
-module _ {S C : Type 0} {rule : Rule S} (cs : Cursors rule C) (place : C → Place) (f : Format) (starts : startOf f ≡ place (cs .cursor (atStart rule)))
+module _ {S C : Type 0} {rule : Rule S} {marking : Marking S} (cs : Cursors rule marking C) (place : C → Place) (f : Format) (starts : startOf f ≡ place (cs .cursor (atStart rule)))
     (steps : (text : List ℕ) (c : C) → stepOf text (place c) ≡ onward place (stepFor cs text c)) (text : RefT (List ℕ)) where
   abbrev standing : ℕ → Reader
   standing n = record { text = text; place = place (cursorAfter cs (now text) n) }
@@ -47,19 +50,25 @@ module _ {S C : Type 0} {rule : Rule S} (cs : Cursors rule C) (place : C → Pla
       let c = cursorAfter cs (now text) n in
       rw (reader-stands n, steps (now text) c) (ap (λ p. record { text = text; place = p }) (onward-place place (stepFor cs (now text) c) c))
 
-  nth : (n : ℕ) (over more : Bool) → ltb limit (length (now text)) ≡ over → ltb n (length (reading rule (now text) .cells)) ≡ more →
-      gift (stepFor cs (now text) (cursorAfter cs (now text) n)) ≡ nthGift (now text) (reading rule (now text)) n
-  nth n true more e k = rw e (ap gift (step-over cs (now text) (ltb-true _ _ e) _) ∙ sym (none-left n _))
-  nth n false true e k = rw (e, k) (ap gift (step-cell cs (now text) (ltb-false _ _ e) n (ltb-true _ _ k)))
-  nth n false false e k = rw (e, k) (ap gift (step-final cs (now text) (ltb-false _ _ e) n (ltb-false _ _ k)))
+  abbrev marked : List Marked
+  marked = markedIn rule marking (now text)
 
-  nth-given : (n : ℕ) → givenBy (readerAfter text f n) ≡ nthGift (now text) (reading rule (now text)) n
+  same-count : length marked ≡ length (reading rule (now text) .cells)
+  same-count = simp length-map at (ap length (marked-cells rule marking (now text)))
+
+  nth : (n : ℕ) (over more : Bool) → ltb limit (length (now text)) ≡ over → ltb n (length marked) ≡ more →
+      gift (stepFor cs (now text) (cursorAfter cs (now text) n)) ≡ nthGift (now text) (reading rule (now text)) marked n
+  nth n true more e k = rw e (ap gift (step-over cs (now text) (ltb-true _ _ e) _) ∙ sym (none-left n _))
+  nth n false true e k = rw (e, k) (ap gift (step-cell cs (now text) (ltb-false _ _ e) n (rw same-count at (ltb-true n (length marked) k))))
+  nth n false false e k = rw (e, k) (ap gift (step-final cs (now text) (ltb-false _ _ e) n (rw same-count at (ltb-false n (length marked) k))))
+
+  nth-given : (n : ℕ) → givenBy (readerAfter text f n) ≡ nthGift (now text) (reading rule (now text)) marked n
   nth-given n =
       let c = cursorAfter cs (now text) n in
       rw (reader-stands n, steps (now text) c, gift-onward place (stepFor cs (now text) c)) (nth n _ _ refl refl)
 
--- the n-th step from `new` gives the n-th cell, and after the cells the answer, for ever
-pub nth-step : (text : RefT (List ℕ)) (f : Format) (n : ℕ) → givenBy (readerAfter text f n) ≡ nthGift (now text) (readingOf f (now text)) n
+-- the n-th step from `new` gives the n-th cell with its bytes, and after the cells the answer, for ever
+pub nth-step : (text : RefT (List ℕ)) (f : Format) (n : ℕ) → givenBy (readerAfter text f n) ≡ nthGift (now text) (readingOf f (now text)) (markedOf f (now text)) n
 nth-step text format.the-variants.Utf7 = nth-given utf7-cursors Utf7 format.the-variants.Utf7 refl (λ _ _. refl) text
 nth-step text format.the-variants.Jp2 = nth-given jp2-cursors Jp2 format.the-variants.Jp2 refl (λ _ _. refl) text
 nth-step text format.the-variants.Mailbox = nth-given mailbox-cursors Mailbox format.the-variants.Mailbox refl (λ _ _. refl) text

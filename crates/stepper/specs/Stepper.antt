@@ -7,12 +7,17 @@ use lib.Dec.{ltb}
 use denote.Ref.{RefT, now}
 use Rattle.answer.specs.Answer.{Verdict, inNumbers, limit, tooLong}
 use Rattle.reading.specs.Reading.{Reading, verdictOf, reading}
+use Rattle.reading.specs.Spans.{noMark, markedIn}
 use Rattle.reading.specs.Stepping.{Next, cell, final, onward, onSpot, atStart}
+use Rattle.reading.specs.declared.Marked.{Marked}
 use Rattle.utf7.specs.Rule.{utf7}
+use Rattle.utf7.specs.Spans as utf7-spans
 use Rattle.utf7_read.specs.Cursor as u
 use Rattle.jp2.specs.Rule.{jp2}
+use Rattle.jp2.specs.Spans as jp2-spans
 use Rattle.jp2_read.specs.Cursor as j
 use Rattle.mailbox.specs.Rule.{mailbox}
+use Rattle.mailbox.specs.Spans as mailbox-spans
 use Rattle.mailbox_read.specs.Cursor as m
 use Rattle.codec.specs.declared.Format.{Format}
 use Rattle.codec.specs.declared.Format as format
@@ -22,17 +27,17 @@ use Rattle.stepper.specs.declared.Handed.{Handed}
 use Rattle.stepper.specs.declared.Handed.the-variants.{Cell, Final}
 use Rattle.stepper.specs.declared.Reader.{Reader}
 
--- what a step hands out: a cell, or the answer of the whole reading, as document 01 numbers it
+-- what a step hands out: a cell with its bytes, or the answer of the whole reading, as document 01 numbers it
 pub data Gift : Type 0 where
-  aCell : ℕ → Gift
+  aCell : Marked → Gift
   theAnswer : Verdict → Gift
 
 abbrev pub told : Handed → Gift
-told (Cell v) = aCell v
+told (Cell m) = aCell m
 told (Final answer) = theAnswer (inNumbers answer)
 
 abbrev pub gift : {P : Type 0} → Next P → Gift
-gift (cell v p) = aCell v
+gift (cell m p) = aCell m
 gift (final verdict) = theAnswer verdict
 
 abbrev pub startOf : Format → Place
@@ -73,14 +78,20 @@ readingOf format.the-variants.Utf7 text = reading utf7 text
 readingOf format.the-variants.Jp2 text = reading jp2 text
 readingOf format.the-variants.Mailbox text = reading mailbox text
 
+-- its cells, each with its bytes
+abbrev pub markedOf : Format → List ℕ → List Marked
+markedOf format.the-variants.Utf7 text = markedIn utf7 utf7-spans.spanIn text
+markedOf format.the-variants.Jp2 text = markedIn jp2 jp2-spans.spanIn text
+markedOf format.the-variants.Mailbox text = markedIn mailbox mailbox-spans.spanIn text
+
 -- "Each step hands out the next cell complete before the first fault", and of a text over the limit none;
-abbrev pub cellsOf : List ℕ → Reading → List ℕ
-cellsOf text r = cond (ltb limit (length text)) [] (r .cells)
+abbrev pub cellsOf : List ℕ → List Marked → List Marked
+cellsOf text marked = cond (ltb limit (length text)) [] marked
 
 -- "after those, and at once for 16, every step gives the answer of reading the whole text with room enough"
 abbrev pub answerOf : List ℕ → Reading → Verdict
 answerOf text r = cond (ltb limit (length text)) tooLong (verdictOf r)
 
 -- what the n-th step gives, counted from 0
-abbrev pub nthGift : List ℕ → Reading → ℕ → Gift
-nthGift text r n = cond (ltb n (length (cellsOf text r))) (aCell (getD (cellsOf text r) n 0)) (theAnswer (answerOf text r))
+abbrev pub nthGift : List ℕ → Reading → List Marked → ℕ → Gift
+nthGift text r marked n = cond (ltb n (length (cellsOf text marked))) (aCell (getD (cellsOf text marked) n noMark)) (theAnswer (answerOf text r))

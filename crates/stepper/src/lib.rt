@@ -1,6 +1,7 @@
 // A reader that remembers its text, over the steps of utf7_read, jp2_read and mailbox_read: document 01, "step through a lent text one cell at a time".
 use answer::Answer;
 use codec::Format;
+use reading::Marked;
 ghost use mathlib.Core.Path.{_≡_};
 ghost use Rattle.stepper.specs.Stepper.{told, startOf, givenAt, placeAfter, opened, givenBy, movedOf};
 
@@ -11,9 +12,9 @@ pub enum Place {
     Mailbox(mailbox_read::Cursor),
 }
 
-// What a step hands out: the next cell, or the answer of reading the whole text with room enough.
+// What a step hands out: the next cell with its bytes, or the answer of reading the whole text with room enough.
 pub enum Handed {
-    Cell(u32),
+    Cell(Marked),
     Final(Answer),
 }
 
@@ -40,9 +41,10 @@ fn mailbox_turn(text: &[u8], c: mailbox_read::Cursor) -> Turn
     let found = mailbox_read::step(text, c);
     match found {
         mailbox_read::Stepped::Cell(given) => {
+            let cell = given.cell;
             let next = given.next;
             Turn {
-                handed: Handed::Cell(given.value),
+                handed: Handed::Cell(cell),
                 place: Place::Mailbox(next),
             }
         }
@@ -62,9 +64,10 @@ pub fn step(text: &[u8], place: Place) -> Turn
             let found = utf7_read::step(text, c);
             match found {
                 utf7_read::Stepped::Cell(given) => {
+                    let cell = given.cell;
                     let next = given.next;
                     Turn {
-                        handed: Handed::Cell(given.value),
+                        handed: Handed::Cell(cell),
                         place: Place::Utf7(next),
                     }
                 }
@@ -78,9 +81,10 @@ pub fn step(text: &[u8], place: Place) -> Turn
             let found = jp2_read::step(text, c);
             match found {
                 jp2_read::Stepped::Cell(given) => {
+                    let cell = given.cell;
                     let next = given.next;
                     Turn {
-                        handed: Handed::Cell(given.value),
+                        handed: Handed::Cell(cell),
                         place: Place::Jp2(next),
                     }
                 }

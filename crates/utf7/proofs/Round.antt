@@ -28,11 +28,11 @@ use Rattle.utf7.proofs.Sets.{own-direct, direct-byte, direct-sign, mail
 abbrev pub Letters : ℕ → List ℕ → Type 0
 Letters last ls = Each (λ b. setB last b ≡ true) ls
 
-byte-run : (p : List Bool) (b : ℕ) → setB slash b ≡ true → byteDoes (run p) b ≡ unitDoes (p ++ bits 6 (valueOf slash b))
+pub byte-run : (p : List Bool) (b : ℕ) → setB slash b ≡ true → byteDoes (run p) b ≡ unitDoes (p ++ bits 6 (valueOf slash b))
 unfolding byteDoes lowDoes
 byte-run p b h = simp (lt-ltb b 128 (value-low slash slash-sign b h), h)
 
-byte-opening : (b : ℕ) → setB slash b ≡ true → byteDoes opening b ≡ unitDoes (bits 6 (valueOf slash b))
+pub byte-opening : (b : ℕ) → setB slash b ≡ true → byteDoes opening b ≡ unitDoes (bits 6 (valueOf slash b))
 unfolding byteDoes lowDoes
 byte-opening b h = simp (lt-ltb b 128 (value-low slash slash-sign b h), h)
 

@@ -1,4 +1,5 @@
 pub mod Sets
 pub mod Rule
+pub mod Spans
 pub mod Writing
 pub mod Lines

@@ -14,6 +14,7 @@ use Rattle.bits.specs.Bits.{bits, number}
 use Rattle.bits.proofs.Bits.{length-bits, number-bits, bits-append, bits-take, bits-drop, bits-mod, zero-bits, spelled}
 use Rattle.reading.specs.Reading.{Does, accepted, fault}
 use Rattle.reading.specs.Stepping.{Spot, Next, cell, onward}
+use Rattle.reading.specs.declared.Marked.{Marked}
 use Rattle.utf7.specs.Rule.{Shift, outside, opening, run, unitDoes, endsIn}
 use Rattle.utf7.proofs.Kept.{SoundShift}
 use Rattle.utf7_read.specs.Cursor.{shiftOf, stateOf, least, spotOf, cursorOf, Settled, SettledMove, doesOf, Moves}
@@ -85,8 +86,8 @@ run-ends n v size h = rw (mod-eq-of-lt (h .0), zero-bits n v (h .1))
 
 -- a step's cell, at a settled state, is the definition's
 pub cell-told :
-    {value at handed : ℕ} {st : State} {x : Next (Spot Shift)} → Settled st → cell value (record { at = at; handed = handed; state = shiftOf st }) ≡ x →
-    cell value (record { at = at; handed = handed; state = st }) ≡ onward cursorOf x
+    {m : Marked} {at handed : ℕ} {st : State} {x : Next (Spot Shift)} → Settled st → cell m (record { at = at; handed = handed; state = shiftOf st }) ≡ x →
+    cell m (record { at = at; handed = handed; state = st }) ≡ onward cursorOf x
 cell-told {st = st} h e = rw (← e, settled-back st h)
 
 pub least-at : (a b : ℕ) → least a b ≤ b

@@ -5,17 +5,19 @@ use mathlib.Core.List.{List}
 use lib.ListN.{length, getD}
 use Rattle.answer.specs.Answer.{limit, tooLong}
 use Rattle.reading.specs.Reading.{verdictOf, reading}
+use Rattle.reading.specs.Spans.{noMark, markedIn}
 use Rattle.reading.specs.Stepping.{cell, final}
 use Rattle.reading.proofs.Cursors as cursors
 use Rattle.reading.proofs.Cursors.{Cursors, cursorAfter}
 use Rattle.utf7.specs.Rule.{utf7}
+use Rattle.utf7.specs.Spans.{spanIn}
 use Rattle.utf7.specs.Writing.{IsUnit}
 use Rattle.utf7.proofs.Kept.{SoundShift, utf7-kept}
 use Rattle.utf7_read.specs.Cursor.{spotOf, cursorOf, stepOf}
 use Rattle.utf7_read.specs.declared.Cursor.{Cursor}
 use Rattle.utf7_read.proofs.Moves.{settled-cursor}
 
-abbrev pub utf7-cursors : Cursors utf7 Cursor
+abbrev pub utf7-cursors : Cursors utf7 spanIn Cursor
 utf7-cursors =
     record {
       Sound = SoundShift;
@@ -32,7 +34,7 @@ module _ (text : List ℕ) where
   after n = cursorAfter utf7-cursors text n
 
   pub step-cell :
-      length text ≤ limit → (n : ℕ) → n < length (reading utf7 text .cells) → stepOf text (after n) ≡ cell (getD (reading utf7 text .cells) n 0) (after (suc n))
+      length text ≤ limit → (n : ℕ) → n < length (reading utf7 text .cells) → stepOf text (after n) ≡ cell (getD (markedIn utf7 spanIn text) n noMark) (after (suc n))
   step-cell = cursors.step-cell utf7-cursors text
 
   pub step-final : length text ≤ limit → (n : ℕ) → length (reading utf7 text .cells) ≤ n → stepOf text (after n) ≡ final (verdictOf (reading utf7 text))

@@ -10,6 +10,7 @@ use Rattle.answer.specs.Answer.{numberOf, inNumbers}
 use Rattle.reading.specs.Reading.{Does, give, go, bad}
 use Rattle.reading.specs.Stepping.{Spot, Next, cell, final, onward, nextAt}
 use Rattle.utf7.specs.Rule.{Shift, outside, opening, run, utf7}
+use Rattle.utf7.specs.Spans.{spanIn}
 use Rattle.utf7_read.specs.declared.State.{State}
 use Rattle.utf7_read.specs.declared.State.the-variants.{Outside, Opening, Run}
 use Rattle.utf7_read.specs.declared.Move.{Move}
@@ -42,11 +43,11 @@ cursorOf p = record { at = p .at; handed = p .handed; state = stateOf (p .state)
 
 -- a step as document 01 numbers it, and the step from any cursor
 abbrev pub told : Stepped → Next Cursor
-told (Cell given) = cell (given .value) (given .next)
+told (Cell given) = cell (given .cell) (given .next)
 told (Final answer) = final (inNumbers answer)
 
 abbrev pub stepOf : List ℕ → Cursor → Next Cursor
-stepOf text c = onward cursorOf (nextAt utf7 text (spotOf c))
+stepOf text c = onward cursorOf (nextAt utf7 spanIn text (spotOf c))
 
 -- numbers that are just those of their bits
 abbrev pub Settled : State → Type 0

@@ -1,6 +1,7 @@
 // Reading UTF-7: a byte, a cell, and a whole text at a time.
 use answer::Answer;
 use answer::Refusal;
+use reading::Marked;
 ghost use mathlib.Core.Path.{_≡_};
 ghost use mathlib.Core.List.{_++_};
 ghost use Prim.Native.Nat.{_<_, _≤_, _^_};
@@ -10,9 +11,11 @@ ghost use Rattle.bits.specs.Bits.{bits};
 ghost use Rattle.answer.specs.Answer.{inNumbers};
 ghost use Rattle.answer.specs.Output.{leaves, filled};
 ghost use Rattle.reading.specs.Reading.{closing, verdictOf, reading, readInto};
+ghost use Rattle.reading.specs.Spans.{Takes};
 ghost use Rattle.reading.specs.Stepping.{atStart};
 ghost use Rattle.reading.specs.Matching.{readsAs};
 ghost use Rattle.utf7.specs.Rule.{utf7, outsideDoes, unitDoes, endDoes, lowDoes, byteDoes, endsIn};
+ghost use Rattle.utf7.specs.Spans.{spanIn};
 ghost use Rattle.utf7_read.specs.Cursor.{shiftOf, cursorOf, least, told, stepOf, Settled, Moves};
 
 // Where a reader stands to runs.
@@ -32,8 +35,9 @@ pub struct Cursor {
     pub state: State,
 }
 
+// A cell with its bytes, and where the next step starts.
 pub struct Given {
-    pub value: u32,
+    pub cell: Marked,
     pub next: Cursor,
 }
 
@@ -170,6 +174,23 @@ fn lesser(a: usize, b: usize) -> usize
     a
 }
 
+// How many bytes the cell has that this byte completes: in a run the letters that hold its bits.
+fn width(st: State, b: u8) -> usize
+    requires { ⌜ Settled st ⌝ }
+    ensures { λ r. ⌜ Takes (spanIn (shiftOf st) b) r ⌝ }
+{
+    match st {
+        State::Outside => 1,
+        State::Opening => 2,
+        State::Run(n, _) => {
+            if base64::value_of(b'/', b) < 64 {
+                return (n as usize + 11) / 6;
+            }
+            1
+        }
+    }
+}
+
 // The cursor of a reader that has read nothing.
 pub fn start() -> Cursor
     ensures { λ r. ⌜ r ≡ cursorOf (atStart utf7) ⌝ }
@@ -193,14 +214,16 @@ pub fn step(text: &[u8], c: Cursor) -> Stepped
     let given = c.state;
     let mut st = settled(given);
     while at < text.len() {
-        match feed(st, text[at]) {
+        let b = text[at];
+        match feed(st, b) {
             Move::Give(value, state) => {
+                let cell = reading::mark(value, width(st, b), at + 1);
                 let next = Cursor {
                     at: at + 1,
                     handed: handed + 1,
                     state,
                 };
-                return Stepped::Cell(Given { value, next });
+                return Stepped::Cell(Given { cell, next });
             }
             Move::Go(state) => {
                 st = state;

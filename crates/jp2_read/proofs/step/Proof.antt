@@ -5,9 +5,11 @@ use denote.Ref.{now}
 use lib.ListN.{length, drop}
 use borrow.Author.Needs.{needs}
 use borrow.Author.Tests.{ltb-true}
+use Rattle.reading.specs.Spans.{markedAs}
 use Rattle.reading.specs.Stepping.{final, onward, nextFrom, nextAt}
 use Rattle.reading.proofs.Steps.{Going, going-give, going-go, going-bad, going-end, step-long}
 use Rattle.jp2.specs.Rule.{jp2}
+use Rattle.jp2.specs.Spans.{spanIn}
 use Rattle.jp2_read.specs.Cursor.{stateOf, spotOf, cursorOf}
 use Rattle.jp2_read.proofs.Moves.{cell-told, moved, least-at}
 use Rattle.jp2_read.proofs.step.Statement.{statement}
@@ -15,7 +17,7 @@ use Rattle.jp2_read.proofs.step.Tie as tie
 
 abbrev Inv-loop : tie.InvT-loop
 Inv-loop text at₀ handed st₀ at st =
-    Going jp2 text at handed (stateOf st) (nextFrom jp2 (length text) (drop at₀ text) (record { at = at₀; handed = handed; state = stateOf st₀ }))
+    Going jp2 spanIn text at handed (stateOf st) (nextFrom jp2 spanIn (length text) (drop at₀ text) (record { at = at₀; handed = handed; state = stateOf st₀ }))
     × (handed ≤ at)
 
 abbrev μ-loop : tie.MeasureT-loop
@@ -25,8 +27,8 @@ abbrev μ-loop : tie.MeasureT-loop
 asked :
     (c : tie.After-lesser Inv-loop μ-loop) →
     let a = c .before .before .before .before .args in
-    nextFrom jp2 (length (now (a .text))) (drop (a .c .at) (now (a .text))) (record { at = a .c .at; handed = c .lesser .result; state = stateOf (a .c .state) })
-    ≡ nextAt jp2 (now (a .text)) (spotOf (a .c))
+    nextFrom jp2 spanIn (length (now (a .text))) (drop (a .c .at) (now (a .text))) (record { at = a .c .at; handed = c .lesser .result; state = stateOf (a .c .state) })
+    ≡ nextAt jp2 spanIn (now (a .text)) (spotOf (a .c))
 unfolding nextAt
 asked c = let o = c .before .before in rw (c .lesser .ensures, sym (o .over-limit .ensures) ∙ c .before .if1 .left)
 
@@ -39,7 +41,7 @@ too-long-requires c κs = search needs
 returns : tie.Need-returns Inv-loop μ-loop
 returns c =
     let o = c .before .before in
-    ap final (c .too-long .ensures) ∙ ap (onward cursorOf) (sym (step-long jp2 _ (ltb-true _ _ (sym (o .over-limit .ensures) ∙ c .before .if1 .taken)) _))
+    ap final (c .too-long .ensures) ∙ ap (onward cursorOf) (sym (step-long jp2 spanIn _ (ltb-true _ _ (sym (o .over-limit .ensures) ∙ c .before .if1 .taken)) _))
 
 lesser-requires : tie.Need-lesser-requires Inv-loop μ-loop
 lesser-requires c κs = search needs
@@ -47,8 +49,8 @@ lesser-requires c κs = search needs
 loop-holds : tie.Need-loop-holds Inv-loop μ-loop
 loop-holds c = (record { so = refl }, rw (c .before .lesser .ensures) (least-at _ _))
 
-shared-slice-read-feed : tie.Need-shared-slice-read-feed Inv-loop μ-loop
-shared-slice-read-feed c = search needs
+shared-slice-read-b : tie.Need-shared-slice-read-b Inv-loop μ-loop
+shared-slice-read-b c = search needs
 
 feed-requires : tie.Need-feed-requires Inv-loop μ-loop
 feed-requires c κs = search needs
@@ -56,17 +58,30 @@ feed-requires c κs = search needs
 enum-known-value : tie.Need-enum-known-value Inv-loop μ-loop
 enum-known-value c = search needs
 
-add-t19 : tie.Need-add-t19 Inv-loop μ-loop
-add-t19 c = search needs
+width-requires : tie.Need-width-requires Inv-loop μ-loop
+width-requires c κs = search needs
 
-add-t20 : tie.Need-add-t20 Inv-loop μ-loop
-add-t20 c = search needs
+add-mark : tie.Need-add-mark Inv-loop μ-loop
+add-mark c = search needs
+
+mark-requires : tie.Need-mark-requires Inv-loop μ-loop
+mark-requires c κs = search needs
+
+add-t21 : tie.Need-add-t21 Inv-loop μ-loop
+add-t21 c = search needs
+
+add-t22 : tie.Need-add-t22 Inv-loop μ-loop
+add-t22 c = search needs
 
 returns-2 : tie.Need-returns-2 Inv-loop μ-loop
+unfolding spanIn
 returns-2 c =
-    let f = c .before .before .before in
+    let w = c .before in
+    let k = w .before in
+    let f = k .before .before .before in
     let l = f .before .before .before in
-    cell-told (going-give (l .loop .inv .0) (f .before .before .loop-test .taken) (moved (f .feed .ensures) (c .before .value .given .1)) ∙ asked (l .before .before))
+    rw (c .mark .ensures ∙ ap (markedAs _) (sym (w .width .ensures _)))
+    (cell-told (going-give (l .loop .inv .0) (f .before .before .loop-test .taken) (moved (f .feed .ensures) (k .before .value .given .1)) ∙ asked (l .before .before)))
 
 enum-known-state : tie.Need-enum-known-state Inv-loop μ-loop
 enum-known-state c = search needs
@@ -111,11 +126,14 @@ step-spec =
     returns
     lesser-requires
     loop-holds
-    shared-slice-read-feed
+    shared-slice-read-b
     feed-requires
     enum-known-value
-    add-t19
-    add-t20
+    width-requires
+    add-mark
+    mark-requires
+    add-t21
+    add-t22
     returns-2
     enum-known-state
     add-at

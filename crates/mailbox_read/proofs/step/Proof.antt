@@ -6,9 +6,11 @@ use denote.Ref.{now}
 use lib.ListN.{length, drop}
 use borrow.Author.Needs.{needs}
 use borrow.Author.Tests.{ltb-true}
+use Rattle.reading.specs.Spans.{markedAs}
 use Rattle.reading.specs.Stepping.{Spot, Next, final, onward, nextFrom, nextAt}
 use Rattle.reading.proofs.Steps.{Going, going-give, going-go, going-bad, going-end, step-long}
 use Rattle.mailbox.specs.Rule.{Shift, mailbox}
+use Rattle.mailbox.specs.Spans.{spanIn}
 use Rattle.mailbox_read.specs.Cursor.{shiftOf, cursorOf, spotOf, Settled}
 use Rattle.mailbox_read.specs.declared.State.{State}
 use Rattle.mailbox_read.proofs.Moves.{moved, cell-told, least-at}
@@ -17,10 +19,10 @@ use Rattle.mailbox_read.proofs.step.Tie as tie
 
 -- the step that the loop is to find
 unfoldable sought : List ℕ → ℕ → ℕ → State → Next (Spot Shift)
-sought text at handed st = nextFrom mailbox (length text) (drop at text) (record { at = at; handed = handed; state = shiftOf st })
+sought text at handed st = nextFrom mailbox spanIn (length text) (drop at text) (record { at = at; handed = handed; state = shiftOf st })
 
 abbrev Inv-loop : tie.InvT-loop
-Inv-loop text at₀ handed st₀ at st = Going mailbox text at handed (shiftOf st) (sought text at₀ handed st₀) × Settled st × (handed ≤ at)
+Inv-loop text at₀ handed st₀ at st = Going mailbox spanIn text at handed (shiftOf st) (sought text at₀ handed st₀) × Settled st × (handed ≤ at)
 
 abbrev μ-loop : tie.MeasureT-loop
 μ-loop text at₀ handed st₀ at st = length text - at
@@ -29,7 +31,7 @@ abbrev μ-loop : tie.MeasureT-loop
 asked :
     (c : tie.After-settled Inv-loop μ-loop) →
     let a = c .before .before .before .before .before .args in
-    sought (now (a .text)) (a .c .at) (c .before .lesser .result) (c .settled .result) ≡ nextAt mailbox (now (a .text)) (spotOf (a .c))
+    sought (now (a .text)) (a .c .at) (c .before .lesser .result) (c .settled .result) ≡ nextAt mailbox spanIn (now (a .text)) (spotOf (a .c))
 unfolding sought nextAt
 asked c =
     rw (c .before .lesser .ensures, c .settled .ensures .1, sym (c .before .before .before .over-limit .ensures) ∙ c .before .before .if1 .left)
@@ -43,7 +45,7 @@ too-long-requires c κs = search needs
 returns : tie.Need-returns Inv-loop μ-loop
 returns c =
     let o = c .before .before in
-    ap final (c .too-long .ensures) ∙ ap (onward cursorOf) (sym (step-long mailbox _ (ltb-true _ _ (sym (o .over-limit .ensures) ∙ c .before .if1 .taken)) _))
+    ap final (c .too-long .ensures) ∙ ap (onward cursorOf) (sym (step-long mailbox spanIn _ (ltb-true _ _ (sym (o .over-limit .ensures) ∙ c .before .if1 .taken)) _))
 
 lesser-requires : tie.Need-lesser-requires Inv-loop μ-loop
 lesser-requires c κs = search needs
@@ -55,8 +57,8 @@ loop-holds : tie.Need-loop-holds Inv-loop μ-loop
 unfolding sought
 loop-holds c = (record { so = refl }, c .settled .ensures .0, rw (c .before .lesser .ensures) (least-at _ _))
 
-shared-slice-read-feed : tie.Need-shared-slice-read-feed Inv-loop μ-loop
-shared-slice-read-feed c = search needs
+shared-slice-read-b : tie.Need-shared-slice-read-b Inv-loop μ-loop
+shared-slice-read-b c = search needs
 
 feed-requires : tie.Need-feed-requires Inv-loop μ-loop
 feed-requires c κs = c .before .before .loop .inv .1
@@ -64,18 +66,30 @@ feed-requires c κs = c .before .before .loop .inv .1
 enum-known-value : tie.Need-enum-known-value Inv-loop μ-loop
 enum-known-value c = search needs
 
-add-t20 : tie.Need-add-t20 Inv-loop μ-loop
-add-t20 c = search needs
+width-requires : tie.Need-width-requires Inv-loop μ-loop
+width-requires c κs = c .before .before .before .before .before .before .loop .inv .1
 
-add-t21 : tie.Need-add-t21 Inv-loop μ-loop
-add-t21 c = search needs
+add-mark : tie.Need-add-mark Inv-loop μ-loop
+add-mark c = search needs
+
+mark-requires : tie.Need-mark-requires Inv-loop μ-loop
+mark-requires c κs = search needs
+
+add-t22 : tie.Need-add-t22 Inv-loop μ-loop
+add-t22 c = search needs
+
+add-t23 : tie.Need-add-t23 Inv-loop μ-loop
+add-t23 c = search needs
 
 returns-2 : tie.Need-returns-2 Inv-loop μ-loop
 returns-2 c =
-    let f = c .before .before .before in
+    let w = c .before in
+    let k = w .before in
+    let f = k .before .before .before in
     let i = f .before .before in
-    let m = moved (f .feed .ensures) (c .before .value .given .1) in
-    cell-told (m .1) (going-give (i .before .loop .inv .0) (i .loop-test .taken) (m .0) ∙ asked (i .before .before))
+    let m = moved (f .feed .ensures) (k .before .value .given .1) in
+    rw (c .mark .ensures ∙ ap (markedAs _) (sym (w .width .ensures _)))
+    (cell-told (m .1) (going-give (i .before .loop .inv .0) (i .loop-test .taken) (m .0) ∙ asked (i .before .before)))
 
 enum-known-state : tie.Need-enum-known-state Inv-loop μ-loop
 enum-known-state c = search needs
@@ -124,11 +138,14 @@ step-spec =
     lesser-requires
     settled-requires
     loop-holds
-    shared-slice-read-feed
+    shared-slice-read-b
     feed-requires
     enum-known-value
-    add-t20
-    add-t21
+    width-requires
+    add-mark
+    mark-requires
+    add-t22
+    add-t23
     returns-2
     enum-known-state
     add-at

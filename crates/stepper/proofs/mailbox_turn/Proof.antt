@@ -15,7 +15,7 @@ enum-known-found-2 : tie.Need-enum-known-found-2
 enum-known-found-2 c = search needs
 
 returns : tie.Need-returns
-returns c = turned Mailbox _ (rw (c .before .before .found .given .1) at (c .before .before .before .before .step .ensures))
+returns c = turned Mailbox _ (rw (c .before .before .before .found .given .1) at (c .before .before .before .before .before .step .ensures))
 
 returns-2 : tie.Need-returns-2
 returns-2 c = turned Mailbox _ (rw (c .before .found2 .given .1) at (c .before .before .before .step .ensures))

@@ -36,13 +36,13 @@ mailbox-turn-requires : tie.Need-mailbox-turn-requires
 mailbox-turn-requires c κs = search needs
 
 returns : tie.Need-returns
-returns c = rw (c .before .before .before .before .before .before .place .given .1) (turned Utf7 _ (rw (c .before .before .found .given .1) at (c .before .before .before .before .step .ensures)))
+returns c = rw (c .before .before .before .before .before .before .before .place .given .1) (turned Utf7 _ (rw (c .before .before .before .found .given .1) at (c .before .before .before .before .before .step .ensures)))
 
 returns-2 : tie.Need-returns-2
 returns-2 c = rw (c .before .before .before .before .before .place .given .1) (turned Utf7 _ (rw (c .before .found2 .given .1) at (c .before .before .before .step .ensures)))
 
 returns-3 : tie.Need-returns-3
-returns-3 c = rw (c .before .before .before .before .before .before .place2 .given .1) (turned Jp2 _ (rw (c .before .before .found3 .given .1) at (c .before .before .before .before .step2 .ensures)))
+returns-3 c = rw (c .before .before .before .before .before .before .before .place2 .given .1) (turned Jp2 _ (rw (c .before .before .before .found3 .given .1) at (c .before .before .before .before .before .step2 .ensures)))
 
 returns-4 : tie.Need-returns-4
 returns-4 c = rw (c .before .before .before .before .before .place2 .given .1) (turned Jp2 _ (rw (c .before .found4 .given .1) at (c .before .before .before .step2 .ensures)))

@@ -24,8 +24,8 @@ in-numbers-requires c κs = search needs
 
 returns : tie.Need-returns
 returns c =
-    let s = c .before .before .before .before in
-    cell-on mailboxOut _ _ _ _ (c .mailbox-cursor-out .ensures) (rw (c .before .before .found .given .1, s .before .mailbox-cursor-in .ensures) at (s .step .ensures))
+    let s = c .before .before .before .before .before in
+    cell-on mailboxOut _ _ _ _ (c .mailbox-cursor-out .ensures) (rw (c .before .before .before .found .given .1, s .before .mailbox-cursor-in .ensures) at (s .step .ensures))
 
 returns-2 : tie.Need-returns-2
 returns-2 c =
