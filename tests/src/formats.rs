@@ -15,8 +15,11 @@ pub struct Format {
     /// The second program's reader.
     pub read: fn(&[u8]) -> Elements<u32>,
     pub readings: Vec<Group<Reading>>,
-    /// The second program's steps.
+    /// The second program's steps, and its steps from a cursor with any numbers.
     pub steps: fn(&[u8]) -> Steps,
+    pub steps_from: fn(&[u8], &[u64]) -> Steps,
+    /// Whether its texts have runs, in which neighbours may share a letter.
+    pub has_runs: bool,
     pub steppings: Vec<Group<Stepping>>,
     pub writers: Vec<Writer>,
     /// Makes texts and lists.
@@ -75,6 +78,8 @@ pub fn utf7() -> Format {
         read: utf7::read,
         readings: examples::utf7::readings(),
         steps: utf7::steps,
+        steps_from: utf7::steps_from,
+        has_runs: true,
         steppings: examples::utf7::steppings(),
         writers: vec![
             writer("utf7-header", |cells| utf7::write(Style::Header, cells), Style::Header),
@@ -99,6 +104,8 @@ pub fn jp2() -> Format {
         read: jp2::read,
         readings: examples::jp2::readings(),
         steps: jp2::steps,
+        steps_from: jp2::steps_from,
+        has_runs: false,
         steppings: examples::jp2::steppings(),
         writers: vec![writer],
         source: &texts::jp2::SOURCE,
@@ -121,6 +128,8 @@ pub fn mailbox() -> Format {
         read: mailbox::read,
         readings: examples::mailbox::readings(),
         steps: mailbox::steps,
+        steps_from: mailbox::steps_from,
+        has_runs: true,
         steppings: examples::mailbox::steppings(),
         writers: vec![writer],
         source: &texts::mailbox::SOURCE,

@@ -1,5 +1,7 @@
 //! Examples of JP-2.
 
+use std::ops::Range;
+
 use super::{gives, prints, refuses, steps, Example, Group, Listing, Reading, Stepping, Writing};
 use crate::second::{Answer, Outcome};
 
@@ -107,24 +109,25 @@ fn small_writings() -> Vec<Writing> {
 fn stepped() -> Vec<Stepping> {
     vec![
         steps("P1", b"", &[], 0, 0),
-        steps("P9", b"\x1B$B$\"\x1B(B", &[(0x0057_2422, 4)], 0, 1),
-        steps("P10, first five bytes of P9", b"\x1B$B$\"", &[(0x0057_2422, 4)], 8, 5),
+        steps("P9", b"\x1B$B$\"\x1B(B", &[(0x0057_2422, 3..5)], 0, 1),
+        steps("P10, first five bytes of P9", b"\x1B$B$\"", &[(0x0057_2422, 3..5)], 8, 5),
         steps("P10, first four bytes of P9", b"\x1B$B$", &[], 7, 4),
-        steps("P11", b"\x1B.A\x1BNA", &[(0x0064_0041, 5)], 0, 1),
-        steps("P12", b"\x1B.A\r\n\x1BNA", &[(0x0006_000D, 3), (0x0006_000A, 4)], 6, 6),
-        steps("P12, second clause", b"\x1B.A\n\x1BNA", &[(0x0006_000A, 3), (0x0064_0041, 6)], 0, 2),
-        steps("an escape of no row after two cells", b"ab\x1B$(B!!", &[(0x0006_0061, 0), (0x0006_0062, 1)], 5, 5),
-        steps("a high byte second in a later pair", b"\x1B$A!!!\x80", &[(0x003A_2121, 4)], 1, 6),
-        steps("ESC second in a later pair", b"\x1B$@!!!\x1B(B", &[(0x002A_2121, 4)], 3, 6),
-        steps("the text ends in a later pair", b"\x1B$(C!!!", &[(0x0095_2121, 5)], 7, 7),
-        steps("ESC N and a control character", b"a\x1B.F\x1BN\x1F", &[(0x0006_0061, 0)], 3, 6),
+        steps("P11", b"\x1B.A\x1BNA", &[(0x0064_0041, 3..6)], 0, 1),
+        steps("P12", b"\x1B.A\r\n\x1BNA", &[(0x0006_000D, 3..4), (0x0006_000A, 4..5)], 6, 6),
+        steps("P12, second clause", b"\x1B.A\n\x1BNA", &[(0x0006_000A, 3..4), (0x0064_0041, 4..7)], 0, 2),
+        steps("an escape of no row after two cells", b"ab\x1B$(B!!", &[(0x0006_0061, 0..1), (0x0006_0062, 1..2)], 5, 5),
+        steps("a high byte second in a later pair", b"\x1B$A!!!\x80", &[(0x003A_2121, 3..5)], 1, 6),
+        steps("ESC second in a later pair", b"\x1B$@!!!\x1B(B", &[(0x002A_2121, 3..5)], 3, 6),
+        steps("the text ends in a later pair", b"\x1B$(C!!!", &[(0x0095_2121, 4..6)], 7, 7),
+        steps("ESC N and a control character", b"a\x1B.F\x1BN\x1F", &[(0x0006_0061, 0..1)], 3, 6),
         steps("ESC N between pairs", b"\x1B$(D!!\x1B.F\x1BNa!~\x1B(B", &SHIFTED_BETWEEN_PAIRS, 0, 3),
-        steps("Roman at the end", b"\x1B(Ja ", &[(0x000E_0061, 3), (0x0006_0020, 4)], 8, 5),
-        steps("SO after cells", b"\r\r\n\x0E", &[(0x0006_000D, 0), (0x0006_000D, 1), (0x0006_000A, 2)], 3, 3),
+        steps("Roman at the end", b"\x1B(Ja ", &[(0x000E_0061, 3..4), (0x0006_0020, 4..5)], 8, 5),
+        steps("SO after cells", b"\r\r\n\x0E", &[(0x0006_000D, 0..1), (0x0006_000D, 1..2), (0x0006_000A, 2..3)], 3, 3),
     ]
 }
 
-const SHIFTED_BETWEEN_PAIRS: [(u32, usize); 3] = [(0x009F_2121, 5), (0x007E_0061, 11), (0x009F_217E, 13)];
+const SHIFTED_BETWEEN_PAIRS: [(u32, Range<usize>); 3] =
+    [(0x009F_2121, 4..6), (0x007E_0061, 9..12), (0x009F_217E, 12..14)];
 
 fn escape_readings() -> Vec<Reading> {
     vec![

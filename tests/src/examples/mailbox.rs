@@ -169,20 +169,20 @@ fn not_utf7() -> Vec<Reading> {
 fn stepped() -> Vec<Stepping> {
     vec![
         steps("no byte", b"", &[], 0, 0),
-        steps("the name of order 1", b"&ZeVnLIqe-", &[(0x65E5, 3), (0x672C, 6), (0x8A9E, 8)], 0, 3),
-        steps("the ampersand", b"a&-", &[(0x61, 0), (0x26, 2)], 0, 2),
+        steps("the name of order 1", b"&ZeVnLIqe-", &[(0x65E5, 1..4), (0x672C, 3..7), (0x8A9E, 6..9)], 0, 3),
+        steps("the ampersand", b"a&-", &[(0x61, 0..1), (0x26, 1..3)], 0, 2),
         steps("the ampersand in a run", b"&ACY-", &[], 17, 3),
-        steps("an ampersand as a second unit", b"&AKMAJg-", &[(0xA3, 3)], 17, 6),
-        steps("a run directly after a run", b"&AKM-&AKM-", &[(0xA3, 3)], 17, 6),
-        steps("an ampersand between runs", b"&AKM-&-&AKM-", &[(0xA3, 3), (0x26, 6), (0xA3, 10)], 0, 3),
-        steps("a bare sign after a cell", b"a&!", &[(0x61, 0)], 2, 2),
-        steps("a unit and then bits that are not zero", b"&AKN-", &[(0xA3, 3)], 4, 4),
-        steps("a unit, and too many zero bits", b"&AKMA-", &[(0xA3, 3)], 17, 5),
-        steps("a unit in an open run", b"&AKN", &[(0xA3, 3)], 7, 4),
-        steps("a unit and then another byte", b"&AKN!", &[(0xA3, 3)], 3, 4),
-        steps("a high byte in a run", b"&ImIDkQ\x80", &[(0x2262, 3), (0x391, 6)], 1, 7),
-        steps("a control character after two cells", b"ab\tc", &[(0x61, 0), (0x62, 1)], 3, 2),
-        steps("bytes and a run", b"A&ImIDkQ-.", &[(0x41, 0), (0x2262, 4), (0x391, 7), (0x2E, 9)], 0, 4),
+        steps("an ampersand as a second unit", b"&AKMAJg-", &[(0xA3, 1..4)], 17, 6),
+        steps("a run directly after a run", b"&AKM-&AKM-", &[(0xA3, 1..4)], 17, 6),
+        steps("an ampersand between runs", b"&AKM-&-&AKM-", &[(0xA3, 1..4), (0x26, 5..7), (0xA3, 8..11)], 0, 3),
+        steps("a bare sign after a cell", b"a&!", &[(0x61, 0..1)], 2, 2),
+        steps("a unit and then bits that are not zero", b"&AKN-", &[(0xA3, 1..4)], 4, 4),
+        steps("a unit, and too many zero bits", b"&AKMA-", &[(0xA3, 1..4)], 17, 5),
+        steps("a unit in an open run", b"&AKN", &[(0xA3, 1..4)], 7, 4),
+        steps("a unit and then another byte", b"&AKN!", &[(0xA3, 1..4)], 3, 4),
+        steps("a high byte in a run", b"&ImIDkQ\x80", &[(0x2262, 1..4), (0x391, 3..7)], 1, 7),
+        steps("a control character after two cells", b"ab\tc", &[(0x61, 0..1), (0x62, 1..2)], 3, 2),
+        steps("bytes and a run", b"A&ImIDkQ-.", &[(0x41, 0..1), (0x2262, 2..5), (0x391, 4..8), (0x2E, 9..10)], 0, 4),
     ]
 }
 

@@ -7,6 +7,7 @@ pub mod page;
 pub mod utf7;
 
 use std::fmt::{self, Display, Formatter, UpperHex};
+use std::ops::Range;
 
 use crate::second::{Answer, Complete, Elements, Steps};
 use crate::trial::show;
@@ -51,9 +52,10 @@ fn refuses<I: Copy, O>(name: &'static str, input: &[I], number: u32, place: usiz
     Example { name, input: input.to_vec(), expected: Err(Answer { number, place }) }
 }
 
-/// The cells that are handed out, each with the place of the byte that completes it, and then the answer.
-fn steps(name: &'static str, text: &[u8], cells: &[(u32, usize)], number: u32, place: usize) -> Stepping {
-    let cells = cells.iter().map(|&(cell, place)| Complete { cell, place }).collect();
+/// The cells that are handed out, each with where its bytes begin and end, and then the answer.
+fn steps(name: &'static str, text: &[u8], cells: &[(u32, Range<usize>)], number: u32, place: usize) -> Stepping {
+    let cells =
+        cells.iter().map(|(cell, bytes)| Complete { cell: *cell, begin: bytes.start, end: bytes.end }).collect();
     Example { name, input: text.to_vec(), expected: Steps { cells, answer: Answer { number, place } } }
 }
 

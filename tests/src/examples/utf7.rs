@@ -1,5 +1,7 @@
 //! Examples of UTF-7.
 
+use std::ops::Range;
+
 use super::{gives, prints, refuses, steps, Group, Listing, Reading, Stepping, Writing};
 use crate::second::utf7::Style::{self, Body, Header};
 
@@ -113,21 +115,34 @@ fn edge_readings() -> Vec<Reading> {
 fn stepped() -> Vec<Stepping> {
     vec![
         steps("P1", b"", &[], 0, 0),
-        steps("P2", b"A+ImIDkQ.", &[(0x41, 0), (0x2262, 4), (0x391, 7), (0x2E, 8)], 0, 4),
-        steps("P5", b"+-", &[(0x2B, 1)], 0, 1),
+        steps("P2", b"A+ImIDkQ.", &[(0x41, 0..1), (0x2262, 2..5), (0x391, 4..8), (0x2E, 8..9)], 0, 4),
+        steps("P5", b"+-", &[(0x2B, 0..2)], 0, 1),
         steps("P6", b"+", &[], 2, 1),
-        steps("P7, a unit and then bits that are not zero", b"+AKN-", &[(0xA3, 3)], 4, 4),
-        steps("P7, second clause", b"+AKM-1", &[(0xA3, 3), (0x31, 5)], 0, 2),
+        steps("P7, a unit and then bits that are not zero", b"+AKN-", &[(0xA3, 1..4)], 4, 4),
+        steps("P7, second clause", b"+AKM-1", &[(0xA3, 1..4), (0x31, 5..6)], 0, 2),
         steps("P8", b"+A-", &[], 0, 0),
-        steps("a byte of no set after two cells", b"ab~c", &[(0x61, 0), (0x62, 1)], 3, 2),
-        steps("a bare plus after a cell", b"a+!", &[(0x61, 0)], 2, 2),
-        steps("a high byte in a run", b"+ImIDkQ\x80", &[(0x2262, 3), (0x391, 6)], 1, 7),
-        steps("a high byte before a unit is full", b"+ImID\x80", &[(0x2262, 3)], 1, 5),
-        steps("bits that are not zero at the end of the text", b"+ImIB", &[(0x2262, 3)], 4, 5),
-        steps("three units in eight letters", b"+ZeVnLIqe", &[(0x65E5, 3), (0x672C, 6), (0x8A9E, 8)], 0, 3),
-        steps("a fault in a later run", b"+AKM-+AKM-+", &[(0xA3, 3), (0xA3, 8)], 2, 11),
+        steps("a byte of no set after two cells", b"ab~c", &[(0x61, 0..1), (0x62, 1..2)], 3, 2),
+        steps("a bare plus after a cell", b"a+!", &[(0x61, 0..1)], 2, 2),
+        steps("a high byte in a run", b"+ImIDkQ\x80", &[(0x2262, 1..4), (0x391, 3..7)], 1, 7),
+        steps("a high byte before a unit is full", b"+ImID\x80", &[(0x2262, 1..4)], 1, 5),
+        steps("bits that are not zero at the end of the text", b"+ImIB", &[(0x2262, 1..4)], 4, 5),
+        steps("three units in eight letters", b"+ZeVnLIqe", &[(0x65E5, 1..4), (0x672C, 3..7), (0x8A9E, 6..9)], 0, 3),
+        steps("a fault in a later run", b"+AKM-+AKM-+", &[(0xA3, 1..4), (0xA3, 6..9)], 2, 11),
+        steps("plus signs", b"a+-+-b", &[(0x61, 0..1), (0x2B, 1..3), (0x2B, 3..5), (0x62, 5..6)], 0, 4),
+        steps("a byte that ends a run", b"+AKM.+AKM", &[(0xA3, 1..4), (0x2E, 4..5), (0xA3, 6..9)], 0, 3),
+        steps("three units with shared letters, twice", b"+ZeVnLIqeZeVnLIqe-x", &THREE_UNITS_TWICE, 0, 7),
     ]
 }
+
+const THREE_UNITS_TWICE: [(u32, Range<usize>); 7] = [
+    (0x65E5, 1..4),
+    (0x672C, 3..7),
+    (0x8A9E, 6..9),
+    (0x65E5, 9..12),
+    (0x672C, 11..15),
+    (0x8A9E, 14..17),
+    (0x78, 18..19),
+];
 
 /// Writings that follow from the rules, and that a writer can easily get wrong.
 fn edge_writings() -> Vec<Styled> {

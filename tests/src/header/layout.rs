@@ -44,11 +44,17 @@ structs! {
     qalithonda_page { kind: u32, opening: usize, length: usize, used: usize, done: usize }
     qalithonda_edited { answer: qalithonda_numbers, page: qalithonda_page }
     qalithonda_utf7_cursor { at: usize, handed: usize, shift: u32, pending: u32, value: u32 }
-    qalithonda_utf7_stepped { given: u32, cell: u32, answer: qalithonda_numbers, next: qalithonda_utf7_cursor }
+    qalithonda_utf7_stepped {
+        given: u32, cell: u32, begin: usize, end: usize, answer: qalithonda_numbers, next: qalithonda_utf7_cursor
+    }
     qalithonda_jp2_cursor { at: usize, handed: usize, g0: u16, g2: u16, phase: u8, first: u8, second: u8 }
-    qalithonda_jp2_stepped { given: u32, cell: u32, answer: qalithonda_numbers, next: qalithonda_jp2_cursor }
+    qalithonda_jp2_stepped {
+        given: u32, cell: u32, begin: usize, end: usize, answer: qalithonda_numbers, next: qalithonda_jp2_cursor
+    }
     qalithonda_mailbox_cursor { at: usize, handed: usize, shift: u32, pending: u32, value: u32 }
-    qalithonda_mailbox_stepped { given: u32, cell: u32, answer: qalithonda_numbers, next: qalithonda_mailbox_cursor }
+    qalithonda_mailbox_stepped {
+        given: u32, cell: u32, begin: usize, end: usize, answer: qalithonda_numbers, next: qalithonda_mailbox_cursor
+    }
 }
 
 /// One check that C compiles, and one for each struct of either side.

@@ -3,7 +3,7 @@
 use std::fmt::{self, Debug, Display, Formatter};
 
 use super::RawAnswer;
-use crate::second::Answer;
+use crate::second::{Answer, Complete};
 
 /// What a host keeps between two steps. Any numbers make a cursor.
 pub trait Cursor: Copy + Eq + Debug + 'static {
@@ -51,6 +51,8 @@ cursor!(MailboxCursor { at: usize, handed: usize, shift: u32, pending: u32, valu
 struct RawStepped<C> {
     given: u32,
     cell: u32,
+    begin: usize,
+    end: usize,
     answer: RawAnswer,
     next: C,
 }
@@ -69,20 +71,34 @@ extern "C" {
 pub struct Stepped<C> {
     pub given: u32,
     pub cell: u32,
+    pub begin: usize,
+    pub end: usize,
     pub answer: Answer,
     pub next: C,
 }
 
+impl<C> Stepped<C> {
+    /// A step that hands out a cell with where its bytes begin and end.
+    pub fn cell(Complete { cell, begin, end }: Complete, next: C) -> Stepped<C> {
+        Stepped { given: 1, cell, begin, end, answer: Answer { number: 0, place: 0 }, next }
+    }
+
+    /// A step that gives the final answer.
+    pub fn last(answer: Answer, next: C) -> Stepped<C> {
+        Stepped { given: 0, cell: 0, begin: 0, end: 0, answer, next }
+    }
+}
+
 impl<C> From<RawStepped<C>> for Stepped<C> {
-    fn from(RawStepped { given, cell, answer, next }: RawStepped<C>) -> Stepped<C> {
-        Stepped { given, cell, answer: answer.into(), next }
+    fn from(RawStepped { given, cell, begin, end, answer, next }: RawStepped<C>) -> Stepped<C> {
+        Stepped { given, cell, begin, end, answer: answer.into(), next }
     }
 }
 
 impl<C: Cursor> Display for Stepped<C> {
     fn fmt(&self, f: &mut Formatter) -> fmt::Result {
-        let Stepped { given, cell, answer, next } = self;
-        write!(f, "given {given}, cell {cell:08X}, answer {answer}, next {next:?}")
+        let Stepped { given, cell, begin, end, answer, next } = self;
+        write!(f, "given {given}, cell {cell:08X} in {begin}..{end}, answer {answer}, next {next:?}")
     }
 }
 

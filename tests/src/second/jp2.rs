@@ -1,6 +1,6 @@
 //! ISO-2022-JP-2, after the section "JP-2" of document 01.
 
-use super::reading::{self, first_fault, Found};
+use super::reading::{self, first_fault, Cursor, Found};
 use super::{all_writable, within_limit, Answer, Complete, Elements, Outcome, Steps};
 
 const ESC: u8 = 0x1B;
@@ -39,33 +39,83 @@ pub static SETS: [Set; 9] = [
 pub static ASCII: &Set = &SETS[0];
 
 impl Set {
-    /// "With 6 or 14 in G0, (..) single cells." "With another set, a cell is two bytes."
     pub fn has_pairs(&self) -> bool {
-        self.to == To::G0 && ![6, 14].contains(&self.number)
+        self.to == To::G0 && has_pairs(self.number)
     }
+}
+
+/// Whether the set of this number, in G0, has pairs: "With 6 or 14 in G0, (..) single cells." "With another set, a cell is
+/// two bytes."
+fn has_pairs(number: u32) -> bool {
+    ![6, 14].contains(&number)
 }
 
 /// "A JP-2 cell is registration number times 65536, plus the code as sent (pairs: first byte times 256 plus second)."
 pub fn cell(set: &Set, code: &[u8]) -> u32 {
-    65_536 * set.number + code.iter().fold(0, |code, &byte| 256 * code + u32::from(byte))
+    numbered(set.number, code)
+}
+
+fn numbered(number: u32, code: &[u8]) -> u32 {
+    65_536 * number + code.iter().fold(0, |code, &byte| 256 * code + u32::from(byte))
 }
 
 /// Reads a text.
 pub fn read(text: &[u8]) -> Elements<u32> {
-    reading::read(find, text)
+    reading::read(find, Before::START, text)
 }
 
 /// Steps through a text.
 pub fn steps(text: &[u8]) -> Steps {
-    reading::steps(find, text)
+    reading::steps(find, text, Cursor { at: 0, handed: 0, before: Before::START })
 }
 
-fn find(text: &[u8]) -> Found {
-    let (parts, at_end) = follow(cut(text));
+/// Steps from a cursor with these numbers, in the order of the C interface: the sets in G0 and G2 by number, "0: none", and
+/// the phase, "0 between cells, 1 after a CR, 2 after the first byte of a pair, 3 after ESC N, 4, 5 or 6 after ESC and none,
+/// one or two bytes more", with its bytes. A phase above 6 is taken for 6.
+pub fn steps_from(text: &[u8], numbers: &[u64]) -> Steps {
+    let &[at, handed, g0, g2, phase, first, second] = numbers else { panic!("seven numbers") };
+    let more = [first as u8, second as u8];
+    let open = match phase {
+        0 => Open::Nothing,
+        1 => Open::Return,
+        2 => Open::Pair(more[0]),
+        3 => Open::Shift,
+        phase => Open::Escape([&[ESC], &more[..phase.min(6) as usize - 4]].concat()),
+    };
+    let before = Before { sets: InForce { g0: g0 as u32, g2: (g2 != 0).then_some(g2 as u32) }, open };
+    reading::steps(find, text, Cursor { at: at as usize, handed: handed as usize, before })
+}
+
+/// What of the text before a place still matters there.
+struct Before {
+    sets: InForce,
+    open: Open,
+}
+
+/// What is open at a place.
+enum Open {
+    Nothing,
+    /// A CR stands directly before.
+    Return,
+    /// A pair, with its first byte.
+    Pair(u8),
+    /// ESC N
+    Shift,
+    /// An escape, with its bytes so far.
+    Escape(Vec<u8>),
+}
+
+impl Before {
+    /// "A text starts with ASCII in G0 and nothing in G2."
+    const START: Before = Before { sets: AT_START, open: Open::Nothing };
+}
+
+fn find(text: &[u8], at: usize, before: Before) -> Found {
+    let (parts, at_end) = follow(before.sets, cut(text, at, before.open));
     let faults = parts.iter().flat_map(|part| part.faults(text.len()));
     Found {
         cells: parts.iter().flat_map(Part::cells).collect(),
-        fault: first_fault(text, faults.chain(at_end.fault(text.len()))),
+        fault: first_fault(text, at, faults.chain(at_end.fault(text.len()))),
     }
 }
 
@@ -73,66 +123,97 @@ fn find(text: &[u8]) -> Found {
 enum Token<'a> {
     /// An escape of the table.
     Designation(&'static Set),
-    /// ESC N, and the byte after it if the text does not end there.
-    Shift(Option<u8>),
-    /// An escape that is neither: so many of its bytes fit, and the next does not, or the text ends.
-    Misfit(usize),
-    /// The longest stretch of bytes other than ESC.
-    Stretch(&'a [u8]),
+    /// ESC N.
+    Shift,
+    /// The byte after ESC N, if the text does not end there.
+    Shifted(Option<u8>),
+    /// An escape that is neither: the next byte does not fit, or the text ends.
+    Misfit,
+    /// The second byte of a pair that a cursor stands in, if the text does not end there, and the first.
+    Second(u8, Option<u8>),
+    /// The longest stretch of bytes other than ESC, and whether a CR stands directly before it.
+    Stretch(&'a [u8], bool),
 }
 
-/// Cuts a text into tokens, from left to right, each with the place where it starts.
-fn cut(text: &[u8]) -> Vec<(usize, Token<'_>)> {
+/// Cuts a text into tokens from a place on, from left to right, each with the place just past it; that of a misfit is of
+/// the first byte that fits none.
+fn cut(text: &[u8], at: usize, open: Open) -> Vec<(usize, Token<'_>)> {
     let mut tokens = Vec::new();
-    let mut place = 0;
-    while place < text.len() {
-        let (token, length) = first_token(&text[place..]);
-        tokens.push((place, token));
+    let (mut place, mut open) = (at, open);
+    // What is open is judged at the end too.
+    while place < text.len() || !matches!(open, Open::Nothing | Open::Return) {
+        let (token, length) = first_token(&text[place..], open);
+        let is_misfit = matches!(token, Token::Misfit);
+        open = if matches!(token, Token::Shift) { Open::Shift } else { Open::Nothing };
         place += length;
+        tokens.push((place, token));
+        // This is a fault: nothing after it matters.
+        if is_misfit {
+            break;
+        }
     }
     tokens
 }
 
-/// The first token of what is left of a text, and how many bytes it takes.
-fn first_token(rest: &[u8]) -> (Token<'_>, usize) {
+/// The first token of what is left of a text, and how many bytes it takes from there.
+fn first_token(rest: &[u8], open: Open) -> (Token<'_>, usize) {
+    let next = rest.first().copied();
+    let taken = usize::from(next.is_some());
+    let is_after_return = matches!(open, Open::Return);
+    match open {
+        Open::Pair(first) => return (Token::Second(first, next), taken),
+        Open::Shift => return (Token::Shifted(next), taken),
+        Open::Escape(begun) => return escape(&begun, rest),
+        Open::Nothing | Open::Return => {}
+    }
     let stretch = rest.split(|&byte| byte == ESC).next().unwrap_or(rest);
-    if !stretch.is_empty() {
-        return (Token::Stretch(stretch), stretch.len());
+    if stretch.is_empty() {
+        return escape(b"", rest);
     }
-    if rest.starts_with(SHIFT) {
-        return (Token::Shift(rest.get(2).copied()), rest.len().min(3));
+    (Token::Stretch(stretch, is_after_return), stretch.len())
+}
+
+/// The escape with these bytes and then what is left of a text, and how many bytes it takes from there.
+fn escape<'a>(begun: &[u8], rest: &[u8]) -> (Token<'a>, usize) {
+    let all = [begun, rest].concat();
+    // One that is complete before the next byte, as only a cursor made by hand has it, is none.
+    let longer = |escape: &[u8]| escape.len() > begun.len();
+    if longer(SHIFT) && all.starts_with(SHIFT) {
+        return (Token::Shift, SHIFT.len() - begun.len());
     }
-    match SETS.iter().find(|set| rest.starts_with(set.designation)) {
-        Some(set) => (Token::Designation(set), set.designation.len()),
-        // This is a fault: nothing after it matters, and all that is left is taken.
-        None => (Token::Misfit(fitting(rest)), rest.len()),
+    match SETS.iter().find(|set| longer(set.designation) && all.starts_with(set.designation)) {
+        Some(set) => (Token::Designation(set), set.designation.len() - begun.len()),
+        None => (Token::Misfit, fitting(&all).saturating_sub(begun.len())),
     }
 }
 
-/// How many bytes of what is left begin some escape of the table or ESC N.
-fn fitting(rest: &[u8]) -> usize {
-    let alike = |escape: &[u8]| escape.iter().zip(rest).take_while(|(left, right)| left == right).count();
+/// How many of these bytes begin some escape of the table or ESC N.
+fn fitting(bytes: &[u8]) -> usize {
+    let alike = |escape: &[u8]| escape.iter().zip(bytes).take_while(|(left, right)| left == right).count();
     SETS.iter().map(|set| set.designation).chain([SHIFT]).map(alike).max().unwrap_or(0)
 }
 
-/// The sets in force at a place of a text.
+/// The sets in force at a place of a text, by their numbers.
 #[derive(Clone, Copy)]
 struct InForce {
-    g0: &'static Set,
-    g2: Option<&'static Set>,
+    g0: u32,
+    g2: Option<u32>,
 }
 
-/// "A text starts with ASCII in G0 and nothing in G2."
-static AT_START: InForce = InForce { g0: ASCII, g2: None };
+const AT_START: InForce = InForce { g0: 6, g2: None };
 
 impl InForce {
     /// The sets in force after a token.
     fn after(self, token: &Token) -> InForce {
         match *token {
-            Token::Designation(set) if set.to == To::G0 => InForce { g0: set, ..self },
-            Token::Designation(set) => InForce { g2: Some(set), ..self },
+            Token::Designation(set) if set.to == To::G0 => InForce { g0: set.number, ..self },
+            Token::Designation(set) => InForce { g2: Some(set.number), ..self },
             // "CR directly followed by LF clears G2. Either alone does not."
-            Token::Stretch(bytes) if bytes.windows(2).any(|two| two == b"\r\n") => InForce { g2: None, ..self },
+            Token::Stretch(bytes, is_after_return)
+                if bytes.windows(2).any(|two| two == b"\r\n") || (is_after_return && bytes[0] == b'\n') =>
+            {
+                InForce { g2: None, ..self }
+            }
             // "ESC N (..); G0 stays."
             _ => self,
         }
@@ -140,78 +221,88 @@ impl InForce {
 
     /// "A text ends with ASCII in G0." "8 | text ends with G0 not ASCII | text length"
     fn fault(self, end: usize) -> Option<Answer> {
-        (self.g0 != ASCII).then_some(Answer { number: 8, place: end })
+        (self.g0 != ASCII.number).then_some(Answer { number: 8, place: end })
     }
 }
 
-/// A token, the place where it starts, and the sets in force there.
+/// A token, the place just past it, and the sets in force before it.
 struct Part<'a> {
-    place: usize,
+    end: usize,
     token: Token<'a>,
     sets: InForce,
 }
 
 /// Follows G0 and G2 through the tokens; gives also the sets in force at the end.
-fn follow(tokens: Vec<(usize, Token<'_>)>) -> (Vec<Part<'_>>, InForce) {
-    let mut sets = AT_START;
+fn follow(at_start: InForce, tokens: Vec<(usize, Token<'_>)>) -> (Vec<Part<'_>>, InForce) {
+    let mut sets = at_start;
     let mut parts = Vec::new();
-    for (place, token) in tokens {
+    for (end, token) in tokens {
         let next = sets.after(&token);
-        parts.push(Part { place, token, sets });
+        parts.push(Part { end, token, sets });
         sets = next;
     }
     (parts, sets)
 }
 
 impl Part<'_> {
-    /// The cells of this part, where no fault stands before them.
+    /// The cells of this part, where no fault stands before them. By order 2 of document 02 the bytes of one are "its own
+    /// byte, its pair, (..) or ESC N and its byte, never a designation".
     fn cells(&self) -> Vec<Complete> {
-        let g0 = self.sets.g0;
-        match (&self.token, self.sets.g2) {
+        let InForce { g0, g2 } = self.sets;
+        match self.token {
             // "ESC N and a byte of 32 to 127 is one cell of the G2 set, whichever G0 is."
-            (Token::Shift(Some(byte)), Some(g2)) => vec![Complete { cell: cell(g2, &[*byte]), place: self.place + 2 }],
+            Token::Shifted(Some(byte)) => vec![Complete::of_last(3, self.end, numbered(g2.unwrap_or(0), &[byte]))],
             // "With another set, a cell is two bytes of 33 to 126."
-            (Token::Stretch(bytes), _) if g0.has_pairs() => {
-                let second_bytes = (self.place + 1..).step_by(2);
-                let pairs = second_bytes.zip(bytes.chunks_exact(2));
-                pairs.map(|(place, pair)| Complete { cell: cell(g0, pair), place }).collect()
+            Token::Second(first, Some(second)) => vec![Complete::of_last(2, self.end, numbered(g0, &[first, second]))],
+            Token::Stretch(bytes, _) if has_pairs(g0) => {
+                let ends = (self.start(bytes) + 2..).step_by(2);
+                let pairs = ends.zip(bytes.chunks_exact(2));
+                pairs.map(|(end, pair)| Complete::of_last(2, end, numbered(g0, pair))).collect()
             }
             // "Bytes 33 to 126 carry the G0 number; 0 to 32 and 127 always carry 6."
-            (Token::Stretch(bytes), _) => {
-                let carried = |byte| if (33..=126).contains(&byte) { g0 } else { ASCII };
-                let places = (self.place..).zip(*bytes);
-                places.map(|(place, &byte)| Complete { cell: cell(carried(byte), &[byte]), place }).collect()
+            Token::Stretch(bytes, _) => {
+                let carried = |byte| if (33..=126).contains(&byte) { g0 } else { ASCII.number };
+                let ends = (self.start(bytes) + 1..).zip(bytes);
+                ends.map(|(end, &byte)| Complete::of_last(1, end, numbered(carried(byte), &[byte]))).collect()
             }
             _ => vec![],
         }
     }
 
+    /// Where a stretch of these bytes starts.
+    fn start(&self, bytes: &[u8]) -> usize {
+        self.end - bytes.len()
+    }
+
     /// The faults in this part of a text with this end, but for high bytes.
-    fn faults(&self, end: usize) -> Vec<Answer> {
+    fn faults(&self, text_end: usize) -> Vec<Answer> {
+        // "3 | byte that no rule allows there | that byte"
+        let last_byte = vec![Answer { number: 3, place: self.end.saturating_sub(1) }];
         // "7 | text ends in an escape, in a pair or after ESC N | text length"
-        let broken = |number, place| Answer { number: if place == end { 7 } else { number }, place };
+        let broken = |number| Answer { number: if self.end == text_end { 7 } else { number }, place: self.end };
         match self.token {
             Token::Designation(_) => vec![],
             // "5 | escape neither ESC N nor in the table | first byte that fits none"
-            Token::Misfit(fitting) => vec![broken(5, self.place + fitting)],
+            Token::Misfit => vec![broken(5)],
             // "6 | ESC N with nothing in G2 | the N"
-            Token::Shift(_) if self.sets.g2.is_none() => vec![Answer { number: 6, place: self.place + 1 }],
-            Token::Shift(Some(32..=127)) => vec![],
-            Token::Shift(_) => vec![broken(3, self.place + 2)],
-            Token::Stretch(bytes) if self.sets.g0.has_pairs() => {
+            Token::Shift if self.sets.g2.is_none() => vec![Answer { number: 6, place: self.end - 1 }],
+            Token::Shift | Token::Shifted(Some(32..)) | Token::Second(_, Some(33..=126)) => vec![],
+            Token::Shifted(Some(_)) | Token::Second(_, Some(_)) => last_byte,
+            Token::Shifted(None) | Token::Second(_, None) => vec![broken(7)],
+            Token::Stretch(bytes, _) if has_pairs(self.sets.g0) => {
                 let mut faults = self.forbidden(bytes, |byte| !(33..=126).contains(&byte));
                 // "never broken by an escape": after an odd stretch comes an ESC, or the end.
-                faults.extend((bytes.len() % 2 == 1).then(|| broken(3, self.place + bytes.len())));
+                faults.extend((bytes.len() % 2 == 1).then(|| broken(3)));
                 faults
             }
             // "bytes 0 to 127 but ESC, SI (15) and SO (14)"
-            Token::Stretch(bytes) => self.forbidden(bytes, |byte| byte == 14 || byte == 15),
+            Token::Stretch(bytes, _) => self.forbidden(bytes, |byte| byte == 14 || byte == 15),
         }
     }
 
     /// "3 | byte that no rule allows there | that byte"
     fn forbidden(&self, bytes: &[u8], is_forbidden: fn(u8) -> bool) -> Vec<Answer> {
-        let places = (self.place..).zip(bytes).filter(|(_, &byte)| is_forbidden(byte));
+        let places = (self.start(bytes)..).zip(bytes).filter(|(_, &byte)| is_forbidden(byte));
         places.map(|(place, _)| Answer { number: 3, place }).collect()
     }
 }
@@ -276,8 +367,9 @@ fn in_force(before: &[u32], to: To) -> Option<&'static Set> {
         }
     }
     match to {
-        To::G0 => Some(AT_START.g0),
-        To::G2 => AT_START.g2,
+        // "A text starts with ASCII in G0 and nothing in G2."
+        To::G0 => Some(ASCII),
+        To::G2 => None,
     }
 }
 

@@ -1,7 +1,8 @@
 //! Mailbox names, after order 1 of document 02. Quotations in comments are of that order.
 
 use super::bits::{bits, number};
-use super::reading::{self, first_fault, Found};
+use super::reading::{self, first_fault, Cursor, Found};
+use super::run::Run;
 use super::{all_writable, within_limit, Answer, Complete, Elements, Steps};
 
 const AMPERSAND: u32 = 0x26;
@@ -23,25 +24,65 @@ fn value(byte: u8) -> Option<usize> {
 
 /// Reads a name.
 pub fn read(name: &[u8]) -> Elements<u32> {
-    reading::read(find, name)
+    reading::read(find, Before::START, name)
 }
 
 /// Steps through a name.
 pub fn steps(name: &[u8]) -> Steps {
-    reading::steps(find, name)
+    reading::steps(find, name, Cursor { at: 0, handed: 0, before: Before::START })
 }
 
-fn find(name: &[u8]) -> Found {
-    let parts = cut(name);
+/// Steps from a cursor with these numbers, in the order of the C interface: "0 outside a run, 1 outside directly after a
+/// run, 2 after '&', 3 after '&' directly after a run, else in a run" with so many bits that wait, and their value. Any
+/// count is taken by sixteen.
+pub fn steps_from(name: &[u8], numbers: &[u64]) -> Steps {
+    let &[at, handed, shift, pending, value] = numbers else { panic!("five numbers") };
+    let before = match shift {
+        0 | 1 => Before { is_behind_run: shift == 1, open: None },
+        2 | 3 => Before { is_behind_run: shift == 3, open: Some(Open::Sign) },
+        _ => Before {
+            is_behind_run: false,
+            open: Some(Open::Run(bits(value as usize, pending as usize % 16).collect())),
+        },
+    };
+    reading::steps(find, name, Cursor { at: at as usize, handed: handed as usize, before })
+}
+
+/// What of the name before a place still matters there.
+struct Before {
+    /// Whether a run stands directly before what is open, or before the place.
+    is_behind_run: bool,
+    open: Option<Open>,
+}
+
+/// What is open at a place.
+enum Open {
+    Sign,
+    /// A run, with the bits that wait for a full sixteen.
+    Run(Vec<usize>),
+}
+
+impl Before {
+    const START: Before = Before { is_behind_run: false, open: None };
+}
+
+fn find(name: &[u8], at: usize, before: Before) -> Found {
+    let Before { is_behind_run, open } = before;
+    let parts = cut(name, at, open);
     let in_parts = parts.iter().flat_map(|part| part.faults(name));
     // "17 (..) for a run directly after a run at its first letter"
-    let between_parts = parts.windows(2).filter_map(|two| match two {
-        [Part::Run(_), Part::Run(run)] => Some(Answer { number: 17, place: run.start }),
+    let directly_after = parts.windows(2).filter_map(|two| match two {
+        [Part::Run(_), next] => Some(next),
+        _ => None,
+    });
+    let after_runs = parts.first().filter(|_| is_behind_run).into_iter().chain(directly_after);
+    let needless = after_runs.filter_map(|part| match part {
+        Part::Run(run) => Some(Answer { number: 17, place: run.start }),
         _ => None,
     });
     Found {
         cells: parts.iter().flat_map(Part::cells).collect(),
-        fault: first_fault(name, in_parts.chain(between_parts)),
+        fault: first_fault(name, at, in_parts.chain(needless)),
     }
 }
 
@@ -63,53 +104,50 @@ enum Part {
     Run(Run),
 }
 
-struct Run {
-    /// The place of its first letter.
-    start: usize,
-    /// The bits of its letters.
-    bits: Vec<usize>,
-}
-
-/// Cuts a name into its parts, from left to right.
-fn cut(name: &[u8]) -> Vec<Part> {
+/// Cuts a name into its parts from a place on, from left to right.
+fn cut(name: &[u8], at: usize, open: Option<Open>) -> Vec<Part> {
     let mut parts = Vec::new();
-    let mut place = 0;
-    while place < name.len() {
-        let (part, length) = first_part(&name[place..], place);
+    let mut place = at;
+    let mut open = open;
+    // What is open is judged at the end too.
+    while place < name.len() || open.is_some() {
+        let (part, length) = first_part(&name[place..], place, open.take());
         parts.push(part);
         place += length;
     }
     parts
 }
 
-/// The first part of what is left of a name from this place on, and how many bytes it takes. After a bare sign and a
-/// run that does not close nothing matters, and all that is left is taken.
-fn first_part(rest: &[u8], place: usize) -> (Part, usize) {
-    if rest[0] != b'&' {
-        return (Part::Direct { byte: rest[0], place }, 1);
-    }
-    let letters: Vec<usize> = rest[1..].iter().map_while(|&byte| value(byte)).collect();
-    let length = 1 + letters.len();
-    // "every run closes with `-`"
-    let is_closed = rest.get(length) == Some(&b'-');
-    let part = match (letters.is_empty(), is_closed) {
-        (true, true) => Part::Ampersand { end: place + 1 },
-        (true, false) => Part::BareSign { end: place + 1 },
-        (false, _) => {
-            let bits = letters.into_iter().flat_map(|letter| bits(letter, 6)).collect();
-            Part::Run(Run { start: place + 1, bits })
+/// The first part of what is left of a name from this place on, and how many bytes it takes from there. After a bare
+/// sign and a run that does not close nothing matters, and all that is left is taken.
+fn first_part(rest: &[u8], place: usize, open: Option<Open>) -> (Part, usize) {
+    let waiting = match open {
+        None if rest[0] == b'&' => {
+            let (part, length) = first_part(&rest[1..], place + 1, Some(Open::Sign));
+            return (part, 1 + length);
         }
+        None => return (Part::Direct { byte: rest[0], place }, 1),
+        Some(Open::Sign) => None,
+        Some(Open::Run(bits)) => Some(bits),
     };
-    (part, if is_closed { length + 1 } else { rest.len() })
+    let letters: Vec<usize> = rest.iter().map_while(|&byte| value(byte)).collect();
+    // "every run closes with `-`"
+    let is_closed = rest.get(letters.len()) == Some(&b'-');
+    let part = match (waiting, letters.is_empty(), is_closed) {
+        (None, true, true) => Part::Ampersand { end: place },
+        (None, true, false) => Part::BareSign { end: place },
+        (waiting, ..) => Part::Run(Run::new(&waiting.unwrap_or_default(), &letters, place)),
+    };
+    (part, if is_closed { letters.len() + 1 } else { rest.len() })
 }
 
 impl Part {
     /// The cells of this part, where no fault stands before them.
     fn cells(&self) -> Vec<Complete> {
         match self {
-            Part::Direct { byte, place } => vec![Complete { cell: u32::from(*byte), place: *place }],
-            // "`&-` is the ampersand"
-            Part::Ampersand { end } => vec![Complete { cell: AMPERSAND, place: *end }],
+            Part::Direct { byte, place } => vec![Complete::of_last(1, place + 1, u32::from(*byte))],
+            // "`&-` is the ampersand"; order 2: "the two bytes of (..) `&-`"
+            Part::Ampersand { end } => vec![Complete::of_last(2, end + 1, AMPERSAND)],
             Part::BareSign { .. } => vec![],
             Part::Run(run) => run.units().collect(),
         }
@@ -126,35 +164,25 @@ impl Part {
             // "17 (needless shift) for a printable unit in a run at the byte completing it"
             Part::Run(run) => {
                 let printable = run.units().filter(|unit| is_printable(unit.cell));
-                let needless = printable.map(|unit| Answer { number: 17, place: unit.place });
-                needless.chain(run.faults_behind(name)).collect()
+                let needless = printable.map(|unit| Answer { number: 17, place: unit.end - 1 });
+                needless.chain(faults_behind(run, name)).collect()
             }
         }
     }
 }
 
-impl Run {
-    /// Its units, each complete with the letter that has its last bit.
-    fn units(&self) -> impl Iterator<Item = Complete> + '_ {
-        let last_bits = (15..).step_by(16);
-        let units = last_bits.zip(self.bits.chunks_exact(16));
-        units.map(|(bit, unit)| Complete { cell: number(unit) as u32, place: self.start + bit / 6 })
-    }
-
-    /// The faults at the byte behind its letters, or at the end of the name.
-    fn faults_behind(&self, name: &[u8]) -> Vec<Answer> {
-        let place = self.start + self.bits.len() / 6;
-        let left_over = self.bits.chunks_exact(16).remainder();
-        let numbers = match name.get(place) {
-            // "4 only at the closing `-`", and 17 "at the closing `-`, after 4, for six or more left-over bits"
-            Some(b'-') => [(left_over.contains(&1), 4), (left_over.len() >= 6, 17)].to_vec(),
-            // "3 for any other byte inside a run"
-            Some(_) => [(true, 3)].to_vec(),
-            // "7 for a run still open at the end"
-            None => [(true, 7)].to_vec(),
-        };
-        numbers.into_iter().filter(|(is_given, _)| *is_given).map(|(_, number)| Answer { number, place }).collect()
-    }
+/// The faults at the byte behind the letters of a run, or at the end of the name.
+fn faults_behind(run: &Run, name: &[u8]) -> Vec<Answer> {
+    let place = run.end();
+    let numbers = match name.get(place) {
+        // "4 only at the closing `-`", and 17 "at the closing `-`, after 4, for six or more left-over bits"
+        Some(b'-') => [(run.left_over().contains(&1), 4), (run.left_over().len() >= 6, 17)].to_vec(),
+        // "3 for any other byte inside a run"
+        Some(_) => [(true, 3)].to_vec(),
+        // "7 for a run still open at the end"
+        None => [(true, 7)].to_vec(),
+    };
+    numbers.into_iter().filter(|(is_given, _)| *is_given).map(|(_, number)| Answer { number, place }).collect()
 }
 
 /// Writes cells as a name.

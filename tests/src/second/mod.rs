@@ -2,7 +2,8 @@
 //! written from that paper, as docs/DECISIONS.md reads it, without a look at the proved code, and by other means: texts
 //! are cut into parts by looking ahead, all their faults are gathered and the first is chosen, stepping hands out the
 //! cells found before it, bits are lists, and a call on a page makes new lists of all that it leaves. Quotations in
-//! comments are sentences of document 01. Mailbox names are in it as order 1 of document 02 states them.
+//! comments are sentences of document 01. Mailbox names are in it as order 1 of document 02 states them, and where the bytes
+//! of a cell begin and end as its order 2 does.
 
 mod bits;
 mod call;
@@ -14,6 +15,7 @@ pub mod ledger;
 pub mod mailbox;
 pub mod page;
 mod reading;
+mod run;
 pub mod utf7;
 
 use std::fmt::{self, Display, Formatter};

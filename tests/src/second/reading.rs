@@ -2,11 +2,27 @@
 
 use super::{within_limit, Answer, Elements};
 
-/// A cell, and the place of the byte that completes it.
+/// A cell, and where its bytes begin and end: the place of the first of them, and the one just past the last, which
+/// completes it.
 #[derive(Clone, Copy, Debug, PartialEq, Eq)]
 pub struct Complete {
     pub cell: u32,
-    pub place: usize,
+    pub begin: usize,
+    pub end: usize,
+}
+
+impl Complete {
+    /// A cell of so many bytes up to this end. No cell begins before the text, whatever a cursor made by hand says.
+    pub fn of_last(count: usize, end: usize, cell: u32) -> Complete {
+        Complete { cell, begin: end.saturating_sub(count), end }
+    }
+}
+
+/// Where a step starts: the next byte, the cells handed out before it, and what of the text before it still matters.
+pub struct Cursor<B> {
+    pub at: usize,
+    pub handed: usize,
+    pub before: B,
 }
 
 /// What a format finds in a text: its cells, of which those after a fault mean nothing, and the first fault.
@@ -14,6 +30,9 @@ pub struct Found {
     pub cells: Vec<Complete>,
     pub fault: Option<Answer>,
 }
+
+/// Finds what a text has from a place on, where this stands before it.
+pub type Find<B> = fn(&[u8], usize, B) -> Found;
 
 /// What stepping through a text gives: the cells that are handed out, and the answer of every step after them.
 #[derive(Clone, Debug, PartialEq, Eq)]
@@ -23,40 +42,42 @@ pub struct Steps {
 }
 
 /// Reads a text in a format.
-pub fn read(find: fn(&[u8]) -> Found, text: &[u8]) -> Elements<u32> {
+pub fn read<B>(find: Find<B>, before: B, text: &[u8]) -> Elements<u32> {
     within_limit(text.len())?;
-    let Found { cells, fault } = find(text);
+    let Found { cells, fault } = find(text, 0, before);
     match fault {
         Some(fault) => Err(fault),
         None => Ok(cells.iter().map(|complete| complete.cell).collect()),
     }
 }
 
-/// Steps through a text in a format: "Each step hands out the next cell complete before the first fault; after those,
-/// and at once for 16, every step gives the answer of reading the whole text with room enough."
-pub fn steps(find: fn(&[u8]) -> Found, text: &[u8]) -> Steps {
+/// Steps through a text in a format, from the start or from any cursor: "Each step hands out the next cell complete
+/// before the first fault; after those, and at once for 16, every step gives the answer of reading the whole text with
+/// room enough."
+pub fn steps<B>(find: Find<B>, text: &[u8], Cursor { at, handed, before }: Cursor<B>) -> Steps {
     if let Err(answer) = within_limit(text.len()) {
         return Steps { cells: vec![], answer };
     }
-    let Found { mut cells, fault } = find(text);
+    let Found { mut cells, fault } = find(text, at.min(text.len()), before);
     if let Some(answer) = fault {
-        cells.retain(|complete| complete.place < answer.place);
+        cells.retain(|complete| complete.end <= answer.place);
         return Steps { cells, answer };
     }
-    Steps { answer: Answer { number: 0, place: cells.len() }, cells }
+    // A cursor made by hand may have counted more cells than bytes lie before it, and is not believed.
+    Steps { answer: Answer { number: 0, place: handed.min(at) + cells.len() }, cells }
 }
 
-/// The fault that reading a text gives, of those that its format finds in it and of its high bytes. "In reading, the
+/// The fault that reading a text gives from this place on, of those that its format finds and of high bytes. "In reading, the
 /// earliest place decides; at one byte 1, then 2 or 4, then 3, 5 or 6; 7 precedes 8." In mailbox names 17 comes "after
 /// 4".
-pub fn first_fault(text: &[u8], faults: impl Iterator<Item = Answer>) -> Option<Answer> {
+pub fn first_fault(text: &[u8], at: usize, faults: impl Iterator<Item = Answer>) -> Option<Answer> {
     let rank = |number: u32| [1, 2, 4, 17, 3, 5, 6, 7, 8].iter().position(|&other| other == number);
-    high_bytes(text).chain(faults).min_by_key(|fault| (fault.place, rank(fault.number)))
+    high_bytes(text, at).chain(faults).min_by_key(|fault| (fault.place, rank(fault.number)))
 }
 
 /// "1 | byte of 128 or more | that byte"
-fn high_bytes(text: &[u8]) -> impl Iterator<Item = Answer> + '_ {
-    let places = (0..text.len()).filter(|&place| text[place] >= 128);
+fn high_bytes(text: &[u8], at: usize) -> impl Iterator<Item = Answer> + '_ {
+    let places = (at..text.len()).filter(|&place| text[place] >= 128);
     places.map(|place| Answer { number: 1, place })
 }
 
@@ -91,7 +112,8 @@ mod tests {
         for format in formats::all() {
             for text in format.source.texts(1, "steps", 2_000, |rng| rng.below(60)) {
                 let Steps { cells, answer } = (format.steps)(&text);
-                assert!(cells.is_sorted_by_key(|complete| complete.place));
+                assert!(cells.is_sorted_by_key(|complete| complete.begin));
+                assert!(cells.is_sorted_by_key(|complete| complete.end));
                 // What comes after the fault changes nothing of what was handed out before it.
                 if answer.number != 0 {
                     let before = (format.steps)(&text[..answer.place]);

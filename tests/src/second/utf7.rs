@@ -1,7 +1,8 @@
 //! UTF-7, after the section "UTF-7" of document 01.
 
 use super::bits::{bits, number};
-use super::reading::{self, first_fault, Found};
+use super::reading::{self, first_fault, Cursor, Found};
+use super::run::Run;
 use super::{all_writable, within_limit, Answer, Complete, Elements, Steps};
 
 /// "Writing has two styles."
@@ -40,19 +41,39 @@ fn value(byte: u8) -> Option<usize> {
 
 /// Reads a text.
 pub fn read(text: &[u8]) -> Elements<u32> {
-    reading::read(find, text)
+    reading::read(find, Before::Outside, text)
 }
 
 /// Steps through a text.
 pub fn steps(text: &[u8]) -> Steps {
-    reading::steps(find, text)
+    reading::steps(find, text, Cursor { at: 0, handed: 0, before: Before::Outside })
 }
 
-fn find(text: &[u8]) -> Found {
-    let pieces = cut(text);
+/// Steps from a cursor with these numbers, in the order of the C interface: "0 outside a run, 1 directly after '+', else
+/// in a run" with so many bits that wait, and their value. Any count is taken by sixteen.
+pub fn steps_from(text: &[u8], numbers: &[u64]) -> Steps {
+    let &[at, handed, shift, pending, value] = numbers else { panic!("five numbers") };
+    let before = match shift {
+        0 => Before::Outside,
+        1 => Before::Plus,
+        _ => Before::Run(bits(value as usize, pending as usize % 16).collect()),
+    };
+    reading::steps(find, text, Cursor { at: at as usize, handed: handed as usize, before })
+}
+
+/// What of the text before a place still matters there.
+enum Before {
+    Outside,
+    Plus,
+    /// In a run, the bits that wait for a full sixteen.
+    Run(Vec<usize>),
+}
+
+fn find(text: &[u8], at: usize, before: Before) -> Found {
+    let pieces = cut(text, at, before);
     Found {
         cells: pieces.iter().flat_map(Piece::cells).collect(),
-        fault: first_fault(text, pieces.iter().filter_map(Piece::fault)),
+        fault: first_fault(text, at, pieces.iter().filter_map(Piece::fault)),
     }
 }
 
@@ -62,39 +83,46 @@ enum Piece {
     Outside { byte: u8, place: usize },
     PlusSign { end: usize },
     BarePlus { end: usize },
-    Run { bits: Vec<usize>, end: usize },
+    Run(Run),
 }
 
 /// Cuts a text into its pieces, from left to right.
-fn cut(text: &[u8]) -> Vec<Piece> {
+fn cut(text: &[u8], at: usize, before: Before) -> Vec<Piece> {
     let mut pieces = Vec::new();
-    let mut place = 0;
-    while place < text.len() {
-        let (piece, length) = first_piece(&text[place..], place);
+    let mut place = at;
+    let mut before = before;
+    // Nothing that waits for more may be left unjudged at the end.
+    while place < text.len() || !matches!(before, Before::Outside) {
+        let (piece, length) = first_piece(&text[place..], place, before);
         pieces.push(piece);
         place += length;
+        before = Before::Outside;
     }
     pieces
 }
 
-/// The first piece of what is left of a text from this place on, and how many bytes it takes.
-fn first_piece(rest: &[u8], place: usize) -> (Piece, usize) {
-    if rest[0] != b'+' {
-        return (Piece::Outside { byte: rest[0], place }, 1);
-    }
-    // "`+` and a byte of B opens a run." "Any byte outside B ends it." "The end of the text ends a run too."
-    let letters: Vec<usize> = rest[1..].iter().map_while(|&byte| value(byte)).collect();
-    let length = 1 + letters.len();
-    // "`-` is then absorbed; another byte is read as outside a run."
-    let absorbed = rest.get(length) == Some(&b'-');
-    let end = place + length;
-    let piece = match (letters.is_empty(), absorbed) {
-        (true, true) => Piece::PlusSign { end },
-        (true, false) => Piece::BarePlus { end },
-        // "A run's letters give six bits each, high bit first."
-        (false, _) => Piece::Run { bits: letters.iter().flat_map(|&letter| bits(letter, 6)).collect(), end },
+/// The first piece of what is left of a text from this place on, and how many bytes it takes from there.
+fn first_piece(rest: &[u8], place: usize, before: Before) -> (Piece, usize) {
+    let waiting = match before {
+        Before::Outside if rest[0] == b'+' => {
+            let (piece, length) = first_piece(&rest[1..], place + 1, Before::Plus);
+            return (piece, 1 + length);
+        }
+        Before::Outside => return (Piece::Outside { byte: rest[0], place }, 1),
+        Before::Plus => None,
+        Before::Run(bits) => Some(bits),
     };
-    (piece, length + usize::from(absorbed))
+    // "`+` and a byte of B opens a run." "Any byte outside B ends it." "The end of the text ends a run too."
+    let letters: Vec<usize> = rest.iter().map_while(|&byte| value(byte)).collect();
+    // "`-` is then absorbed; another byte is read as outside a run."
+    let absorbed = rest.get(letters.len()) == Some(&b'-');
+    let end = place + letters.len();
+    let piece = match (waiting, letters.is_empty(), absorbed) {
+        (None, true, true) => Piece::PlusSign { end },
+        (None, true, false) => Piece::BarePlus { end },
+        (waiting, ..) => Piece::Run(Run::new(&waiting.unwrap_or_default(), &letters, place)),
+    };
+    (piece, letters.len() + usize::from(absorbed))
 }
 
 impl Piece {
@@ -102,17 +130,11 @@ impl Piece {
     fn cells(&self) -> Vec<Complete> {
         match self {
             // "Outside a run, bytes of D, O, space, tab, CR and LF are themselves."
-            Piece::Outside { byte, place } => vec![Complete { cell: u32::from(*byte), place: *place }],
-            // "`+-` is 002B."
-            Piece::PlusSign { end } => vec![Complete { cell: PLUS_SIGN, place: *end }],
+            Piece::Outside { byte, place } => vec![Complete::of_last(1, place + 1, u32::from(*byte))],
+            // "`+-` is 002B": "the two bytes of `+-`".
+            Piece::PlusSign { end } => vec![Complete::of_last(2, end + 1, PLUS_SIGN)],
             Piece::BarePlus { .. } => vec![],
-            // "Each full 16 bits are a unit": complete with the letter that has its last bit.
-            Piece::Run { bits, end } => {
-                let first_letter = end - bits.len() / 6;
-                let last_bits = (15..).step_by(16);
-                let units = last_bits.zip(bits.chunks_exact(16));
-                units.map(|(bit, unit)| Complete { cell: number(unit) as u32, place: first_letter + bit / 6 }).collect()
-            }
+            Piece::Run(run) => run.units().collect(),
         }
     }
 
@@ -126,9 +148,7 @@ impl Piece {
             Piece::BarePlus { end } => Some(Answer { number: 2, place: *end }),
             // "Bits left over when a run ends must all be zero, however many they are."
             // "4 | left-over bits not zero | as noticed"
-            Piece::Run { bits, end } if bits.chunks_exact(16).remainder().contains(&1) => {
-                Some(Answer { number: 4, place: *end })
-            }
+            Piece::Run(run) if run.left_over().contains(&1) => Some(Answer { number: 4, place: run.end() }),
             _ => None,
         }
     }
