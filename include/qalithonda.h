@@ -162,14 +162,22 @@ qalithonda_numbers qalithonda_mailbox_write(const uint32_t *cells, size_t cells_
 
 /* ---- Stepping through a text ----
  *
- * A step hands out one cell and the cursor behind it. Start with the cursor of `start`, hand each
- * step's `next` and the same text to the next step, and stop when `given` is 0:
+ * A step hands out one cell, where its bytes stand in the text, and the cursor behind it. Start
+ * with the cursor of `start`, hand each step's `next` and the same text to the next step, and stop
+ * when `given` is 0:
  *
  *     qalithonda_utf7_stepped s;
  *     for (s = qalithonda_utf7_step(text, n, qalithonda_utf7_start()); s.given;
  *          s = qalithonda_utf7_step(text, n, s.next))
- *         use(s.cell);
+ *         use(s.cell, s.begin, s.end);
  *     // s.answer is the answer of reading the whole text with room enough
+ *
+ * The bytes of a cell are text[begin] up to, but without, text[end]. In a run they are from the
+ * letter that holds the cell's first bit to the one that holds its last: three letters or four, of
+ * which two neighbours may share one. Elsewhere they are the cell's own byte, its pair, the two
+ * bytes of "+-" or "&-", or ESC N and its byte; never a designation. examples/where.c marks them.
+ * Stepped to from the start of a text, begin < end <= text_len; no cell begins or ends before an
+ * earlier one; and outside runs no byte is of two cells.
  *
  * The cells complete before the first fault are handed out, and then the fault is the answer; a
  * text of more than 65,536 bytes is answered with 16 at once. After that every step gives the same
@@ -186,10 +194,12 @@ typedef struct {
     uint32_t value;    /* in a run: those bits as a number */
 } qalithonda_utf7_cursor;
 
-/* A step: a cell, or the final answer. */
+/* A step: a cell with its bytes, or the final answer. */
 typedef struct {
     uint32_t given;               /* 1: a cell; 0: the answer */
     uint32_t cell;                /* the cell; 0 where none is given */
+    size_t begin;                 /* the first of the cell's bytes; 0 where none is given */
+    size_t end;                   /* just past the last of them; 0 where none is given */
     qalithonda_numbers answer;    /* the final answer; {0, 0} where a cell is given */
     qalithonda_utf7_cursor next;  /* the cursor behind the cell; unchanged where none is given */
 } qalithonda_utf7_stepped;
@@ -206,10 +216,12 @@ typedef struct {
     uint8_t second;  /* the second of the bytes after ESC */
 } qalithonda_jp2_cursor;
 
-/* A step: a cell, or the final answer. */
+/* A step: a cell with its bytes, or the final answer. */
 typedef struct {
     uint32_t given;              /* 1: a cell; 0: the answer */
     uint32_t cell;               /* the cell; 0 where none is given */
+    size_t begin;                /* the first of the cell's bytes; 0 where none is given */
+    size_t end;                  /* just past the last of them; 0 where none is given */
     qalithonda_numbers answer;   /* the final answer; {0, 0} where a cell is given */
     qalithonda_jp2_cursor next;  /* the cursor behind the cell; unchanged where none is given */
 } qalithonda_jp2_stepped;
@@ -224,10 +236,12 @@ typedef struct {
     uint32_t value;    /* in a run: those bits as a number */
 } qalithonda_mailbox_cursor;
 
-/* A step: a cell, or the final answer. */
+/* A step: a cell with its bytes, or the final answer. */
 typedef struct {
     uint32_t given;                  /* 1: a cell; 0: the answer */
     uint32_t cell;                   /* the cell; 0 where none is given */
+    size_t begin;                    /* the first of the cell's bytes; 0 where none is given */
+    size_t end;                      /* just past the last of them; 0 where none is given */
     qalithonda_numbers answer;       /* the final answer; {0, 0} where a cell is given */
     qalithonda_mailbox_cursor next;  /* the cursor behind the cell; unchanged where none is given */
 } qalithonda_mailbox_stepped;

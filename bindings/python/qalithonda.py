@@ -19,9 +19,9 @@ import operator
 import os
 from array import array
 from pathlib import Path
-from typing import Iterable, List
+from typing import Iterable, List, NamedTuple
 
-__all__ = ["LIMIT", "Kind", "Page", "Refusal", "Refused", "Steps", "jp2", "mailbox", "utf7"]
+__all__ = ["LIMIT", "Kind", "Page", "Refusal", "Refused", "Step", "Steps", "jp2", "mailbox", "utf7"]
 
 #: The most bytes that a text may have, the most cells that a list or a page may have, and the most words of a history.
 LIMIT = 65536
@@ -119,7 +119,14 @@ class _Utf7Cursor(ctypes.Structure):
 
 
 class _Utf7Stepped(ctypes.Structure):
-    _fields_ = [("given", _Word), ("cell", _Word), ("answer", _Numbers), ("next", _Utf7Cursor)]
+    _fields_ = [
+        ("given", _Word),
+        ("cell", _Word),
+        ("begin", _Size),
+        ("end", _Size),
+        ("answer", _Numbers),
+        ("next", _Utf7Cursor),
+    ]
 
 
 class _Jp2Cursor(ctypes.Structure):
@@ -135,7 +142,14 @@ class _Jp2Cursor(ctypes.Structure):
 
 
 class _Jp2Stepped(ctypes.Structure):
-    _fields_ = [("given", _Word), ("cell", _Word), ("answer", _Numbers), ("next", _Jp2Cursor)]
+    _fields_ = [
+        ("given", _Word),
+        ("cell", _Word),
+        ("begin", _Size),
+        ("end", _Size),
+        ("answer", _Numbers),
+        ("next", _Jp2Cursor),
+    ]
 
 
 class _MailboxCursor(ctypes.Structure):
@@ -143,7 +157,14 @@ class _MailboxCursor(ctypes.Structure):
 
 
 class _MailboxStepped(ctypes.Structure):
-    _fields_ = [("given", _Word), ("cell", _Word), ("answer", _Numbers), ("next", _MailboxCursor)]
+    _fields_ = [
+        ("given", _Word),
+        ("cell", _Word),
+        ("begin", _Size),
+        ("end", _Size),
+        ("answer", _Numbers),
+        ("next", _MailboxCursor),
+    ]
 
 
 def _load():
@@ -238,13 +259,33 @@ def _write(function, cells: Iterable[int]) -> bytes:
     return bytes(_filled(_Byte, lambda out, room: function(cells, len(cells), out, room)))
 
 
+class Step(NamedTuple):
+    """A cell, and where its bytes begin and end: they are text[begin:end].
+
+    In a run these are from the letter that holds the cell's first bit to the one that holds its last: three letters or
+    four, of which two neighbours may share one. Elsewhere they are the cell's own byte, its pair, the two bytes of '+-' or
+    '&-', or ESC N and its byte; never a designation.
+
+    >>> text = b"A+ImIDkQ."
+    >>> [text[step.begin : step.end] for step in utf7.steps(text)]
+    [b'A', b'ImI', b'IDkQ', b'.']
+    """
+
+    cell: int
+    begin: int
+    end: int
+
+
 class Steps:
-    """Steps through a text, one cell at a time: an iterator over the cells complete before the first fault, made by
-    utf7.steps, jp2.steps or mailbox.steps.
+    """Steps through a text, one cell at a time: an iterator over the cells complete before the first fault, each as a
+    Step with where its bytes begin and end, made by utf7.steps, jp2.steps or mailbox.steps.
 
     >>> steps = utf7.steps(b"A+ImIDkQ~")
-    >>> [format(cell, "04X") for cell in steps]
-    ['0041', '2262', '0391']
+    >>> for cell, begin, end in steps:
+    ...     print(format(cell, "04X"), begin, end)
+    0041 0 1
+    2262 2 5
+    0391 4 8
     >>> steps.answer()
     Traceback (most recent call last):
     qalithonda.Refused: refused with 3: no rule allows the byte at 8 there
@@ -258,12 +299,12 @@ class Steps:
     def __iter__(self) -> "Steps":
         return self
 
-    def __next__(self) -> int:
+    def __next__(self) -> Step:
         stepped = self._step(self._cursor)
         if not stepped.given:
             raise StopIteration
         self._cursor = stepped.next
-        return stepped.cell
+        return Step(stepped.cell, stepped.begin, stepped.end)
 
     def answer(self) -> int:
         """The answer of reading the whole text: the count of its cells, or Refused with the first fault.
@@ -305,7 +346,7 @@ class utf7:
 
     @staticmethod
     def steps(text: bytes) -> Steps:
-        """Steps through a text, one cell at a time."""
+        """Steps through a text, one cell at a time, each with where its bytes begin and end."""
         return Steps(text, _utf7_start, _utf7_step)
 
 
@@ -341,7 +382,7 @@ class jp2:
 
     @staticmethod
     def steps(text: bytes) -> Steps:
-        """Steps through a text, one cell at a time."""
+        """Steps through a text, one cell at a time, each with where its bytes begin and end."""
         return Steps(text, _jp2_start, _jp2_step)
 
 
@@ -372,7 +413,7 @@ class mailbox:
 
     @staticmethod
     def steps(name: bytes) -> Steps:
-        """Steps through a name, one cell at a time."""
+        """Steps through a name, one cell at a time, each with where its bytes begin and end."""
         return Steps(name, _mailbox_start, _mailbox_step)
 
 

@@ -11,7 +11,7 @@ import unittest
 from pathlib import Path
 
 import qalithonda
-from qalithonda import LIMIT, Kind, Page, Refusal, Refused, jp2, mailbox, utf7
+from qalithonda import LIMIT, Kind, Page, Refusal, Refused, Step, jp2, mailbox, utf7
 
 HERE = Path(__file__).resolve().parent
 HEADER, BODY = utf7.Style.HEADER, utf7.Style.BODY
@@ -152,6 +152,12 @@ class Stepping(Case):
         except Refused as refused:
             return refused.number, refused.place
 
+    def cells(self, steps):
+        return [step.cell for step in steps]
+
+    def spans(self, steps):
+        return [(step.begin, step.end) for step in steps]
+
     def test_cells_and_answers_are_those_of_reading(self):
         for form in (utf7, jp2, mailbox):
             for text in self.UTF7_TEXTS + self.JP2_TEXTS + self.NAMES:
@@ -159,16 +165,35 @@ class Stepping(Case):
                 count = len(read) if isinstance(read, list) else read
                 self.assertEqual(self.outcome(form.steps(text).answer), count)
                 if isinstance(read, list):
-                    self.assertEqual(list(form.steps(text)), read)
+                    self.assertEqual(self.cells(form.steps(text)), read)
 
     def test_cells_before_a_fault_are_handed_out(self):
         steps = utf7.steps(b"A+ImIDkX-")
-        self.assertEqual(list(steps), [0x41, 0x2262, 0x391])
+        self.assertEqual(self.cells(steps), [0x41, 0x2262, 0x391])
         self.refused(4, 8, steps.answer)
-        self.assertEqual(list(jp2.steps(b'a\x1b$B$"$')), [0x060061, 0x572422])
+        self.assertEqual(self.cells(jp2.steps(b'a\x1b$B$"$')), [0x060061, 0x572422])
         steps = mailbox.steps(b"a&AKMAJg-")
-        self.assertEqual(list(steps), [0x61, 0xA3])
+        self.assertEqual(self.cells(steps), [0x61, 0xA3])
         self.refused(17, 7, steps.answer)
+
+    def test_each_cell_has_its_bytes(self):
+        self.assertEqual(list(utf7.steps(P2)), [(0x41, 0, 1), (0x2262, 2, 5), (0x391, 4, 8), (0x2E, 8, 9)])
+        self.assertEqual(next(utf7.steps(P2)), Step(cell=0x41, begin=0, end=1))
+        self.assertEqual(self.spans(utf7.steps(b"a+-b+AKM-1")), [(0, 1), (1, 3), (3, 4), (5, 8), (9, 10)])
+        two_runs = [(1, 4), (3, 7), (6, 9), (9, 12), (11, 15), (14, 17)]
+        self.assertEqual(self.spans(utf7.steps(b"+ZeVnLIqeZeVnLIqe-")), two_runs)
+        self.assertEqual(self.spans(mailbox.steps(b"a&-&AKM-")), [(0, 1), (1, 3), (4, 7)])
+        # A pair, ESC N and a byte, a pair, a byte; no designation.
+        text = b'\x1b$B$"\x1b.A\x1bNA$$\x1b(Bb'
+        self.assertEqual(self.spans(jp2.steps(text)), [(3, 5), (8, 11), (11, 13), (16, 17)])
+
+    def test_no_bytes_go_back_or_past_the_end(self):
+        for form in (utf7, jp2, mailbox):
+            for text in self.UTF7_TEXTS + self.JP2_TEXTS + self.NAMES:
+                spans = self.spans(form.steps(text))
+                self.assertTrue(all(begin < end <= len(text) for begin, end in spans))
+                for column in zip(*spans):
+                    self.assertEqual(sorted(column), list(column))
 
     def test_the_answer_can_be_asked_at_any_time(self):
         for steps, cells in (
@@ -178,7 +203,7 @@ class Stepping(Case):
         ):
             for cell in cells:
                 self.assertEqual(steps.answer(), len(cells))
-                self.assertEqual(next(steps), cell)
+                self.assertEqual(next(steps).cell, cell)
             for _ in range(2):
                 self.assertIsNone(next(steps, None))
                 self.assertEqual(steps.answer(), len(cells))
@@ -187,7 +212,7 @@ class Stepping(Case):
         text = bytearray(P2)
         steps = utf7.steps(text)
         text[:] = b"\xff"
-        self.assertEqual(list(steps), P2_CELLS)
+        self.assertEqual(self.cells(steps), P2_CELLS)
 
     def test_a_text_over_the_limit_is_refused_at_once(self):
         for form in (utf7, jp2, mailbox):
@@ -327,11 +352,11 @@ class Loading(unittest.TestCase):
             qalithonda._Page: 40,
             qalithonda._Edited: 56,
             qalithonda._Utf7Cursor: 32,
-            qalithonda._Utf7Stepped: 56,
+            qalithonda._Utf7Stepped: 72,
             qalithonda._Jp2Cursor: 24,
-            qalithonda._Jp2Stepped: 48,
+            qalithonda._Jp2Stepped: 64,
             qalithonda._MailboxCursor: 32,
-            qalithonda._MailboxStepped: 56,
+            qalithonda._MailboxStepped: 72,
         }
         for struct, size in sizes.items():
             self.assertEqual(ctypes.sizeof(struct), size, struct.__name__)

@@ -55,6 +55,8 @@ pub struct Utf7Cursor {
 pub struct Utf7Stepped {
     pub given: u32,
     pub cell: u32,
+    pub begin: usize,
+    pub end: usize,
     pub answer: Numbers,
     pub next: Utf7Cursor,
 }
@@ -75,6 +77,8 @@ pub struct Jp2Cursor {
 pub struct Jp2Stepped {
     pub given: u32,
     pub cell: u32,
+    pub begin: usize,
+    pub end: usize,
     pub answer: Numbers,
     pub next: Jp2Cursor,
 }
@@ -93,6 +97,8 @@ pub struct MailboxCursor {
 pub struct MailboxStepped {
     pub given: u32,
     pub cell: u32,
+    pub begin: usize,
+    pub end: usize,
     pub answer: Numbers,
     pub next: MailboxCursor,
 }
@@ -189,10 +195,10 @@ mod tests {
         assert_eq!(size_of::<Page>(), 40);
         assert_eq!(size_of::<Edited>(), 56);
         assert_eq!(size_of::<Utf7Cursor>(), 32);
-        assert_eq!(size_of::<Utf7Stepped>(), 56);
+        assert_eq!(size_of::<Utf7Stepped>(), 72);
         assert_eq!(size_of::<Jp2Cursor>(), 24);
-        assert_eq!(size_of::<Jp2Stepped>(), 48);
+        assert_eq!(size_of::<Jp2Stepped>(), 64);
         assert_eq!(size_of::<MailboxCursor>(), 32);
-        assert_eq!(size_of::<MailboxStepped>(), 56);
+        assert_eq!(size_of::<MailboxStepped>(), 72);
     }
 }

@@ -85,11 +85,14 @@ pub fn tally(cells: &[u32]) -> Result<[u32; 9], Refused> {
     Ok(counts)
 }
 
-/// Steps through a text, one cell at a time.
+/// Steps through a text, one cell at a time, each with where its bytes stand.
 ///
 /// ```
+/// use qalithonda::Step;
+///
 /// let mut steps = qalithonda::jp2::steps(b"a\x1b$B$\"");
-/// assert_eq!(steps.by_ref().collect::<Vec<_>>(), [0x060061, 0x572422]);
+/// let found: Vec<Step> = steps.by_ref().collect();
+/// assert_eq!(found, [Step { cell: 0x060061, bytes: 0..1 }, Step { cell: 0x572422, bytes: 4..6 }]);
 /// assert_eq!(steps.answer().unwrap_err().to_string(), "refused with 8: the text ends at 6 with G0 not ASCII");
 /// ```
 pub fn steps(text: &[u8]) -> Steps<'_> {

@@ -12,7 +12,7 @@ pub mod utf7;
 
 pub use page::{Kind, Page};
 pub use refused::{Refusal, Refused};
-pub use steps::Steps;
+pub use steps::{Step, Steps};
 
 /// The most bytes that a text may have, the most cells that a list or a page may have, and the most words of a history.
 pub const LIMIT: usize = 65_536;

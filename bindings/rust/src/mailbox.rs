@@ -75,11 +75,14 @@ pub fn write_to_vec(cells: &[u32]) -> Result<Vec<u8>, Refused> {
     room::filled(|out| write(cells, out))
 }
 
-/// Steps through a name, one cell at a time.
+/// Steps through a name, one cell at a time, each with where its bytes stand.
 ///
 /// ```
+/// use qalithonda::Step;
+///
 /// let mut steps = qalithonda::mailbox::steps(b"a&AKM-&AKM-");
-/// assert_eq!(steps.by_ref().collect::<Vec<_>>(), [0x61, 0xA3]);
+/// let found: Vec<Step> = steps.by_ref().collect();
+/// assert_eq!(found, [Step { cell: 0x61, bytes: 0..1 }, Step { cell: 0xA3, bytes: 2..5 }]);
 /// assert_eq!(steps.answer().unwrap_err().to_string(), "refused with 17: there is a needless shift, noticed at 7");
 /// ```
 pub fn steps(name: &[u8]) -> Steps<'_> {

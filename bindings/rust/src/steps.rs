@@ -1,16 +1,37 @@
 use std::iter::FusedIterator;
+use std::ops::Range;
 
 use crate::{ffi, Refused};
 
-/// Steps through a text, one cell at a time: the cells complete before the first fault, made by [`utf7::steps`],
-/// [`jp2::steps`] or [`mailbox::steps`].
+/// A cell, and where its bytes stand in the text.
+///
+/// In a run the bytes are from the letter that holds the cell's first bit to the one that holds its last: three letters
+/// or four, of which two neighbours may share one. Elsewhere they are the cell's own byte, its pair, the two bytes of
+/// `+-` or `&-`, or ESC N and its byte; never a designation.
 ///
 /// ```
-/// use qalithonda::{utf7, Refusal, Refused};
+/// let text = b"A+ImIDkQ.";
+/// let step = qalithonda::utf7::steps(text).nth(2).unwrap();
+/// assert_eq!((step.cell, step.bytes.clone()), (0x391, 4..8));
+/// assert_eq!(&text[step.bytes], b"IDkQ");
+/// ```
+#[derive(Clone, Debug, PartialEq, Eq, Hash)]
+pub struct Step {
+    /// The cell.
+    pub cell: u32,
+    /// Where its bytes stand in the text: never an empty range, and none that goes past the end.
+    pub bytes: Range<usize>,
+}
+
+/// Steps through a text, one cell at a time: the cells complete before the first fault, each with its bytes, made by
+/// [`utf7::steps`], [`jp2::steps`] or [`mailbox::steps`].
+///
+/// ```
+/// use qalithonda::{utf7, Refusal, Refused, Step};
 ///
 /// let mut steps = utf7::steps(b"A+ImIDkQ~");
-/// for cell in &mut steps {
-///     println!("{cell:04X}");
+/// for Step { cell, bytes } in &mut steps {
+///     println!("{cell:04X} in {bytes:?}");
 /// }
 /// assert_eq!(steps.answer(), Err(Refused { refusal: Refusal::StrayByte, place: 8 }));
 /// ```
@@ -31,8 +52,8 @@ enum Cursor {
     Mailbox(ffi::MailboxCursor),
 }
 
-enum Step {
-    Cell(u32),
+enum Stepped {
+    Cell(Step),
     Final(Result<usize, Refused>),
 }
 
@@ -58,49 +79,49 @@ impl<'a> Steps<'a> {
     pub fn answer(&self) -> Result<usize, Refused> {
         let mut rest = self.clone();
         loop {
-            if let Step::Final(answer) = rest.step() {
+            if let Stepped::Final(answer) = rest.step() {
                 return answer;
             }
         }
     }
 
-    fn step(&mut self) -> Step {
+    fn step(&mut self) -> Stepped {
         let (text, length) = (self.text.as_ptr(), self.text.len());
-        let (given, cell, answer) = match &mut self.cursor {
+        let (given, cell, bytes, answer) = match &mut self.cursor {
             Cursor::Utf7(cursor) => {
                 // SAFETY: the pointer comes with the length of its slice, and every cursor is taken.
                 let stepped = unsafe { ffi::qalithonda_utf7_step(text, length, *cursor) };
                 *cursor = stepped.next;
-                (stepped.given, stepped.cell, stepped.answer)
+                (stepped.given, stepped.cell, stepped.begin..stepped.end, stepped.answer)
             }
             Cursor::Jp2(cursor) => {
                 // SAFETY: the pointer comes with the length of its slice, and every cursor is taken.
                 let stepped = unsafe { ffi::qalithonda_jp2_step(text, length, *cursor) };
                 *cursor = stepped.next;
-                (stepped.given, stepped.cell, stepped.answer)
+                (stepped.given, stepped.cell, stepped.begin..stepped.end, stepped.answer)
             }
             Cursor::Mailbox(cursor) => {
                 // SAFETY: the pointer comes with the length of its slice, and every cursor is taken.
                 let stepped = unsafe { ffi::qalithonda_mailbox_step(text, length, *cursor) };
                 *cursor = stepped.next;
-                (stepped.given, stepped.cell, stepped.answer)
+                (stepped.given, stepped.cell, stepped.begin..stepped.end, stepped.answer)
             }
         };
         if given == 1 {
-            Step::Cell(cell)
+            Stepped::Cell(Step { cell, bytes })
         } else {
-            Step::Final(answer.answer())
+            Stepped::Final(answer.answer())
         }
     }
 }
 
 impl Iterator for Steps<'_> {
-    type Item = u32;
+    type Item = Step;
 
-    fn next(&mut self) -> Option<u32> {
+    fn next(&mut self) -> Option<Step> {
         match self.step() {
-            Step::Cell(cell) => Some(cell),
-            Step::Final(_) => None,
+            Stepped::Cell(step) => Some(step),
+            Stepped::Final(_) => None,
         }
     }
 }

@@ -78,12 +78,14 @@ pub fn write_to_vec(style: Style, cells: &[u32]) -> Result<Vec<u8>, Refused> {
     room::filled(|out| write(style, cells, out))
 }
 
-/// Steps through a text, one cell at a time.
+/// Steps through a text, one cell at a time, each with where its bytes stand.
 ///
 /// ```
+/// use qalithonda::Step;
+///
 /// let mut steps = qalithonda::utf7::steps(b"A+ImIDkQ.");
-/// assert_eq!(steps.next(), Some(0x41));
-/// assert_eq!(steps.next(), Some(0x2262));
+/// assert_eq!(steps.next(), Some(Step { cell: 0x41, bytes: 0..1 }));
+/// assert_eq!(steps.next(), Some(Step { cell: 0x2262, bytes: 2..5 }));
 /// assert_eq!(steps.answer(), Ok(4));
 /// ```
 pub fn steps(text: &[u8]) -> Steps<'_> {

@@ -1,6 +1,8 @@
-//! Stepping: the same cells and the same answer as reading.
+//! Stepping: the same cells and the same answer as reading, and where each cell stands.
 
-use qalithonda::{jp2, mailbox, utf7, Refusal, Refused, Steps, LIMIT};
+use std::ops::Range;
+
+use qalithonda::{jp2, mailbox, utf7, Refusal, Refused, Step, Steps, LIMIT};
 
 const TEXTS: [&[u8]; 17] = [
     b"",
@@ -22,6 +24,14 @@ const TEXTS: [&[u8]; 17] = [
     b"&",
 ];
 
+fn cells(steps: Steps) -> Vec<u32> {
+    steps.map(|step| step.cell).collect()
+}
+
+fn bytes(steps: Steps) -> Vec<Range<usize>> {
+    steps.map(|step| step.bytes).collect()
+}
+
 #[test]
 fn the_answer_is_that_of_reading() {
     for text in TEXTS {
@@ -35,14 +45,14 @@ fn the_answer_is_that_of_reading() {
 #[test]
 fn the_cells_are_those_of_reading() {
     for text in TEXTS {
-        if let Ok(cells) = utf7::read_to_vec(text) {
-            assert_eq!(utf7::steps(text).collect::<Vec<_>>(), cells);
+        if let Ok(read) = utf7::read_to_vec(text) {
+            assert_eq!(cells(utf7::steps(text)), read);
         }
-        if let Ok(cells) = jp2::read_to_vec(text) {
-            assert_eq!(jp2::steps(text).collect::<Vec<_>>(), cells);
+        if let Ok(read) = jp2::read_to_vec(text) {
+            assert_eq!(cells(jp2::steps(text)), read);
         }
-        if let Ok(cells) = mailbox::read_to_vec(text) {
-            assert_eq!(mailbox::steps(text).collect::<Vec<_>>(), cells);
+        if let Ok(read) = mailbox::read_to_vec(text) {
+            assert_eq!(cells(mailbox::steps(text)), read);
         }
     }
 }
@@ -50,10 +60,34 @@ fn the_cells_are_those_of_reading() {
 #[test]
 fn cells_before_a_fault_are_handed_out() {
     let steps = utf7::steps(b"A+ImIDkX-");
-    assert_eq!(steps.clone().collect::<Vec<_>>(), [0x41, 0x2262, 0x391]);
+    assert_eq!(cells(steps.clone()), [0x41, 0x2262, 0x391]);
     assert_eq!(steps.answer(), Err(Refused { refusal: Refusal::LeftOverBits, place: 8 }));
-    assert_eq!(jp2::steps(b"a\x1b$B$\"$").collect::<Vec<_>>(), [0x060061, 0x572422]);
-    assert_eq!(mailbox::steps(b"a&AKMAJg-").collect::<Vec<_>>(), [0x61, 0xA3]);
+    assert_eq!(cells(jp2::steps(b"a\x1b$B$\"$")), [0x060061, 0x572422]);
+    assert_eq!(cells(mailbox::steps(b"a&AKMAJg-")), [0x61, 0xA3]);
+}
+
+#[test]
+fn each_cell_has_its_bytes() {
+    assert_eq!(bytes(utf7::steps(b"A+ImIDkQ.")), [0..1, 2..5, 4..8, 8..9]);
+    assert_eq!(bytes(utf7::steps(b"a+-b+AKM-1")), [0..1, 1..3, 3..4, 5..8, 9..10]);
+    assert_eq!(bytes(utf7::steps(b"+ZeVnLIqeZeVnLIqe-")), [1..4, 3..7, 6..9, 9..12, 11..15, 14..17]);
+    assert_eq!(bytes(mailbox::steps(b"a&-&ZeVnLIqe-")), [0..1, 1..3, 4..7, 6..10, 9..12]);
+    // A pair, ESC N and a byte, a pair, a byte; no designation.
+    assert_eq!(bytes(jp2::steps(b"\x1b$B$\"\x1b.A\x1bNA$$\x1b(Bb")), [3..5, 8..11, 11..13, 16..17]);
+}
+
+#[test]
+fn no_bytes_go_back_or_past_the_end() {
+    for text in TEXTS {
+        for steps in [utf7::steps(text), jp2::steps(text), mailbox::steps(text)] {
+            let mut before = 0..0;
+            for Step { bytes, .. } in steps {
+                assert!(!text[bytes.clone()].is_empty());
+                assert!(before.start <= bytes.start && before.end <= bytes.end);
+                before = bytes;
+            }
+        }
+    }
 }
 
 /// Steps through all, and asks for the answer before each step and twice at the end.
@@ -61,7 +95,7 @@ fn asked_at_each_step(mut steps: Steps, cells: &[u32]) {
     let answer = steps.answer();
     for cell in cells {
         assert_eq!(steps.answer(), answer);
-        assert_eq!(steps.next(), Some(*cell));
+        assert_eq!(steps.next().map(|step| step.cell), Some(*cell));
     }
     for _ in 0..2 {
         assert_eq!(steps.next(), None);
@@ -82,7 +116,7 @@ fn the_answer_can_be_asked_at_any_time() {
 #[test]
 fn steps_outlive_all_but_their_text() {
     fn words(text: &[u8]) -> impl Iterator<Item = u32> + '_ {
-        utf7::steps(text).filter(|cell| *cell != 0x20)
+        utf7::steps(text).map(|step| step.cell).filter(|cell| *cell != 0x20)
     }
     let text = vec![b'a', b' ', b'b'];
     assert_eq!(words(&text).collect::<Vec<_>>(), [0x61, 0x62]);
