@@ -68,6 +68,11 @@ impl Report {
         self.record(name, what, result);
     }
 
+    /// Keeps a line that is no check.
+    pub fn note(&mut self, line: String) {
+        self.lines.push(line);
+    }
+
     /// Has it checked in the end that a function gave each of these statuses, which are all that it can give.
     pub fn expect_statuses(&mut self, function: &'static str, statuses: &[u32]) {
         self.expected.entry(function).or_default().extend(statuses);

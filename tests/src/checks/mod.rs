@@ -3,6 +3,7 @@
 mod call;
 mod cursors;
 mod desk;
+mod icu;
 mod lister;
 mod memory;
 mod page;
@@ -21,6 +22,7 @@ use crate::report::Report;
 use crate::second::LIMIT;
 use crate::settings::Settings;
 use crate::texts::{self, Source};
+use icu::Icu;
 use subject::Subject;
 
 /// Every part of the comparison. A format is a line here, and so is a program that is no lister.
@@ -28,10 +30,10 @@ pub fn parts(settings: Settings) -> Vec<Part> {
     let seed = settings.seed;
     let tally = Part::new("jp2-tally", move |report| tally::run(report, &texts::jp2::SOURCE, seed));
     let mut parts = Vec::new();
-    parts.extend(of_format(formats::utf7, &library::UTF7, seed));
-    parts.extend(of_format(formats::jp2, &library::JP2, seed));
+    parts.extend(of_format(formats::utf7, &library::UTF7, icu::UTF7, seed));
+    parts.extend(of_format(formats::jp2, &library::JP2, icu::JP2, seed));
     parts.push(tally);
-    parts.extend(of_format(formats::mailbox, &library::MAILBOX, seed));
+    parts.extend(of_format(formats::mailbox, &library::MAILBOX, icu::MAILBOX, seed));
     parts.push(Part::new("mailbox-spelling", move |report| spelling::run(report, seed)));
     parts.extend(page::parts(seed));
     parts.extend(memory::parts(settings));
@@ -39,20 +41,21 @@ pub fn parts(settings: Settings) -> Vec<Part> {
     parts
 }
 
-/// The parts of a format: its lister, its reader, its steps and its writers.
-fn of_format<C: Cursor>(format: fn() -> Format, library: &'static Functions<C>, seed: u64) -> Vec<Part> {
+/// The parts of a format: its lister, its reader, its steps, these against ICU, and its writers.
+fn of_format<C: Cursor>(format: fn() -> Format, library: &'static Functions<C>, icu: Icu, seed: u64) -> Vec<Part> {
     let Format { name, lister, writers, .. } = format();
     assert_eq!(writers.len(), library.write.len(), "a function for each writer");
     let lister = lister
         .map(|lister| Part::new(format!("{name}-lister"), move |report| lister::run(report, &format(), &lister, seed)));
     let read = Part::new(format!("{name}-read"), move |report| reading::run(report, &format(), &library.read, seed));
     let step = Part::new(format!("{name}-step"), move |report| stepping::run(report, &format(), &library.step, seed));
+    let icu = Part::new(format!("{name}-icu"), move |report| icu::run(report, &format(), &library.step, icu, seed));
     let write = writers.into_iter().zip(library.write).map(|(writer, write)| {
         Part::new(format!("{}-write", writer.name), move |report| {
             writing::run(report, &format(), &writer, write, &library.read, seed);
         })
     });
-    lister.into_iter().chain([read, step]).chain(write).collect()
+    lister.into_iter().chain([read, step, icu]).chain(write).collect()
 }
 
 /// The seeded lists that writers and the tally are tried on.
