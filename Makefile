@@ -1,7 +1,7 @@
 # The library for hosts in other languages. The proofs, and the tests of the library itself, are the gate's: .ci/run.
 #
-#   make                      target/staticlib/libqalithonda.a and target/shared/libqalithonda.so
-#   make test-bindings        the C example, and the tests of the Rust and Python bindings
+#   make                      target/staticlib/libqalithonda.a, target/shared/libqalithonda.so and target/examples/where
+#   make test-bindings        the C examples, and the tests of the Rust and Python bindings
 #   make install PREFIX=..    the header and both libraries, in PREFIX/include and PREFIX/lib
 #   make clean                removes what make has built; what was proved stays
 
@@ -14,7 +14,9 @@ header = include/qalithonda.h
 sources = crates.txt $(shell find crates -name '*.rt' -o -name '*.antt')
 strict = -Wall -Wextra -pedantic -Werror -Iinclude
 
-.PHONY: library test-bindings test-c test-rust test-python install clean
+.PHONY: all library test-bindings test-c test-rust test-python install clean
+
+all: library target/examples/where
 
 library: $(archive) $(shared)
 
@@ -28,17 +30,21 @@ $(shared): $(archive)
 
 test-bindings: test-c test-rust test-python
 
-# The example in C99, and in C++ where there is a compiler for it.
-test-c: examples/worked_page.c $(header) $(archive)
-	mkdir -p target/examples
-	$(CC) -std=c99 $(strict) $< $(archive) -o target/examples/worked_page
-	target/examples/worked_page >target/examples/worked_page.out
-	diff examples/worked_page.txt target/examples/worked_page.out
-	if command -v $(CXX) >/dev/null; then \
-	    $(CXX) -std=c++11 $(strict) -x c++ $< -x none $(archive) -o target/examples/worked_page_cxx && \
-	    target/examples/worked_page_cxx >target/examples/worked_page_cxx.out && \
-	    diff examples/worked_page.txt target/examples/worked_page_cxx.out; \
-	fi
+target/examples/%: examples/%.c $(header) $(archive)
+	mkdir -p $(@D)
+	$(CC) -std=c99 $(strict) $< $(archive) -o $@
+
+target/examples/%_cxx: examples/%.c $(header) $(archive)
+	mkdir -p $(@D)
+	$(CXX) -std=c++11 $(strict) -x c++ $< -x none $(archive) -o $@
+
+# The examples in C99, and in C++ where there is a compiler for it: what they print is examples/*.txt.
+test-c: target/examples/worked_page target/examples/where $(if $(shell command -v $(CXX)),target/examples/worked_page_cxx target/examples/where_cxx)
+	for built in $^; do \
+	    name=$$(basename $${built%_cxx}); \
+	    if [ -f examples/$$name.sh ]; then sh examples/$$name.sh $$built; else $$built; fi >$$built.out && \
+	    diff examples/$$name.txt $$built.out || exit 1; \
+	done
 
 test-rust: $(archive)
 	QALITHONDA_LIB='$(CURDIR)/target/staticlib' cargo test --quiet --offline --locked \
