@@ -121,6 +121,7 @@ fn stepped() -> Vec<Stepping> {
         steps("the text ends in a later pair", b"\x1B$(C!!!", &[(0x0095_2121, 4..6)], 7, 7),
         steps("ESC N and a control character", b"a\x1B.F\x1BN\x1F", &[(0x0006_0061, 0..1)], 3, 6),
         steps("ESC N between pairs", b"\x1B$(D!!\x1B.F\x1BNa!~\x1B(B", &SHIFTED_BETWEEN_PAIRS, 0, 3),
+        steps("designations before a byte", b"\x1B$B\x1B.A\x1B(J\x1B(Ba", &[(0x0006_0061, 12..13)], 0, 1),
         steps("Roman at the end", b"\x1B(Ja ", &[(0x000E_0061, 3..4), (0x0006_0020, 4..5)], 8, 5),
         steps("SO after cells", b"\r\r\n\x0E", &[(0x0006_000D, 0..1), (0x0006_000D, 1..2), (0x0006_000A, 2..3)], 3, 3),
     ]

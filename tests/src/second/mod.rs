@@ -160,6 +160,54 @@ mod tests {
         }
     }
 
+    /// The first cell that steps from these numbers hand out, and its bytes.
+    fn first_from(steps_from: fn(&[u8], &[u64]) -> Steps, text: &[u8], numbers: &[u64]) -> (u32, usize, usize) {
+        let Complete { cell, begin, end } = steps_from(text, numbers).cells[0];
+        (cell, begin, end)
+    }
+
+    #[test]
+    fn a_cursor_made_by_hand_stands_behind_its_bytes() {
+        let text = b"AAAAAAAAAA-bcd";
+        for waiting in 0..64u64 {
+            // So many bits lie in these letters before the cursor, and the cell's others in these behind it.
+            let (before, behind) = ((waiting as usize % 16).div_ceil(6), (16 - waiting as usize % 16).div_ceil(6));
+            for at in 0..7usize {
+                let expected = (0, at.saturating_sub(before), at + behind);
+                assert_eq!(first_from(utf7::steps_from, text, &[at as u64, 0, 2, waiting, 0]), expected);
+                assert_eq!(first_from(mailbox::steps_from, text, &[at as u64, 0, 4, waiting, 0]), expected);
+            }
+        }
+        for (at, begin) in [(0, 0), (1, 0), (2, 1)] {
+            let sign = [&b"++"[..at], b"-"].concat();
+            assert_eq!(first_from(utf7::steps_from, &sign, &[at as u64, 0, 1, 0, 0]), (0x2B, begin, at + 1));
+            assert_eq!(first_from(mailbox::steps_from, &sign, &[at as u64, 0, 3, 0, 0]), (0x26, begin, at + 1));
+            let pair = [at as u64, 0, 87, 0, 2, 0x24, 0];
+            assert_eq!(first_from(jp2::steps_from, b"!!!!", &pair), (0x0057_2421, begin, at + 1));
+        }
+        for (at, begin) in [(0, 0), (1, 0), (2, 0), (3, 1)] {
+            let shifted = [at as u64, 0, 6, 100, 3, 0, 0];
+            assert_eq!(first_from(jp2::steps_from, b"AAAA", &shifted), (0x0064_0041, begin, at + 1));
+        }
+        // A byte that ends a run is its own, and what ends an escape is the escape's.
+        assert_eq!(first_from(utf7::steps_from, b"a.b", &[1, 0, 2, 4, 0]), (0x2E, 1, 2));
+        assert_eq!(first_from(jp2::steps_from, b"Ba", &[0, 0, 87, 0, 5, 0x28, 0]), (0x0006_0061, 1, 2));
+        assert_eq!(first_from(jp2::steps_from, b"NA", &[0, 0, 87, 126, 4, 0, 0]), (0x007E_0041, 0, 2));
+    }
+
+    #[test]
+    fn a_cursor_made_by_hand_is_judged_like_the_text_before_it() {
+        let last = |steps: Steps| (steps.cells.len(), steps.answer.number, steps.answer.place);
+        assert_eq!(last(utf7::steps_from(b"ab", &[9, 7, 1, 0, 0])), (0, 2, 2));
+        assert_eq!(last(utf7::steps_from(b"ab-", &[2, 7, 2, 2, 1])), (0, 4, 2));
+        assert_eq!(last(utf7::steps_from(b"ab-c", &[2, 7, 2, 2, 4])), (1, 0, 3));
+        assert_eq!(last(mailbox::steps_from(b"&AKM-", &[0, 0, 1, 0, 0])), (0, 17, 1));
+        assert_eq!(last(mailbox::steps_from(b"AKM-", &[0, 0, 2, 0, 0])), (1, 0, 1));
+        assert_eq!(last(jp2::steps_from(b"\n\x1BNA", &[0, 0, 6, 100, 1, 0, 0])), (1, 6, 2));
+        assert_eq!(last(jp2::steps_from(b"x", &[0, 0, 6, 100, 6, 0x28, 0x42])), (0, 5, 0));
+        assert_eq!(last(jp2::steps_from(b"", &[0, 0, 6, 100, 5, 0x4E, 0])), (0, 7, 0));
+    }
+
     #[test]
     fn refuses_over_the_limit() {
         for format in formats() {

@@ -48,8 +48,12 @@ pub fn run<C: Cursor>(report: &mut Report, format: &Format, stepper: &Stepper<C>
         let name = format!("{name}-{of}");
         fault::in_check(&name);
         let agreed = comparison.compare(&texts).and_then(|agreed| agreed.at_least(least));
-        let both = agreed.as_ref().map_or(0, |agreed| agreed.texts);
-        let what = format!("{what}: {} texts, {both} that both accept, and the cells of these", texts.len());
+        let what = match &agreed {
+            Ok(Agreed { texts: both, .. }) => {
+                format!("{what}: of {} texts {both} that both accept, cells", texts.len())
+            }
+            Err(_) => what.to_string(),
+        };
         report.check(&name, &what, |_| agreed.map(|agreed| agreed.cells));
     };
     let lone: Vec<Vec<u8>> = (format.source.lone_cells)().iter().filter_map(|&cell| written(format, &[cell])).collect();
@@ -110,7 +114,7 @@ impl<C: Cursor> Comparison<'_, C> {
             if let ([complete], [unit]) = (&cells[..], &units[..]) {
                 self.known.entry(complete.cell).or_insert(unit.unit);
             }
-            let Some(expected) = self.expected(&cells) else { continue };
+            let Some(expected) = self.icu.expected(&cells, &self.known) else { continue };
             if expected != units {
                 return Err(format!("on {}: the cells are {cells:X?}, and ICU has {units:X?}", show(text)));
             }
@@ -130,15 +134,40 @@ impl<C: Cursor> Comparison<'_, C> {
         }
         (step.answer.number == 0).then_some(cells)
     }
+}
 
+impl Icu {
     /// What ICU gives for these cells, if all of them are known.
-    fn expected(&self, cells: &[Complete]) -> Option<Vec<Unit>> {
-        let unit =
-            |cell: u32| if self.icu.cells_are_units { Some(cell as u16) } else { self.known.get(&cell).copied() };
+    fn expected(&self, cells: &[Complete], known: &BTreeMap<u32, u16>) -> Option<Vec<Unit>> {
+        let unit = |cell: u32| if self.cells_are_units { Some(cell as u16) } else { known.get(&cell).copied() };
         let expect = |complete: &Complete| {
-            let offset = complete.begin + (self.icu.before)(complete.cell);
+            let offset = complete.begin + (self.before)(complete.cell);
             unit(complete.cell).map(|unit| Unit { unit, offset })
         };
         cells.iter().map(expect).collect()
+    }
+}
+
+#[cfg(test)]
+mod tests {
+    use super::*;
+    use crate::formats;
+
+    /// What ICU 72 gives, as it was looked up once.
+    #[test]
+    fn offsets_are_where_cells_begin() {
+        let expected = |format: Format, icu: Icu, text: &[u8], known: &[(u32, u16)]| {
+            let found = icu.expected(&(format.steps)(text).cells, &known.iter().copied().collect());
+            found.map(|units| units.iter().map(|unit| (unit.unit, unit.offset)).collect::<Vec<_>>())
+        };
+        let units = expected(formats::utf7(), UTF7, b"A+ImIDkQ.+-b", &[]);
+        let icu = vec![(0x41, 0), (0x2262, 2), (0x391, 4), (0x2E, 8), (0x2B, 9), (0x62, 11)];
+        assert_eq!(units, Some(icu));
+        let units = expected(formats::mailbox(), MAILBOX, b"a&-&ZeVnLIqe-", &[]);
+        assert_eq!(units, Some(vec![(0x61, 0), (0x26, 1), (0x65E5, 4), (0x672C, 6), (0x8A9E, 9)]));
+        let known = [(0x0057_2422, 0x3042), (0x0064_0041, 0xC1)];
+        let text = b"\x1B$B$\"\x1B.A\x1BNA$\"\x1B(B";
+        assert_eq!(expected(formats::jp2(), JP2, text, &known), Some(vec![(0x3042, 3), (0xC1, 10), (0x3042, 11)]));
+        assert_eq!(expected(formats::jp2(), JP2, text, &known[..1]), None);
     }
 }
