@@ -50,7 +50,7 @@ pub fn run<C: Cursor>(report: &mut Report, format: &Format, stepper: &Stepper<C>
         let agreed = comparison.compare(&texts).and_then(|agreed| agreed.at_least(least));
         let what = match &agreed {
             Ok(Agreed { texts: both, .. }) => {
-                format!("{what}: of {} texts {both} that both accept, cells", texts.len())
+                format!("{what}, in the {both} of {} texts that both accept; cells", texts.len())
             }
             Err(_) => what.to_string(),
         };
