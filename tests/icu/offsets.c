@@ -1,9 +1,10 @@
 /*
- * Reads texts by ICU's converter that the argument names, and says of each UTF-16 unit from which byte ICU has it. Built and
- * run by the part `icu` of `compare` where ICU's headers are at hand (src/checks/icu/peer.rs).
+ * Reads texts by ICU's converter that the argument names, and says of each UTF-16 unit from which byte ICU has it.
+ * Built and run by the part `icu` of `compare` where ICU's headers are at hand (src/checks/icu/peer.rs).
  *
- * Standard input: for each text its length, 32 bits, and its bytes. Standard output: for each text the count of units, 32
- * bits, or -1 if ICU refuses it; then the units, 16 bits each, and as many offsets, 32 bits each. All in the machine's order.
+ * Standard input: for each text its length, 32 bits, and its bytes. Standard output: for each text the count of units,
+ * 32 bits, or -1 if ICU refuses it; then the units, 16 bits each, and as many offsets, 32 bits each. All in the
+ * machine's order.
  */
 #include <stdio.h>
 #include <stdlib.h>

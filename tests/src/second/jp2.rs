@@ -44,8 +44,8 @@ impl Set {
     }
 }
 
-/// Whether the set of this number, in G0, has pairs: "With 6 or 14 in G0, (..) single cells." "With another set, a cell is
-/// two bytes."
+/// Whether the set of this number, in G0, has pairs: "With 6 or 14 in G0, (..) single cells." "With another set, a cell
+/// is two bytes."
 fn has_pairs(number: u32) -> bool {
     ![6, 14].contains(&number)
 }
@@ -69,9 +69,9 @@ pub fn steps(text: &[u8]) -> Steps {
     reading::steps(find, text, Cursor { at: 0, handed: 0, before: Before::START })
 }
 
-/// Steps from a cursor with these numbers, in the order of the C interface: the sets in G0 and G2 by number, "0: none", and
-/// the phase, "0 between cells, 1 after a CR, 2 after the first byte of a pair, 3 after ESC N, 4, 5 or 6 after ESC and none,
-/// one or two bytes more", with its bytes. A phase above 6 is taken for 6.
+/// Steps from a cursor with these numbers, in the order of the C interface: the sets in G0 and G2 by number, "0: none",
+/// and the phase, "0 between cells, 1 after a CR, 2 after the first byte of a pair, 3 after ESC N, 4, 5 or 6 after ESC
+/// and none, one or two bytes more", with its bytes. A phase above 6 is taken for 6.
 pub fn steps_from(text: &[u8], numbers: &[u64]) -> Steps {
     let &[at, handed, g0, g2, phase, first, second] = numbers else { panic!("seven numbers") };
     let more = [first as u8, second as u8];
@@ -135,8 +135,8 @@ enum Token<'a> {
     Stretch(&'a [u8], bool),
 }
 
-/// Cuts a text into tokens from a place on, from left to right, each with the place just past it; that of a misfit is of
-/// the first byte that fits none.
+/// Cuts a text into tokens from a place on, from left to right, each with the place just past it; that of a misfit is
+/// of the first byte that fits none.
 fn cut(text: &[u8], at: usize, open: Open) -> Vec<(usize, Token<'_>)> {
     let mut tokens = Vec::new();
     let (mut place, mut open) = (at, open);
@@ -245,8 +245,8 @@ fn follow(at_start: InForce, tokens: Vec<(usize, Token<'_>)>) -> (Vec<Part<'_>>,
 }
 
 impl Part<'_> {
-    /// The cells of this part, where no fault stands before them. By order 2 of document 02 the bytes of one are "its own
-    /// byte, its pair, (..) or ESC N and its byte, never a designation".
+    /// The cells of this part, where no fault stands before them. By order 2 of document 02 the bytes of one are "its
+    /// own byte, its pair, (..) or ESC N and its byte, never a designation".
     fn cells(&self) -> Vec<Complete> {
         let InForce { g0, g2 } = self.sets;
         match self.token {

@@ -32,9 +32,9 @@ pub fn steps(name: &[u8]) -> Steps {
     reading::steps(find, name, Cursor { at: 0, handed: 0, before: Before::START })
 }
 
-/// Steps from a cursor with these numbers, in the order of the C interface: "0 outside a run, 1 outside directly after a
-/// run, 2 after '&', 3 after '&' directly after a run, else in a run" with so many bits that wait, and their value. Any
-/// count is taken by sixteen.
+/// Steps from a cursor with these numbers, in the order of the C interface: "0 outside a run, 1 outside directly after
+/// a run, 2 after '&', 3 after '&' directly after a run, else in a run" with so many bits that wait, and their value.
+/// Any count is taken by sixteen.
 pub fn steps_from(name: &[u8], numbers: &[u64]) -> Steps {
     let &[at, handed, shift, pending, value] = numbers else { panic!("five numbers") };
     let before = match shift {

@@ -67,9 +67,9 @@ pub fn steps<B>(find: Find<B>, text: &[u8], Cursor { at, handed, before }: Curso
     Steps { answer: Answer { number: 0, place: handed.min(at) + cells.len() }, cells }
 }
 
-/// The fault that reading a text gives from this place on, of those that its format finds and of high bytes. "In reading, the
-/// earliest place decides; at one byte 1, then 2 or 4, then 3, 5 or 6; 7 precedes 8." In mailbox names 17 comes "after
-/// 4".
+/// The fault that reading a text gives from this place on, of those that its format finds and of high bytes. "In
+/// reading, the earliest place decides; at one byte 1, then 2 or 4, then 3, 5 or 6; 7 precedes 8." In mailbox names 17
+/// comes "after 4".
 pub fn first_fault(text: &[u8], at: usize, faults: impl Iterator<Item = Answer>) -> Option<Answer> {
     let rank = |number: u32| [1, 2, 4, 17, 3, 5, 6, 7, 8].iter().position(|&other| other == number);
     high_bytes(text, at).chain(faults).min_by_key(|fault| (fault.place, rank(fault.number)))

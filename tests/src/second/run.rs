@@ -12,15 +12,15 @@ pub struct Run {
 }
 
 impl Run {
-    /// The run of these letters from this place on, with bits before them that wait. "A run's letters give six bits each,
-    /// high bit first."
+    /// The run of these letters from this place on, with bits before them that wait. "A run's letters give six bits
+    /// each, high bit first."
     pub fn new(waiting: &[usize], letters: &[usize], start: usize) -> Run {
         let of_letters = letters.iter().flat_map(|&letter| bits(letter, 6));
         Run { start, waiting: waiting.len(), bits: waiting.iter().copied().chain(of_letters).collect() }
     }
 
-    /// Its units: "each full 16 bits are a unit". The bytes of one are, by order 2 of document 02, "from the letter holding
-    /// its first bit to just past the letter holding its last".
+    /// Its units: "each full 16 bits are a unit". The bytes of one are, by order 2 of document 02, "from the letter
+    /// holding its first bit to just past the letter holding its last".
     pub fn units(&self) -> impl Iterator<Item = Complete> + '_ {
         let first_bits = (0..).step_by(16);
         first_bits.zip(self.bits.chunks_exact(16)).map(|(bit, unit)| Complete {
@@ -39,8 +39,8 @@ impl Run {
         self.start + (self.bits.len() - self.waiting) / 6
     }
 
-    /// The place of the letter that holds this bit. Bits that wait are the last of the letters before the cursor; no letter
-    /// stands before the text, however many bits a cursor made by hand says there are.
+    /// The place of the letter that holds this bit. Bits that wait are the last of the letters before the cursor; no
+    /// letter stands before the text, however many bits a cursor made by hand says there are.
     fn letter_of(&self, bit: usize) -> usize {
         match bit.checked_sub(self.waiting) {
             Some(bit) => self.start + bit / 6,

@@ -49,8 +49,8 @@ pub fn steps(text: &[u8]) -> Steps {
     reading::steps(find, text, Cursor { at: 0, handed: 0, before: Before::Outside })
 }
 
-/// Steps from a cursor with these numbers, in the order of the C interface: "0 outside a run, 1 directly after '+', else
-/// in a run" with so many bits that wait, and their value. Any count is taken by sixteen.
+/// Steps from a cursor with these numbers, in the order of the C interface: "0 outside a run, 1 directly after '+',
+/// else in a run" with so many bits that wait, and their value. Any count is taken by sixteen.
 pub fn steps_from(text: &[u8], numbers: &[u64]) -> Steps {
     let &[at, handed, shift, pending, value] = numbers else { panic!("five numbers") };
     let before = match shift {

@@ -1,8 +1,9 @@
-//! Where cells begin, compared with the byte offsets that ICU's converters give with each unit, on texts that both accept.
+//! Where cells begin, compared with the byte offsets that ICU's converters give with each unit, on texts that both
+//! accept.
 //!
-//! ICU's offset of a unit is the byte at which it begins: in a run the letter that holds its first bit; the sign of `+-` and
-//! `&-`; the first byte of a pair. So it is where ours begins, but for ESC N and its byte, where ICU counts the byte alone:
-//! there ours begins two bytes before. ICU does not say where a unit ends.
+//! ICU's offset of a unit is the byte at which it begins: in a run the letter that holds its first bit; the sign of
+//! `+-` and `&-`; the first byte of a pair. So it is where ours begins, but for ESC N and its byte, where ICU counts
+//! the byte alone: there ours begins two bytes before. ICU does not say where a unit ends.
 
 mod peer;
 
