@@ -39,7 +39,8 @@ target/examples/%_cxx: examples/%.c $(header) $(archive)
 	$(CXX) -std=c++11 $(strict) -x c++ $< -x none $(archive) -o $@
 
 # The examples in C99, and in C++ where there is a compiler for it: what they print is examples/*.txt.
-test-c: target/examples/worked_page target/examples/where $(if $(shell command -v $(CXX)),target/examples/worked_page_cxx target/examples/where_cxx)
+examples = target/examples/worked_page target/examples/where
+test-c: $(examples) $(if $(shell command -v $(CXX) 2>/dev/null),$(examples:=_cxx))
 	for built in $^; do \
 	    name=$$(basename $${built%_cxx}); \
 	    if [ -f examples/$$name.sh ]; then sh examples/$$name.sh $$built; else $$built; fi >$$built.out && \
