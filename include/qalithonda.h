@@ -50,8 +50,9 @@ enum qalithonda_number {
                                        letter nor '-': the byte that follows, or the text's
                                        length */
     QALITHONDA_STRAY_BYTE = 3,      /* byte that no rule allows there: that byte */
-    QALITHONDA_LEFT_OVER_BITS = 4,  /* left-over bits of a run not zero: the byte that ends the run
-                                       (in a mailbox name its '-'), or the text's length */
+    QALITHONDA_LEFT_OVER_BITS = 4,  /* left-over bits of a run not zero, or in UTF-7 six or more:
+                                       the byte that ends the run (in a mailbox name its '-'), or
+                                       the text's length */
     QALITHONDA_UNKNOWN_ESCAPE = 5,  /* escape neither ESC N nor a designation: first byte that fits
                                        none */
     QALITHONDA_EMPTY_G2 = 6,        /* ESC N with nothing in G2: the N */

@@ -33,7 +33,9 @@ class Refusal(enum.IntEnum):
     HIGH_BYTE = 1  #: a byte of 128 or more: that byte
     LONE_SIGN = 2  #: '+', in a name '&', followed by neither a letter nor '-': the next byte, or the text's length
     STRAY_BYTE = 3  #: a byte that no rule allows there: that byte
-    LEFT_OVER_BITS = 4  #: left-over bits of a run not zero: the byte that ends it (in a name '-'), or the text's length
+    #: left-over bits of a run not zero, or six or more of them in UTF-7: the byte that ends it (in a name '-'), or the
+    #: text's length
+    LEFT_OVER_BITS = 4
     UNKNOWN_ESCAPE = 5  #: an escape neither ESC N nor a designation: the first byte that fits none
     EMPTY_G2 = 6  #: ESC N with nothing in G2: the N
     CUT_SHORT = 7  #: the text ends in an escape, in a pair or after ESC N, or a name in a run: the text's length
@@ -55,7 +57,7 @@ _MESSAGES = {
     Refusal.HIGH_BYTE: "the byte at {} is 128 or more",
     Refusal.LONE_SIGN: "'+' or '&' is followed by neither a Base64 letter nor '-' at {}",
     Refusal.STRAY_BYTE: "no rule allows the byte at {} there",
-    Refusal.LEFT_OVER_BITS: "the run that ends at {} has left-over bits that are not zero",
+    Refusal.LEFT_OVER_BITS: "the run that ends at {} has left-over bits that are not zero, or six or more",
     Refusal.UNKNOWN_ESCAPE: "the byte at {} fits no escape",
     Refusal.EMPTY_G2: "ESC N at {} with nothing in G2",
     Refusal.CUT_SHORT: "the text ends at {} in an escape, a pair or a run, or after ESC N",
@@ -81,7 +83,7 @@ class Refused(Exception):
     ...     print(refused.number, refused.place, refused.refusal.name)
     ...     print(refused)
     4 4 LEFT_OVER_BITS
-    refused with 4: the run that ends at 4 has left-over bits that are not zero
+    refused with 4: the run that ends at 4 has left-over bits that are not zero, or six or more
     """
 
     def __init__(self, number: int, place: int) -> None:

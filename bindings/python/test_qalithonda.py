@@ -39,13 +39,13 @@ class Formats(Case):
         self.assertEqual(utf7.read(b""), [])
         self.assertEqual(utf7.read(P2), P2_CELLS)
         self.assertEqual(utf7.read(b"+-"), [0x2B])
-        self.assertEqual(utf7.read(b"+A-"), [])
         self.assertEqual(utf7.read(b"+AAA-"), [0])
         self.refused(1, 1, utf7.read, b"a\x80")
         self.refused(2, 1, utf7.read, b"+")
         self.refused(3, 0, utf7.read, b"~")
         self.refused(3, 1, utf7.read, b"a\0b")
         self.refused(4, 4, utf7.read, b"+AKN-")
+        self.refused(4, 2, utf7.read, b"+A-")
 
     def test_utf7_writes_in_both_styles(self):
         self.assertEqual(utf7.write(BODY, P2_CELLS), b"A+ImIDkQ-.")

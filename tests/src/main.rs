@@ -12,6 +12,7 @@ mod guarded;
 mod lent;
 mod library;
 mod parts;
+mod peers;
 mod program;
 mod report;
 mod rng;

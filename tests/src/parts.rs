@@ -12,12 +12,19 @@ use crate::report::Report;
 /// Checks that need nothing of other checks.
 pub struct Part {
     name: String,
+    /// It is run only if it is named.
+    aside: bool,
     run: Box<dyn Fn(&mut Report) + Send + Sync>,
 }
 
 impl Part {
     pub fn new(name: impl Into<String>, run: impl Fn(&mut Report) + Send + Sync + 'static) -> Part {
-        Part { name: name.into(), run: Box::new(run) }
+        Part { name: name.into(), aside: false, run: Box::new(run) }
+    }
+
+    /// A part that is run only if it is named: it needs what a machine may lack.
+    pub fn aside(name: impl Into<String>, run: impl Fn(&mut Report) + Send + Sync + 'static) -> Part {
+        Part { aside: true, ..Part::new(name, run) }
     }
 
     /// Whether it is chosen by this word: its name, or words of it from the first on.
@@ -26,13 +33,15 @@ impl Part {
     }
 }
 
-/// The parts that are chosen by one of these words, or all if there is none; a word that chooses none is a fault.
+/// The parts that are chosen by one of these words, or all but those aside if there is none; a word that chooses none is
+/// a fault.
 pub fn chosen(parts: Vec<Part>, words: &[String]) -> Result<Vec<Part>, String> {
     if let Some(word) = words.iter().find(|word| !parts.iter().any(|part| part.is_named(word))) {
         let names: Vec<&str> = parts.iter().map(|part| part.name.as_str()).collect();
         return Err(format!("no part is named {word}; the parts are {}", names.join(" ")));
     }
-    let is_chosen = |part: &Part| words.is_empty() || words.iter().any(|word| part.is_named(word));
+    let is_chosen =
+        |part: &Part| if words.is_empty() { !part.aside } else { words.iter().any(|word| part.is_named(word)) };
     Ok(parts.into_iter().filter(is_chosen).collect())
 }
 
@@ -100,5 +109,7 @@ mod tests {
         assert_eq!(names(&["utf7"]).map(|names| names.len()), Ok(3));
         assert_eq!(names(&["utf7-read"]), Ok(vec!["utf7-read".to_string()]));
         assert!(names(&["utf7", "utf"]).is_err());
+        assert_eq!(chosen(vec![Part::aside("peers", |_| {})], &[]).map(|parts| parts.len()), Ok(0));
+        assert_eq!(chosen(vec![Part::aside("peers", |_| {})], &["peers".to_string()]).map(|parts| parts.len()), Ok(1));
     }
 }

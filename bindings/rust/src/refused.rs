@@ -12,8 +12,8 @@ pub enum Refusal {
     LoneSign = 2,
     /// A byte that no rule allows there. The place is that byte.
     StrayByte = 3,
-    /// Left-over bits of a run that are not zero. The place is the byte that ends the run (in a mailbox name its `-`),
-    /// or the text's length.
+    /// Left-over bits of a run that are not zero, or six or more of them in UTF-7. The place is the byte that ends the
+    /// run (in a mailbox name its `-`), or the text's length.
     LeftOverBits = 4,
     /// An escape that is neither ESC N nor a designation. The place is the first byte that fits none.
     UnknownEscape = 5,
@@ -86,7 +86,7 @@ impl Refusal {
 /// let refused = utf7::read_to_vec(b"+AKN-").unwrap_err();
 /// assert_eq!(refused, Refused { refusal: Refusal::LeftOverBits, place: 4 });
 /// assert_eq!(refused.refusal.number(), 4);
-/// assert_eq!(refused.to_string(), "refused with 4: the run that ends at 4 has left-over bits that are not zero");
+/// assert_eq!(refused.to_string(), "refused with 4: the run that ends at 4 has left-over bits that are not zero, or six or more");
 /// ```
 #[derive(Clone, Copy, Debug, PartialEq, Eq, Hash)]
 pub struct Refused {
@@ -104,7 +104,9 @@ impl Display for Refused {
             Refusal::HighByte => write!(f, "the byte at {place} is 128 or more"),
             Refusal::LoneSign => write!(f, "'+' or '&' is followed by neither a Base64 letter nor '-' at {place}"),
             Refusal::StrayByte => write!(f, "no rule allows the byte at {place} there"),
-            Refusal::LeftOverBits => write!(f, "the run that ends at {place} has left-over bits that are not zero"),
+            Refusal::LeftOverBits => {
+                write!(f, "the run that ends at {place} has left-over bits that are not zero, or six or more")
+            }
             Refusal::UnknownEscape => write!(f, "the byte at {place} fits no escape"),
             Refusal::EmptyG2 => write!(f, "ESC N at {place} with nothing in G2"),
             Refusal::CutShort => write!(f, "the text ends at {place} in an escape, a pair or a run, or after ESC N"),

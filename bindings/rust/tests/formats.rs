@@ -17,11 +17,11 @@ fn utf7_reads() {
     assert_eq!(utf7::read_to_vec(b""), Ok(vec![]));
     assert_eq!(utf7::read_to_vec(P2), Ok(P2_CELLS.to_vec()));
     assert_eq!(utf7::read_to_vec(b"+-"), Ok(vec![0x2B]));
-    assert_eq!(utf7::read_to_vec(b"+A-"), Ok(vec![]));
     assert_eq!(utf7::read_to_vec(b"a\x80"), refused(Refusal::HighByte, 1));
     assert_eq!(utf7::read_to_vec(b"+"), refused(Refusal::LoneSign, 1));
     assert_eq!(utf7::read_to_vec(b"~"), refused(Refusal::StrayByte, 0));
     assert_eq!(utf7::read_to_vec(b"+AKN-"), refused(Refusal::LeftOverBits, 4));
+    assert_eq!(utf7::read_to_vec(b"+A-"), refused(Refusal::LeftOverBits, 2));
 }
 
 #[test]

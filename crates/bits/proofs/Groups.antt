@@ -2,11 +2,11 @@
 use Prim.Native.Nat.{ℕ, zero, suc, _+_, _-_, _*_, _/_, _%_, _^_, _<_, _≤_}
 use mathlib.Core.Path.{_≡_, refl, ap}
 use mathlib.Core.Bool.{Bool, true, false}
-use mathlib.Core.List.{List, [], _∷_, _++_, append-assoc}
+use mathlib.Core.List.{List, [], _∷_, _++_, append-assoc, append-nil}
 use native.Mathlib.Omega.{arith}
-use native.Mathlib.Nat.{mod-lt, div-eq-of-lt, add-div-left, zero-mul}
+use native.Mathlib.Nat.{mod-lt, div-eq-of-lt, add-div-left, div-mul-le-self, zero-mul}
 use native.Mathlib.Numerals.{add-one}
-use lib.ListN.{length, take, drop, length-append, length-drop, length-replicate, take-append-drop}
+use lib.ListN.{length, take, drop, length-append, length-drop, length-replicate, take-append-drop, drop-of-length-le}
 use lib.Seq.{length-take-le, take-at, drop-at, drop-drop}
 use Rattle.answer.specs.Lists.{Each}
 use Rattle.bits.specs.Bits.{bits, number, allZero, bitsOf, groups, full, leftOver, filler}
@@ -57,15 +57,23 @@ module _ (w : ℕ) (p : 0 < w) where
   left-bits (x ∷ xs) f l =
       rw (append-assoc (bits w x) (bitsOf w xs) f, left-more (bits w x) (bitsOf w xs ++ f) (length-bits w x), left-bits xs f l)
 
--- bits to numbers and back
-pub bits-groups : (w k : ℕ) (bs : List Bool) → length bs ≡ k * w → bitsOf w (groups w k bs) ≡ bs
+-- bits to numbers and back, and what stands behind
+groups-left : (w k : ℕ) (bs : List Bool) → k * w ≤ length bs → bitsOf w (groups w k bs) ++ drop (k * w) bs ≡ bs
 unfolding bitsOf groups
-bits-groups w zero [] e = refl
-bits-groups w zero (b ∷ bs) e = absurd (omega arith)
-bits-groups w (suc k) bs e =
+groups-left w zero bs h = rw (zero-mul w)
+groups-left w (suc k) bs h =
     let l : length (take w bs) ≡ w = length-take-le w bs (omega arith) in
-    rw (spelled (take w bs) w (number (take w bs)) l refl, bits-groups w k (drop w bs) (simp length-drop (omega arith)))
+    let m : suc k * w ≡ w + k * w = omega arith in
+    rw (spelled (take w bs) w (number (take w bs)) l refl, append-assoc (take w bs) (bitsOf w (groups w k (drop w bs))) (drop (suc k * w) bs), m, ← drop-drop (k * w) w bs, groups-left w k (drop w bs) (simp length-drop (omega arith)))
     (take-append-drop w bs)
+
+pub bits-groups : (w k : ℕ) (bs : List Bool) → length bs ≡ k * w → bitsOf w (groups w k bs) ≡ bs
+bits-groups w k bs e =
+    rw (drop-of-length-le bs {i = k * w} (omega arith), append-nil) at (groups-left w k bs (omega arith))
+
+pub full-left : (w : ℕ) (bs : List Bool) → bitsOf w (full w bs) ++ leftOver w bs ≡ bs
+unfolding full leftOver
+full-left w bs = groups-left w (length bs / w) bs (div-mul-le-self (length bs) w)
 
 pub groups-below : (w k : ℕ) (bs : List Bool) → length bs ≡ k * w → Each (λ x. x < 2 ^ w) (groups w k bs)
 unfolding groups

@@ -6,7 +6,7 @@ use Rattle.bits.specs.Bits.{bits, number, allZero, bitsOf, groups, full, filler
 use Rattle.base64.specs.Letters.{valueOf, setB, letterOf}
 use Rattle.reading.specs.Reading.{readFrom, reading}
 use Rattle.utf7.specs.Sets.{alphanumeric, setD, setO, direct, own}
-use Rattle.utf7.specs.Rule.{outsideDoes, unitDoes, endDoes, lowDoes, byteDoes, endsIn}
+use Rattle.utf7.specs.Rule.{outsideDoes, unitDoes, mayEnd, endDoes, lowDoes, byteDoes, endsIn}
 use Rattle.utf7.specs.Writing.{pieces, letters, spell, spellAll, writing, firstOver}
 use Rattle.jp2.specs.Table.{designations, begins, firstWhere, rowOfNumber, rowOfEscape, rowBegunBy}
 use Rattle.jp2.specs.Rule as jp2-rule
@@ -18,44 +18,5 @@ use Rattle.codec.specs.Kinds.{readingOf, readIn, firstUnwritable, writin
 use Rattle.codec.specs.Cases.{All, cases}
 
 pub hold : All cases
-unfolding limit deliver bits number allZero bitsOf groups full filler valueOf setB letterOf readFrom reading alphanumeric setD setO direct own outsideDoes unitDoes endDoes lowDoes byteDoes endsIn pieces letters spell spellAll writing firstOver designations begins firstWhere rowOfNumber rowOfEscape rowBegunBy jp2-rule.byteDoes jp2-rule.endsIn graphic singleDoes firstDoes secondDoes betweenDoes shiftedDoes escapeDoes ascii pairSet shiftSet codes writable firstForeign jp2-writing.spell jp2-writing.writing designating forceAfter writeFrom readingOf readIn firstUnwritable writingIn writeIn
-hold = (
-  refl,
-  (
-    refl,
-    (
-      refl,
-      (
-        refl,
-        (
-          refl,
-          (
-            refl,
-            (
-              refl,
-              (
-                (λ _. refl),
-                (
-                  (λ _. refl),
-                  (
-                    (λ _. refl),
-                    (
-                      refl,
-                      (
-                        refl,
-                        (
-                          (λ _. refl),
-                          (refl, (refl, ((λ _. refl), ((λ _. refl), (refl, ((λ _. refl), (refl, tt))))))),
-                        ),
-                      ),
-                    ),
-                  ),
-                ),
-              ),
-            ),
-          ),
-        ),
-      ),
-    ),
-  ),
-)
+unfolding limit deliver bits number allZero bitsOf groups full filler valueOf setB letterOf readFrom reading alphanumeric setD setO direct own outsideDoes unitDoes mayEnd endDoes lowDoes byteDoes endsIn pieces letters spell spellAll writing firstOver designations begins firstWhere rowOfNumber rowOfEscape rowBegunBy jp2-rule.byteDoes jp2-rule.endsIn graphic singleDoes firstDoes secondDoes betweenDoes shiftedDoes escapeDoes ascii pairSet shiftSet codes writable firstForeign jp2-writing.spell jp2-writing.writing designating forceAfter writeFrom readingOf readIn firstUnwritable writingIn writeIn
+hold = (refl, (refl, (refl, (refl, (refl, (refl, (refl, ((λ _. refl), ((λ _. refl), ((λ _. refl), (refl, ((λ _. refl), ((λ _. refl), ((λ _. refl), ((λ _. refl), (refl, (refl, ((λ _. refl), ((λ _. refl), (refl, ((λ _. refl), (refl, tt))))))))))))))))))))))

@@ -7,7 +7,7 @@ use Rattle.bits.specs.Bits.{bits, number, allZero, bitsOf, groups, full, filler
 use Rattle.base64.specs.Letters.{valueOf, setB, letterOf}
 use Rattle.reading.specs.Reading.{accepted, readFrom, reading}
 use Rattle.utf7.specs.Sets.{alphanumeric, setD, setO, direct, own}
-use Rattle.utf7.specs.Rule.{outsideDoes, unitDoes, endDoes, lowDoes, byteDoes, endsIn}
+use Rattle.utf7.specs.Rule.{outsideDoes, unitDoes, mayEnd, endDoes, lowDoes, byteDoes, endsIn}
 use Rattle.utf7.specs.Writing.{pieces, letters, spell, spellAll, writing, firstOver}
 use Rattle.codec.specs.declared.Kind.the-variants.{Utf7Body}
 use Rattle.reading.specs.Matching.{sameCells}
@@ -27,7 +27,7 @@ abbrev pub written : List ℕ
 written = 65 ∷ 61 ∷ 43 ∷ 65 ∷ 53 ∷ 69 ∷ 45 ∷ 46 ∷ []
 
 pub letter-reads : readingIn Utf7Body letter ≡ record { cells = cellsRead; ending = accepted }
-unfolding bits number allZero valueOf setB readFrom reading alphanumeric setD setO direct outsideDoes unitDoes endDoes lowDoes byteDoes endsIn readingOf formatOf
+unfolding bits number allZero valueOf setB readFrom reading alphanumeric setD setO direct outsideDoes unitDoes mayEnd endDoes lowDoes byteDoes endsIn readingOf formatOf
 letter-reads = refl
 
 pub letter-reads-as : readsAs Utf7Body letter cellsRead ≡ true

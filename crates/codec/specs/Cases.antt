@@ -1,4 +1,4 @@
--- Document 01, "Small cases": those marked P, one table and what it states.
+-- Document 01, "Small cases": those marked P, P8 as document 02, order 3 has it, with that order's own; one table and what it states.
 use Prim.Native.Nat.{ℕ}
 use mathlib.Core.Path.{_≡_}
 use mathlib.Core.List.{List, [], _∷_, map}
@@ -50,9 +50,12 @@ cases =
     -- P7, "+AKN-" and "+AKM-1"
     ∷ fails format.Utf7 (43 ∷ 65 ∷ 75 ∷ 78 ∷ 45 ∷ []) 4 4
     ∷ reads format.Utf7 (43 ∷ 65 ∷ 75 ∷ 77 ∷ 45 ∷ 49 ∷ []) (0xA3 ∷ 0x31 ∷ [])
-    -- P8, "+A-" and "~"
-    ∷ reads format.Utf7 (43 ∷ 65 ∷ 45 ∷ []) []
+    -- P8, "+A-", which order 3 has "refused at 2", and "~"
+    ∷ fails format.Utf7 (43 ∷ 65 ∷ 45 ∷ []) 4 2
     ∷ fails format.Utf7 (126 ∷ []) 3 0
+    -- order 3, "+AAAA-", and "+A" at its length
+    ∷ fails format.Utf7 (43 ∷ 65 ∷ 65 ∷ 65 ∷ 65 ∷ 45 ∷ []) 4 5
+    ∷ fails format.Utf7 (43 ∷ 65 ∷ []) 4 2
     -- P9, 1B 24 42 24 22 1B 28 42, and back
     ∷ reads format.Jp2 (27 ∷ 36 ∷ 66 ∷ 36 ∷ 34 ∷ 27 ∷ 40 ∷ 66 ∷ []) (0x572422 ∷ [])
     ∷ writes Jp2 (0x572422 ∷ []) (27 ∷ 36 ∷ 66 ∷ 36 ∷ 34 ∷ 27 ∷ 40 ∷ 66 ∷ [])

@@ -1,21 +1,21 @@
 -- "A name has one spelling only": writing what an accepted name reads as gives that very name. Assumes nothing.
-use Prim.Native.Nat.{ℕ, _+_, _-_, _*_, _%_, _<_, _≤_}
+use Prim.Native.Nat.{ℕ, _+_, _*_, _<_, _≤_}
 use mathlib.Core.Path.{_≡_, refl, sym, ap, _∙_}
 use mathlib.Core.Bool.{Bool, true, false, cond, true≢false}
 use mathlib.Core.List.{List, [], _∷_, _++_, append-assoc, append-nil, map}
 use native.Mathlib.Omega.{arith}
-use lib.ListN.{length, take, drop, replicate, length-append, length-map, take-append-drop}
+use lib.ListN.{length, take, drop, length-append, length-map, take-append-drop}
 use lib.Seq.{length-take-le}
-use lib.Dec.{ltb, eqb, lit<}
+use lib.Dec.{ltb, eqb}
 use borrow.Author.Tests.{ltb-true, ltb-false, eqb-true, ne-eqb}
 use Rattle.answer.specs.Lists.{Each}
 use Rattle.answer.proofs.Below.{cond-case}
-use Rattle.bits.specs.Bits.{bits, number, allZero, bitsOf, filler}
+use Rattle.bits.specs.Bits.{bits, number, allZero, bitsOf}
 use Rattle.bits.proofs.Bits as bit
 use Rattle.bits.proofs.Bits.{length-bits}
-use Rattle.bits.proofs.Groups.{length-bitsOf, full-bits}
-use Rattle.base64.specs.Letters.{valueOf, setB, comma, letterOf}
-use Rattle.base64.proofs.Letters.{comma-sign, letter-value}
+use Rattle.bits.proofs.Groups.{length-bitsOf}
+use Rattle.base64.specs.Letters.{valueOf, setB, comma}
+use Rattle.base64.proofs.Letters.{comma-sign}
 use Rattle.reading.specs.Reading.{Does, give, bad, accepted, Reading, onRead, readFrom, reading}
 use Rattle.reading.proofs.Walk.{no-fault}
 use Rattle.utf7.specs.Sets.{printable, own}
@@ -23,6 +23,7 @@ use Rattle.utf7.specs.Writing.{Piece, self, sign, stretch, extend, pieces, lett
 use Rattle.utf7.specs.declared.Style.the-variants.{Name}
 use Rattle.utf7.proofs.Pieces.{Unstretched}
 use Rattle.utf7.proofs.Round.{Letters}
+use Rattle.utf7.proofs.Needed.{letters-needed}
 use Rattle.mailbox.specs.Rule.{Shift, outside, opening, run, outsideDoes, givesUnit, unitDoes, closeDoes, lowDoes, byteDoes, endsIn, mailbox}
 use Rattle.mailbox.proofs.Round.{Other, Clear}
 
@@ -52,27 +53,6 @@ stretch-piece [] later some o c = absurd (omega arith)
 stretch-piece (u ∷ []) later some o c = other-piece u later (o .0) ∙ extend-clear u (pieces Name later) c
 stretch-piece (u ∷ v ∷ us) later some o c =
     other-piece u (v ∷ (us ++ later)) (o .0) ∙ ap (extend u) (stretch-piece (v ∷ us) later (omega arith) (o .1) c)
-
--- letters are those of their values
-values-low : (ls : List ℕ) → Letters comma ls → Each (λ x. x < 64) (map (valueOf comma) ls)
-unfolding setB
-values-low [] h = tt
-values-low (b ∷ ls) h = (ltb-true (valueOf comma b) 64 (h .0), values-low ls (h .1))
-
-letters-back : (ls : List ℕ) → Letters comma ls → map (letterOf comma) (map (valueOf comma) ls) ≡ ls
-letters-back [] h = refl
-letters-back (b ∷ ls) h = rw (letter-value comma comma-sign b (h .0), letters-back ls (h .1))
-
--- zeros that fill the last group of six, and are fewer than six, are the filler
-zeros : (bs : List Bool) (n : ℕ) → allZero bs ≡ true → length bs ≡ n → bs ≡ replicate n false
-unfolding allZero
-zeros [] n z e = rw (← e)
-zeros (true ∷ bs) n z e = absurd (true≢false (sym z))
-zeros (false ∷ bs) n z e = rw (← e, ← zeros bs (length bs) z refl)
-
-left-filler : (bs left : List Bool) → allZero left ≡ true → length left < 6 → (length bs + length left) % 6 ≡ 0 → left ≡ filler 6 bs
-unfolding filler
-left-filler bs left z few e = zeros left ((6 - length bs % 6) % 6) z (omega arith)
 
 -- letters behind pending bits, the other units that they hold, and the bits left over
 record Held (pending : List Bool) (ls units : List ℕ) (left : List Bool) : Type 0 where
@@ -116,11 +96,7 @@ module _ (left : List Bool) (ls units later : List ℕ) (c : Held [] ls units le
   sizes = omega (arith, simp (length-append, length-bitsOf, length-map) at (ap length (c .whole)))
 
   run-letters : letters comma (bitsOf 16 units) ≡ ls
-  unfolding letters
-  run-letters =
-      let xs = map (valueOf comma) ls in
-      let f : left ≡ filler 6 (bitsOf 16 units) = left-filler (bitsOf 16 units) left (k .zero) (k .few) (rw length-bitsOf (omega (arith, sizes))) in
-      rw (← f, ← c .whole, ← append-nil (bitsOf 6 xs), full-bits 6 (lit< tt) xs [] (values-low ls (c .set)) (lit< tt)) (letters-back ls (c .set))
+  run-letters = letters-needed comma comma-sign ls units left (c .set) (c .whole) (k .zero) (k .few)
 
   run-written : 0 < length ls → writing Name (units ++ later) ≡ 38 ∷ (ls ++ 45 ∷ writing Name later)
   unfolding writing spellAll spell

@@ -10,13 +10,13 @@ use lib.Dec.{ltb, eqb, lit<}
 use borrow.Author.Tests.{ltb-true, ltb-false}
 use Rattle.answer.specs.Lists.{Each}
 use Rattle.answer.proofs.Below.{cond-case}
-use Rattle.bits.specs.Bits.{bits, allZero}
+use Rattle.bits.specs.Bits.{bits}
 use Rattle.bits.proofs.Bits.{length-bits, number-lt}
 use Rattle.base64.specs.Letters.{valueOf, setB, slash}
 use Rattle.reading.specs.Reading.{Does, reading}
 use Rattle.reading.proofs.Laws.{Kept, SoundDoes, SoundEnd, good-reading}
 use Rattle.utf7.specs.Sets.{direct}
-use Rattle.utf7.specs.Rule.{Shift, outside, opening, run, utf7, outsideDoes, unitDoes, endDoes, lowDoes, byteDoes, endsIn}
+use Rattle.utf7.specs.Rule.{Shift, outside, opening, run, utf7, outsideDoes, unitDoes, mayEnd, endDoes, lowDoes, byteDoes, endsIn}
 use Rattle.utf7.specs.Writing.{IsUnit}
 use Rattle.utf7.proofs.Sets.{direct-byte}
 
@@ -43,10 +43,10 @@ unit-kept pending h =
     let l : length (take 16 pending) ≡ 16 = length-take-le 16 pending (ltb-false (length pending) 16 t) in
     (rw l at (number-lt (take 16 pending)), simp length-drop (omega arith)))
 
-end-kept : (zeros : Bool) (b : ℕ) → Sound (endDoes zeros b)
+end-kept : (may : Bool) (b : ℕ) → Sound (endDoes may b)
 unfolding endDoes
-end-kept zeros b =
-    cond-case Sound zeros (λ _. cond-case Sound (eqb b 45) (λ _. tt) (λ _. outside-kept b)) (λ _. lit< tt)
+end-kept may b =
+    cond-case Sound may (λ _. cond-case Sound (eqb b 45) (λ _. tt) (λ _. outside-kept b)) (λ _. lit< tt)
 
 low-kept : (shift : Shift) (b : ℕ) → SoundShift shift → Sound (lowDoes shift b)
 unfolding lowDoes
@@ -57,7 +57,7 @@ low-kept opening b h =
 low-kept (run pending) b h =
     cond-case Sound (setB slash b)
     (λ _. unit-kept (pending ++ bits 6 (valueOf slash b)) (simp (length-append, length-bits) (omega arith)))
-    (λ _. end-kept (allZero pending) b)
+    (λ _. end-kept (mayEnd pending) b)
 
 byte-kept : (shift : Shift) (b : ℕ) → SoundShift shift → Sound (byteDoes shift b)
 unfolding byteDoes
@@ -67,7 +67,7 @@ pub ends-sound : (size : ℕ) (shift : Shift) → SoundEnd (endsIn size shift)
 unfolding endsIn
 ends-sound size outside = tt
 ends-sound size opening = lit< tt
-ends-sound size (run pending) = cond-case SoundEnd (allZero pending) (λ _. tt) (λ _. lit< tt)
+ends-sound size (run pending) = cond-case SoundEnd (mayEnd pending) (λ _. tt) (λ _. lit< tt)
 
 -- every state that a text leads to is sound, every cell is a unit, and no fault has the number 0
 pub utf7-kept : Kept utf7 SoundShift IsUnit

@@ -4,5 +4,6 @@ pub mod Pieces
 pub mod Round
 pub mod Units
 pub mod Spans
+pub mod Needed
 pub mod Lines
 pub mod ReadsBack

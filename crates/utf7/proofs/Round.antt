@@ -11,7 +11,7 @@ use lib.Dec.{ltb, eqb, lit<}
 use borrow.Author.Tests.{ltb-true, ltb-false, eqb-true, lt-ltb}
 use Rattle.answer.specs.Lists.{Each}
 use Rattle.answer.proofs.Below.{cond-case}
-use Rattle.bits.specs.Bits.{bits, allZero, bitsOf, full, leftOver, filler}
+use Rattle.bits.specs.Bits.{bits, bitsOf, full, leftOver, filler}
 use Rattle.bits.proofs.Bits.{length-bits}
 use Rattle.bits.proofs.Groups.{length-bitsOf, length-groups, full-few, left-few, full-more, left-more, full-bits, left-bits, bits-groups, groups-below, filler-few, filler-zero, filler-full}
 use Rattle.base64.specs.Letters.{valueOf, setB, slash, letterOf}
@@ -19,7 +19,7 @@ use Rattle.base64.proofs.Letters.{Sign, slash-sign, value-letter, value-low}
 use Rattle.reading.specs.Reading.{give, go, accepted, reading}
 use Rattle.reading.proofs.Walk.{Walk, stay, gives, goes, walk-on, walk-whole}
 use Rattle.utf7.specs.Sets.{direct, signOf, Mail, own}
-use Rattle.utf7.specs.Rule.{Shift, outside, opening, run, outsideDoes, unitDoes, endDoes, lowDoes, byteDoes, endsIn, utf7}
+use Rattle.utf7.specs.Rule.{Shift, outside, opening, run, outsideDoes, unitDoes, mayEnd, endDoes, lowDoes, byteDoes, endsIn, utf7}
 use Rattle.utf7.specs.Writing.{IsUnit, Piece, self, sign, stretch, extend, pieces, letters, spell, spellAll, writing}
 use Rattle.utf7.specs.declared.Style.{Style}
 use Rattle.utf7.proofs.Sets.{own-direct, direct-byte, direct-sign, mail-sign, mail-last}
@@ -89,9 +89,16 @@ module _ (last : ℕ) (s : Sign last) where
   letters-letters [] h = tt
   letters-letters (x ∷ xs) h = (rw (value-letter last s x (h .0)) (lt-ltb x 64 (h .0)), letters-letters xs (h .1))
 
-close-run : (f : List Bool) → allZero f ≡ true → byteDoes (run f) 45 ≡ go outside
+close-run : (f : List Bool) → mayEnd f ≡ true → byteDoes (run f) 45 ≡ go outside
 unfolding byteDoes lowDoes setB valueOf endDoes
 close-run f e = rw e
+
+-- fewest zero bits are few enough
+filler-ends : (bs : List Bool) → mayEnd (filler 6 bs) ≡ true
+unfolding mayEnd
+filler-ends bs =
+    let few = filler-few 6 (lit< tt) bs in
+    rw (filler-zero 6 bs) (lt-ltb (length (filler 6 bs)) _ (omega (arith, few)))
 
 -- a run is read as its units
 module _ (us : List ℕ) (some : 0 < length us) (h : Each IsUnit us) where
@@ -121,7 +128,7 @@ module _ (us : List ℕ) (some : 0 < length us) (h : Each IsUnit us) where
   stretch-walk =
       let w = whole-run (map (letterOf slash) xs) (xs-some slash) (letters-letters slash slash-sign xs xs-below) in
       let v = rw (letters-values slash slash-sign xs xs-below, xs-bits, full-bits 16 (lit< tt) us (filler 6 b) h few, left-bits 16 (lit< tt) us (filler 6 b) few) at w in
-      rw append-nil at (walk-on v (goes (close-run (filler 6 b) (filler-zero 6 b)) stay))
+      rw append-nil at (walk-on v (goes (close-run (filler 6 b) (filler-ends b)) stay))
 
 -- what a piece stands for, and the pieces that units have
 abbrev pub unitsOf : Style → Piece → List ℕ

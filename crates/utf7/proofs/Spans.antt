@@ -8,7 +8,6 @@ use lib.ListN.{length, getD, drop}
 use lib.Dec.{ltb, eqb, lit<}
 use borrow.Author.Tests.{ltb-true, ltb-false}
 use Rattle.answer.proofs.Below.{cond-case}
-use Rattle.bits.specs.Bits.{allZero}
 use Rattle.bits.proofs.Bits.{length-bits}
 use Rattle.base64.specs.Letters.{valueOf, setB, slash}
 use Rattle.reading.specs.Reading.{Does}
@@ -16,7 +15,7 @@ use Rattle.reading.specs.Spans.{Takes, noMark, markedIn, InOrder}
 use Rattle.reading.proofs.Spans.{LeadDoes, alone, Marks, in-order}
 use Rattle.reading.proofs.Walk.{Walk}
 use Rattle.utf7.specs.Sets.{direct}
-use Rattle.utf7.specs.Rule.{Shift, outside, opening, run, utf7, outsideDoes, unitDoes, endDoes, lowDoes, byteDoes}
+use Rattle.utf7.specs.Rule.{Shift, outside, opening, run, utf7, outsideDoes, unitDoes, mayEnd, endDoes, lowDoes, byteDoes}
 use Rattle.utf7.specs.Spans.{spanIn, runSpan}
 use Rattle.utf7.proofs.Kept.{SoundShift, utf7-kept}
 use Rattle.utf7.proofs.Round.{Letters, byte-run, byte-opening}
@@ -62,10 +61,10 @@ own-leads shift b h =
     (λ _. alone 2 lead fresh spanIn shift outside b 1 h (omega arith) (omega arith) (omega arith) refl refl)
     (λ _. tt))
 
-end-leads : (pending : List Bool) (b : ℕ) (zeros : Bool) → setB slash b ≡ false → Leads (run pending) b (endDoes zeros b)
+end-leads : (pending : List Bool) (b : ℕ) (may : Bool) → setB slash b ≡ false → Leads (run pending) b (endDoes may b)
 unfolding endDoes spanIn
-end-leads pending b zeros h =
-    cond-case (Leads (run pending) b) zeros
+end-leads pending b may h =
+    cond-case (Leads (run pending) b) may
     (λ _. cond-case (Leads (run pending) b) (eqb b 45) (λ _. (omega arith, omega arith)) (λ _. own-leads (run pending) b (λ at. rw h)))
     (λ _. tt)
 
@@ -77,7 +76,7 @@ low-leads opening b s h =
     (cond-case (Leads opening b) (eqb b 45)
     (λ _. alone 2 lead fresh spanIn opening outside b 2 (λ at. refl) (omega arith) (omega arith) (omega arith) refl refl)
     (λ _. tt))
-low-leads (run pending) b s h = rw h (end-leads pending b (allZero pending) h)
+low-leads (run pending) b s h = rw h (end-leads pending b (mayEnd pending) h)
 
 other-leads : (shift : Shift) (b : ℕ) → SoundShift shift → setB slash b ≡ false → Leads shift b (byteDoes shift b)
 unfolding byteDoes

@@ -1,7 +1,7 @@
 -- The code's numbers are the bits of the definitions. Assumes nothing.
 use Prim.Native.Nat.{ℕ, _+_, _-_, _*_, _/_, _%_, _^_, _<_, _≤_}
 use mathlib.Core.Path.{_≡_, refl, sym, ap, _∙_}
-use mathlib.Core.Bool.{cond}
+use mathlib.Core.Bool.{cond, _&&_}
 use mathlib.Core.List.{_++_}
 use native.Mathlib.Omega.{arith}
 use native.Mathlib.Nat.{mod-lt, mod-eq-of-lt}
@@ -15,7 +15,7 @@ use Rattle.bits.proofs.Bits.{length-bits, number-bits, bits-append, bits-take, 
 use Rattle.reading.specs.Reading.{Does, accepted, fault}
 use Rattle.reading.specs.Stepping.{Spot, Next, cell, onward}
 use Rattle.reading.specs.declared.Marked.{Marked}
-use Rattle.utf7.specs.Rule.{Shift, outside, opening, run, unitDoes, endsIn}
+use Rattle.utf7.specs.Rule.{Shift, outside, opening, run, unitDoes, mayEnd, endsIn}
 use Rattle.utf7.proofs.Kept.{SoundShift}
 use Rattle.utf7_read.specs.Cursor.{shiftOf, stateOf, least, spotOf, cursorOf, Settled, SettledMove, doesOf, Moves}
 use Rattle.utf7_read.specs.declared.State.{State}
@@ -79,10 +79,15 @@ settle-run n v =
     let few : n % 16 < 16 = omega arith in
     ((few, mod-lt v (pow-pos (n % 16))), rw (mod-eq-of-lt few, bits-mod (n % 16) v))
 
+-- the bits with which a run may end, by their count and value
+pub may-end : (n v : ℕ) → v < 2 ^ n → mayEnd (bits n v) ≡ (eqb v 0 && ltb n 6)
+unfolding mayEnd
+may-end n v h = rw (zero-bits n v h, length-bits n v)
+
 -- a text that ends in a run
-pub run-ends : (n v size : ℕ) → Settled (Run n v) → endsIn size (shiftOf (Run n v)) ≡ cond (eqb v 0) accepted (fault 4 size)
+pub run-ends : (n v size : ℕ) → Settled (Run n v) → endsIn size (shiftOf (Run n v)) ≡ cond (mayEnd (bits n v)) accepted (fault 4 size)
 unfolding endsIn
-run-ends n v size h = rw (mod-eq-of-lt (h .0), zero-bits n v (h .1))
+run-ends n v size h = rw (mod-eq-of-lt (h .0))
 
 -- a step's cell, at a settled state, is the definition's
 pub cell-told :

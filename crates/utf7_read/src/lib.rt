@@ -6,7 +6,6 @@ ghost use mathlib.Core.Path.{_≡_};
 ghost use mathlib.Core.List.{_++_};
 ghost use Prim.Native.Nat.{_<_, _≤_, _^_};
 ghost use lib.ListN.{length};
-ghost use lib.Dec.{eqb};
 ghost use Rattle.bits.specs.Bits.{bits};
 ghost use Rattle.answer.specs.Answer.{inNumbers};
 ghost use Rattle.answer.specs.Output.{leaves, filled};
@@ -14,7 +13,7 @@ ghost use Rattle.reading.specs.Reading.{closing, verdictOf, reading, readInto};
 ghost use Rattle.reading.specs.Spans.{Takes};
 ghost use Rattle.reading.specs.Stepping.{atStart};
 ghost use Rattle.reading.specs.Matching.{readsAs};
-ghost use Rattle.utf7.specs.Rule.{utf7, outsideDoes, unitDoes, endDoes, lowDoes, byteDoes, endsIn};
+ghost use Rattle.utf7.specs.Rule.{utf7, outsideDoes, unitDoes, mayEnd, endDoes, lowDoes, byteDoes, endsIn};
 ghost use Rattle.utf7.specs.Spans.{spanIn};
 ghost use Rattle.utf7_read.specs.Cursor.{shiftOf, cursorOf, least, told, stepOf, Settled, Moves};
 
@@ -83,18 +82,29 @@ fn letter(n: u32, v: u32, x: u32) -> Move
     Move::Give(all / w, State::Run(k, all % w))
 }
 
-// A byte that ends a run whose left-over bits have the value v.
-fn close(v: u32, b: u8) -> Move
-    requires { ⌜ b < 128 ⌝ }
-    ensures { λ r. ⌜ Moves r (endDoes (eqb v 0) b) ⌝ }
+// A run may end with n left-over bits of value v.
+fn may_end(n: u32, v: u32) -> bool
+    requires { ⌜ v < 2 ^ n ⌝ }
+    ensures { λ r. ⌜ r ≡ mayEnd (bits n v) ⌝ }
 {
     if v != 0 {
-        return Move::Bad(Refusal::LeftOverBits);
+        return false;
     }
-    if b == 45 {
-        return Move::Go(State::Outside);
+    n < 6
+}
+
+// A byte that ends a run with n left-over bits of value v.
+fn close(n: u32, v: u32, b: u8) -> Move
+    requires { ⌜ (b < 128) × (v < 2 ^ n) ⌝ }
+    ensures { λ r. ⌜ Moves r (endDoes (mayEnd (bits n v)) b) ⌝ }
+{
+    if may_end(n, v) {
+        if b == 45 {
+            return Move::Go(State::Outside);
+        }
+        return outside(b);
     }
-    outside(b)
+    Move::Bad(Refusal::LeftOverBits)
 }
 
 fn low(st: State, b: u8) -> Move
@@ -115,7 +125,7 @@ fn low(st: State, b: u8) -> Move
         }
         State::Run(n, v) => {
             if 63 < x {
-                return close(v, b);
+                return close(n, v, b);
             }
             letter(n, v, x)
         }
@@ -141,8 +151,8 @@ fn finish(size: usize, handed: usize, st: State) -> Answer
     match st {
         State::Outside => Answer::Accepted(handed),
         State::Opening => Answer::Refused(Refusal::LoneSign, size),
-        State::Run(_, v) => {
-            if v == 0 {
+        State::Run(n, v) => {
+            if may_end(n, v) {
                 return Answer::Accepted(handed);
             }
             Answer::Refused(Refusal::LeftOverBits, size)

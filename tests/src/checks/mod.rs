@@ -7,6 +7,7 @@ mod icu;
 mod lister;
 mod memory;
 mod page;
+mod peers;
 mod reading;
 mod spelling;
 mod stepping;
@@ -38,6 +39,7 @@ pub fn parts(settings: Settings) -> Vec<Part> {
     parts.extend(page::parts(seed));
     parts.extend(memory::parts(settings));
     parts.extend(desk::parts(seed));
+    parts.push(Part::aside("peers", move |report| peers::run(report, seed)));
     parts
 }
 

@@ -1,4 +1,4 @@
-//! UTF-7, after the section "UTF-7" of document 01.
+//! UTF-7, after the section "UTF-7" of document 01 and order 3 of document 02.
 
 use super::bits::{bits, number};
 use super::reading::{self, first_fault, Cursor, Found};
@@ -146,12 +146,17 @@ impl Piece {
             }
             // "2 | `+` followed by neither B nor `-`, or by the end | as noticed"
             Piece::BarePlus { end } => Some(Answer { number: 2, place: *end }),
-            // "Bits left over when a run ends must all be zero, however many they are."
             // "4 | left-over bits not zero | as noticed"
-            Piece::Run(run) if run.left_over().contains(&1) => Some(Answer { number: 4, place: run.end() }),
+            Piece::Run(run) if !may_be_left(run.left_over()) => Some(Answer { number: 4, place: run.end() }),
             _ => None,
         }
     }
+}
+
+/// "Bits left over when a run ends must all be zero"; and "six or more left-over bits are a fault even when all are
+/// zero".
+fn may_be_left(bits: &[usize]) -> bool {
+    bits.len() < 6 && !bits.contains(&1)
 }
 
 /// Writes cells in a style.

@@ -6,9 +6,10 @@ use crate::second::utf7::{self, Style};
 
 pub static SOURCE: Source = Source {
     telling_bytes: b"++--//AABQgwZaz09'.:?!\"=@`{}~\\ \t\r\n\x00\x1B\x7F\x80\xA3\xFF",
-    telling_parts: &[b"+", b"-", b"+-", b"+A", b"+AKM", b"+AKM-", b"+AKN-", b"AAA", b".", b"!", b"\r\n"],
+    telling_parts: &[b"+", b"-", b"+-", b"+A", b"+AKM", b"+AKM-", b"+AKN-", b"+AAAA-", b"AAA", b".", b"!", b"\r\n"],
     opener: b'+',
-    needless: b"+A-",
+    // A run that is accepted holds a unit.
+    needless: b"",
     whole,
     frames: &[
         Frame(b"", b"a", b""),
@@ -51,9 +52,9 @@ const TELLING_UNITS: &[u32] = &[
     0xDC00, 0xDFFF, 0xFBEF, 0xFFFF,
 ];
 
-/// Runs that are short, or that have more letters than they need; all are whole.
+/// Runs that are short, or easy to get wrong; all are whole.
 const ODD_RUNS: &[&[u8]] =
-    &[b"+-", b"+A-", b"+AA-", b"+AAA-", b"+AAAA-", b"+A.", b"+AA!", b"+-+-", b"+AKM--", b"+//8-", b"+++8-"];
+    &[b"+-", b"+AAA-", b"+AAAAAA-", b"+AAAAAAAA-", b"+AAA.", b"+AAAAAA!", b"+-+-", b"+AKM--", b"+//8-", b"+++8-"];
 
 fn whole(rng: &mut Rng, length: usize) -> Vec<u8> {
     let mut text = Vec::new();
@@ -85,12 +86,10 @@ fn whole_piece(rng: &mut Rng, room: usize) -> Vec<u8> {
     }
 }
 
-/// One run for all these units, direct ones too, with needless zero bits now and then, closed by `-` or another byte.
+/// One run for all these units, direct ones too, closed by `-` or another byte.
 fn loose_run(rng: &mut Rng, units: &[u32]) -> Vec<u8> {
     let mut text = utf7::run(units);
     text.pop();
-    let needless = rng.pick(&[0, 0, 0, 1, 2, 3]);
-    text.extend([b'A'; 3].iter().take(needless));
     text.push(rng.pick(b"--.! \t\r\n,?=`"));
     text
 }

@@ -8,10 +8,9 @@ use lib.Dec.{ltb, eqb}
 use borrow.Author.Needs.{needs}
 use borrow.Author.Tests.{lt-ltb, le-ltb, eq-eqb, ne-eqb}
 use Rattle.bits.specs.Bits.{bits}
-use Rattle.bits.proofs.Bits.{zero-bits}
 use Rattle.base64.specs.Letters.{setB}
 use Rattle.reading.specs.Reading.{give, bad}
-use Rattle.utf7.specs.Rule.{outside, unitDoes, endDoes, lowDoes}
+use Rattle.utf7.specs.Rule.{outside, unitDoes, mayEnd, endDoes, lowDoes}
 use Rattle.utf7_read.specs.Cursor.{shiftOf, Settled}
 use Rattle.utf7_read.specs.declared.State.the-variants.{Run}
 use Rattle.utf7_read.proofs.low.Statement.{statement}
@@ -50,11 +49,11 @@ in-run :
     let x = c .before .before .value-of .result in
     let n = c .st .given .0 .0 in
     let v = c .st .given .0 .1 .0 in
-    lowDoes (shiftOf (a .st)) (a .b) ≡ cond (ltb x 64) (unitDoes (bits n v ++ bits 6 x)) (endDoes (eqb v 0) (a .b))
+    lowDoes (shiftOf (a .st)) (a .b) ≡ cond (ltb x 64) (unitDoes (bits n v ++ bits 6 x)) (endDoes (mayEnd (bits n v)) (a .b))
 unfolding lowDoes setB
 in-run c =
     let h = running c in
-    simp (c .st .given .1, mod-eq-of-lt (h .0), zero-bits _ _ (h .1), c .before .before .value-of .ensures)
+    simp (c .st .given .1, mod-eq-of-lt (h .0), c .before .before .value-of .ensures)
 
 returns : tie.Need-returns
 unfolding bits
@@ -68,7 +67,7 @@ enum-known-st : tie.Need-enum-known-st
 enum-known-st c = search needs
 
 close-requires : tie.Need-close-requires
-close-requires c κs = search needs
+close-requires c κs = (search needs, running (c .before .before) .1)
 
 -- only a byte that is no letter ends a run
 returns-3 : tie.Need-returns-3
