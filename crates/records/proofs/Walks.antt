@@ -10,6 +10,7 @@ use native.Mathlib.Nat.{sub-zero, zero-sub, suc-sub-suc}
 use lib.ListN.{length, getD, take, drop, length-drop, drop-of-length-le}
 use lib.Seq.{slice, slice-cons, length-slice, drop-drop, drop-cons, length-take-le, take-nil}
 use lib.Dec.{leb}
+use lib.Bits.{bitOr, or-add-and, or-comm, and-le-r}
 use borrow.Author.Tests.{le-leb, lt-leb, eq-eqb, ne-eqb}
 use Rattle.ledger.specs.Words.{Entry, sizeOf, onto, recordsIn, lengthAfter, lengthsFit, reached, zeros}
 use Rattle.records.specs.declared.Walk.{Walk}
@@ -36,6 +37,19 @@ module _ (s : List ℕ) (i : ℕ) where
   pub zeros-end : length s ≤ i → zeros (drop i s) ≡ true
   unfolding zeros
   zeros-end h = rw (drop-of-length-le s h)
+
+-- of two numbers joined, the first is 0 where both are
+join-zero : (a b : ℕ) → bitOr a b ≡ 0 → a ≡ 0
+join-zero a b e = omega (arith, or-add-and a b, and-le-r a b)
+
+-- one element more of a block
+pub block-turn :
+    (s : List ℕ) (at k all : ℕ) → at + k < length s → (all ≡ 0 → zeros (drop at s) ≡ zeros (drop (at + k) s)) →
+    bitOr all (getD s (at + k) 0) ≡ 0 → zeros (drop at s) ≡ zeros (drop (at + (k + 1)) s)
+block-turn s at k all h before e =
+    let n : at + k + 1 ≡ at + (k + 1) = omega arith in
+    let x : ℕ = getD s (at + k) 0 in
+    before (join-zero all x e) ∙ zeros-next s (at + k) h (join-zero x all (or-comm x all ∙ e)) ∙ ap (λ (j : ℕ). zeros (drop j s)) n
 
 -- the bound on the number of records does not matter where it is enough
 pub records-enough : (n m : ℕ) (ws : List ℕ) → length ws ≤ n → length ws ≤ m → recordsIn n ws ≡ recordsIn m ws

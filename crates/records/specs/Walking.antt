@@ -4,12 +4,14 @@ use mathlib.Core.Bool.{cond, _||_}
 use mathlib.Core.List.{List, [], _∷_}
 use mathlib.Core.Option.{Option, none, some}
 use lib.ListN.{length}
+use lib.Seq.{slice}
 use Rattle.answer.specs.Answer.{limit}
 use Rattle.answer.specs.declared.Refusal.the-variants.{Unsound, OverLimit}
 use Rattle.answer.specs.declared.Answer.the-variants.{Refused}
 use Rattle.ledger.specs.Words.{Entry, Parted, sizeOf, recordsIn, lengthsFit, reached}
 use Rattle.ledger.specs.Page.{State, records}
 use Rattle.ledger.specs.Calls.{over}
+use Rattle.records.specs.declared.Spot.{Spot}
 use Rattle.records.specs.declared.Walk.{Walk}
 use Rattle.records.specs.declared.Walk.the-variants.{Broken, Led}
 use Rattle.records.specs.declared.Judged.{Judged}
@@ -27,6 +29,10 @@ walkOf room at len last (some es) = cond (lengthsFit room len es) (Led (reached 
 
 abbrev pub walkIn : ℕ → ℕ → ℕ → ℕ → List ℕ → Walk
 walkIn room at len last words = walkOf room at len last (recordsIn (length words) words)
+
+-- a walk over the records that begin where another stands
+abbrev pub walkFrom : List ℕ → ℕ → ℕ → Spot → Walk
+walkFrom history to room s = walkIn room (s .at) (s .len) (s .last) (slice (s .at) to history)
 
 -- where the last standing record begins; `done` where none stands
 abbrev pub lastBegin : ℕ → List Entry → ℕ

@@ -4,19 +4,26 @@ use answer::Refusal;
 use ledger::Page;
 ghost use mathlib.Core.Path.{_≡_};
 ghost use mathlib.Core.Bool.{_&&_};
-ghost use Prim.Native.Nat.{_≤_, _<_, _^_};
+ghost use Prim.Native.Nat.{_+_, _≤_, _<_, _^_};
 ghost use lib.Dec.{leb};
 ghost use lib.ListN.{length, drop};
 ghost use lib.Seq.{slice};
 ghost use Rattle.answer.specs.Answer.{limit};
 ghost use Rattle.ledger.specs.Words.{zeros};
 ghost use Rattle.ledger.specs.Page.{stateOf, framed, records};
-ghost use Rattle.records.specs.Walking.{walkIn, unsound, judgedAs, judgeOf};
+ghost use Rattle.records.specs.Walking.{walkIn, walkFrom, unsound, judgedAs, judgeOf};
 
 // Where records one after another lead: the length reached, and the word where the last of them begins. Or they do not fit.
 enum Walk {
     Broken,
     Led(usize, usize),
+}
+
+// Where a walk over records stands: at a word, with a length, and where the last record passed begins.
+struct Spot {
+    at: usize,
+    len: usize,
+    last: usize,
 }
 
 // What is found of a page and its buffers: the refusal 16 or 14, or the word where the last standing record begins.
@@ -32,11 +39,39 @@ pub fn wide(x: u32) -> usize
     x as usize
 }
 
-// Whether every element from a place on is 0.
-fn zero_from(s: &[u32], at: usize) -> bool
-    ensures { λ r. ⌜ r ≡ zeros (drop at (now (s .entry))) ⌝ }
+// The elements of a block, joined: 0 only where each of them is. The loop has a fixed count, so the machine takes it several elements at a time.
+fn block_at(s: &[u32], at: usize) -> u32
+    requires { ⌜ at + 16 ≤ length (now s) ⌝ }
+    ensures { λ r. ⌜ (r ≡ 0 → zeros (drop at (now (s .entry))) ≡ zeros (drop (at + 16) (now (s .entry)))) ⌝ }
+{
+    let mut all = 0u32;
+    for k in 0..16 {
+        all = all | s[at + k];
+    }
+    all
+}
+
+// Past blocks that are all 0.
+fn past_blocks(s: &[u32], at: usize) -> usize
+    requires { ⌜ at ≤ length (now s) ⌝ }
+    ensures { λ r. ⌜ zeros (drop r (now (s .entry))) ≡ zeros (drop at (now (s .entry))) ⌝ }
 {
     let mut i = at;
+    while 16 <= s.len() - i {
+        if block_at(s, i) != 0 {
+            return i;
+        }
+        i += 16;
+    }
+    i
+}
+
+// Whether every element from a place on is 0.
+fn zero_from(s: &[u32], at: usize) -> bool
+    requires { ⌜ at ≤ length (now s) ⌝ }
+    ensures { λ r. ⌜ r ≡ zeros (drop at (now (s .entry))) ⌝ }
+{
+    let mut i = past_blocks(s, at);
     while i < s.len() {
         if s[i] != 0 {
             return false;
@@ -44,6 +79,46 @@ fn zero_from(s: &[u32], at: usize) -> bool
         i += 1;
     }
     true
+}
+
+// Past the records of one shape that come next, as far as they fit. Steps of one kind come in runs, and where the next record begins is known before this one is read.
+fn past_alike(
+    history: &[u32],
+    to: usize,
+    from: Spot,
+    removed: usize,
+    added: usize,
+    room: usize,
+) -> Spot
+    requires { ⌜ (from .at ≤ to) × (to ≤ length (now history)) × (length (now history) ≤ limit) × (from .len ≤ room) × (room ≤ limit) × (3 + removed + added ≤ to) ⌝ }
+    ensures { λ r. ⌜ (from .at ≤ r .at) × (r .at ≤ to) × (r .len ≤ room)
+        × (walkFrom (now (history .entry)) to room from ≡ walkFrom (now (history .entry)) to room r) ⌝ }
+{
+    let size = 3 + removed + added;
+    let mut at = from.at;
+    let mut len = from.len;
+    let mut last = from.last;
+    while size <= to - at {
+        let place = wide(history[at]);
+        if wide(history[at + 1]) != removed {
+            return Spot { at, len, last };
+        }
+        if wide(history[at + 2]) != added {
+            return Spot { at, len, last };
+        }
+        let end = place + removed;
+        if len < end {
+            return Spot { at, len, last };
+        }
+        let after = len - removed + added;
+        if room < after {
+            return Spot { at, len, last };
+        }
+        last = at;
+        at += size;
+        len = after;
+    }
+    Spot { at, len, last }
 }
 
 // The records from one word to another, from a length on. No length may exceed the room.
@@ -72,9 +147,16 @@ fn walk_records(history: &[u32], from: usize, to: usize, start: usize, room: usi
         if room < after {
             return Walk::Broken;
         }
-        last = at;
-        at += size;
-        len = after;
+        let end = at + size;
+        let next = Spot {
+            at: end,
+            len: after,
+            last: at,
+        };
+        let run = past_alike(history, to, next, removed, added, room);
+        at = run.at;
+        len = run.len;
+        last = run.last;
     }
     Walk::Led(len, last)
 }

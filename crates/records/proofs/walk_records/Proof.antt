@@ -105,20 +105,24 @@ returns-4 c =
     let d = c .before .before .before .wide3 in
     sym (l .inv .2 ∙ walk-long (a .history .now) (a .to) (a .room) (l .at) (l .len) (l .last) (omega arith) (p .result) (r .result) (d .result) (p .ensures .0) (r .ensures .0) (d .ensures .0) (omega arith) (omega arith) (omega arith) (omega arith))
 
-add-at : tie.Need-add-at Inv-loop μ-loop
-add-at c = omega (arith, limit-small)
+add-end : tie.Need-add-end Inv-loop μ-loop
+add-end c = omega (arith, limit-small)
+
+past-alike-requires : tie.Need-past-alike-requires Inv-loop μ-loop
+past-alike-requires c κs = omega arith
 
 loop-less : tie.Need-loop-less Inv-loop μ-loop
 loop-less c = omega arith
 
 loop-again : tie.Need-loop-again Inv-loop μ-loop
 loop-again c =
-    let a = c .before .before .before .before .before .before .before .before .before .before .before .before .before .args in
-    let l = c .before .before .before .before .before .before .before .before .before .before .before .loop in
-    let p = c .before .before .before .before .before .before .before .wide in
-    let r = c .before .before .before .before .before .wide2 in
-    let d = c .before .before .before .wide3 in
-    (omega arith, omega arith, l .inv .2 ∙ walk-next (a .history .now) (a .to) (a .room) (l .at) (l .len) (l .last) (omega arith) (p .result) (r .result) (d .result) (p .ensures .0) (r .ensures .0) (d .ensures .0) (omega arith) (omega arith) (omega arith) (omega arith))
+    let a = c .before .before .before .before .before .before .before .before .before .before .before .before .before .before .args in
+    let l = c .before .before .before .before .before .before .before .before .before .before .before .before .loop in
+    let p = c .before .before .before .before .before .before .before .before .wide in
+    let r = c .before .before .before .before .before .before .wide2 in
+    let d = c .before .before .before .before .wide3 in
+    let run = c .past-alike .ensures in
+    (run .1, run .2, l .inv .2 ∙ walk-next (a .history .now) (a .to) (a .room) (l .at) (l .len) (l .last) (omega arith) (p .result) (r .result) (d .result) (p .ensures .0) (r .ensures .0) (d .ensures .0) (omega arith) (omega arith) (omega arith) (omega arith) ∙ run .3)
 
 returns-5 : tie.Need-returns-5 Inv-loop μ-loop
 returns-5 c =
@@ -155,7 +159,8 @@ walk-records-spec =
     sub-after
     add-after
     returns-4
-    add-at
+    add-end
+    past-alike-requires
     loop-less
     loop-again
     returns-5)

@@ -1,7 +1,7 @@
 use native.Mathlib.Omega.{arith}
 use borrow.Author.Needs.{needs}
 use Prim.Native.Nat.{_-_}
-use mathlib.Core.Path.{_≡_, refl, sym, _∙_}
+use mathlib.Core.Path.{_≡_, sym, _∙_}
 use lib.ListN.{length, drop}
 use Rattle.ledger.specs.Words.{zeros}
 use Rattle.records.proofs.Walks.{zeros-next, zeros-stop, zeros-end}
@@ -14,8 +14,11 @@ Inv-loop s at i₀ i = zeros (drop at s) ≡ zeros (drop i s)
 abbrev μ-loop : tie.MeasureT-loop
 μ-loop s at i₀ i = length s - i
 
+past-blocks-requires : tie.Need-past-blocks-requires Inv-loop μ-loop
+past-blocks-requires c κs = search needs
+
 loop-holds : tie.Need-loop-holds Inv-loop μ-loop
-loop-holds c = refl
+loop-holds c = sym (c .past-blocks .ensures)
 
 mul-if1 : tie.Need-mul-if1 Inv-loop μ-loop
 mul-if1 c = search needs
@@ -25,7 +28,7 @@ shared-slice-read-if1 c = search needs
 
 returns : tie.Need-returns Inv-loop μ-loop
 returns c =
-    let s = c .before .before .before .before .args .s .now in
+    let s = c .before .before .before .before .before .before .args .s .now in
     let l = c .before .before .before .loop in
     sym (l .inv ∙ zeros-stop s (l .i) (omega arith) (c .if1 .taken))
 
@@ -37,12 +40,12 @@ loop-less c = search needs
 
 loop-again : tie.Need-loop-again Inv-loop μ-loop
 loop-again c =
-    let s = c .before .before .before .before .args .s .now in
+    let s = c .before .before .before .before .before .before .args .s .now in
     let l = c .before .before .before .loop in
     l .inv ∙ zeros-next s (l .i) (omega arith) (c .if1 .left)
 
 returns-2 : tie.Need-returns-2 Inv-loop μ-loop
-returns-2 c = sym (c .before .loop .inv ∙ zeros-end (c .before .before .args .s .now) (c .before .loop .i) (omega arith))
+returns-2 c = sym (c .before .loop .inv ∙ zeros-end (c .before .before .before .before .args .s .now) (c .before .loop .i) (omega arith))
 
 pub zero-from-spec : {M : Type 1} → statement M
 zero-from-spec =
@@ -50,6 +53,7 @@ zero-from-spec =
     (tie.spec
     Inv-loop
     μ-loop
+    past-blocks-requires
     loop-holds
     mul-if1
     shared-slice-read-if1
