@@ -1,3 +1,4 @@
+pub mod Fills
 pub mod Splices
 pub mod Turns
 pub mod Replacings

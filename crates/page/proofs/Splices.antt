@@ -1,15 +1,19 @@
 -- Laws of moving, copying and clearing part of a list, a turn of a loop at a time, and of the edits made of them. Assumes nothing.
 use Prim.Native.Nat.{ℕ, zero, suc, _+_, _-_, _≤_, _<_}
 use mathlib.Core.Path.{_≡_, refl, sym, ap, _∙_}
+use mathlib.Core.Bool.{true}
 use mathlib.Core.List.{List, [], _∷_, _++_, append-assoc, append-nil}
-use native.Mathlib.Nat.{sub-zero, add-zero, le-of-suc-le-suc}
+use native.Mathlib.Nat.{sub-zero, zero-sub, suc-sub-suc, add-zero, le-of-suc-le-suc}
 use native.Mathlib.Numerals.{add-one, add-two}
 use native.Mathlib.Omega.{arith}
-use lib.ListN.{length, getD, take, drop, set, replicate, length-take, length-drop, length-append, length-replicate, getD-replicate, List·getD-append, drop-of-length-le}
-use lib.Seq.{take-take, take-length, take-append-le, take-at, drop-at, paste, paste-zero, paste-suc, take-paste, drop-paste, length-paste, getD-drop, getD-take, take-suc, drop-cons, set-at, sets-eq, length-take-le}
-use Rattle.ledger.specs.Words.{pad, wordsOf}
+use lib.ListN.{length, getD, take, drop, set, replicate, length-take, length-drop, length-append, length-replicate, getD-replicate, List·getD-append, drop-of-length-le, take-append-drop}
+use lib.Seq.{take-take, take-add, drop-drop, take-length, take-append-le, take-at, drop-at, paste, paste-zero, paste-suc, take-paste, drop-paste, length-paste, getD-drop, getD-take, take-suc, drop-cons, set-at, sets-eq, length-take-le}
+use lib.Dec.{eqb}
+use borrow.Author.Tests.{eqb-true}
+use Rattle.answer.proofs.Below.{both}
+use Rattle.ledger.specs.Words.{pad, wordsOf, zeros}
 use Rattle.records.proofs.Walks.{drop-take}
-use Rattle.page.specs.Edits.{spliced, headOf}
+use Rattle.page.specs.Edits.{spliced, headOf, cleared, Filled}
 
 -- elements moved to a place that is not after theirs, from the first on
 module _ (l s : List ℕ) (from to j : ℕ) (e : s ≡ paste l to (drop from l) j) where
@@ -65,6 +69,10 @@ module _ (l : List ℕ) (from to n : ℕ) where
     pub right-end : k ≡ 0 → s ≡ paste l to (drop from l) n
     right-end z = e ∙ rw (z, add-zero, add-zero, sub-zero)
 
+-- elements that stand there already
+pub move-same : (l : List ℕ) (at n : ℕ) → paste l at (drop at l) n ≡ l
+move-same l at n = rw (← take-add at n l) (take-append-drop (at + n) l)
+
 pub copy-turn :
     (l s cells : List ℕ) (at j : ℕ) → s ≡ paste l at cells j → at + j < length l → j < length cells → set s (at + j) (getD cells j 0) ≡ paste l at cells (j + 1)
 copy-turn l s cells at j e h g = rw (e, add-one) (paste-suc l at cells j 0 h g)
@@ -75,16 +83,13 @@ take-replicate zero m h = refl
 take-replicate (suc n) zero h = absurd (omega arith)
 take-replicate (suc n) (suc m) h = rw (take-replicate n m (le-of-suc-le-suc h))
 
-abbrev pub cleared : List ℕ → ℕ → ℕ → List ℕ
-cleared l at i = paste l at (replicate (length l) 0) (i - at)
-
-pub clear-start : (l : List ℕ) (at : ℕ) → l ≡ cleared l at at
+pub clear-start : (l : List ℕ) (at : ℕ) → l ≡ cleared at at l
 clear-start l at =
     let none : at - at ≡ 0 = omega arith in
     rw none (paste-zero l at (replicate (length l) 0))
 
-module _ (l s : List ℕ) (at i : ℕ) (e : s ≡ cleared l at i) (h : at ≤ i) where
-  pub clear-turn : i < length l → set s i 0 ≡ cleared l at (i + 1)
+module _ (l s : List ℕ) (at i : ℕ) (e : s ≡ cleared at i l) (h : at ≤ i) where
+  pub clear-turn : i < length l → set s i 0 ≡ cleared at (i + 1) l
   clear-turn g =
       let zs : List ℕ = replicate (length l) 0 in
       let place : at + (i - at) ≡ i = omega arith in
@@ -94,14 +99,57 @@ module _ (l s : List ℕ) (at i : ℕ) (e : s ≡ cleared l at i) (h : at ≤ i)
       ∙ paste-suc l at zs (i - at) 0 (omega arith) (omega (arith, length-replicate {A = ℕ} (length l) 0))
       ∙ ap (paste l at zs) count
 
-  pub clear-end : i ≡ at + (length l - at) → s ≡ pad (length l) (take at l)
-  clear-end z =
-      let n : i - at ≡ length l - length (take at l) = omega (arith, length-take at l) in
-      e
-      ∙ rw (drop-of-length-le l {i = at + (i - at)} (omega arith), append-nil, take-replicate (i - at) (length l) (omega arith), n)
+-- all from a place on
+pub clear-all : (l : List ℕ) (at : ℕ) → cleared at (length l) l ≡ pad (length l) (take at l)
+clear-all l at =
+    let n : length l - at ≡ length l - length (take at l) = omega (arith, length-take at l) in
+    rw (drop-of-length-le l {i = at + (length l - at)} (omega arith), append-nil, take-replicate (length l - at) (length l) (omega arith), n)
+
+-- past what is in use, a buffer is 0
+zeros-are : (l : List ℕ) → zeros l ≡ true → l ≡ replicate (length l) 0
+unfolding zeros
+zeros-are [] e = refl
+zeros-are (x ∷ l) e =
+    let b = both (eqb x 0) (zeros l) e in
+    λ i. eqb-true x 0 (b .0) i ∷ zeros-are l (b .1) i
+
+drop-replicate : (n m : ℕ) → drop n (replicate m 0) ≡ replicate {A = ℕ} (m - n) 0
+drop-replicate zero m = rw sub-zero
+drop-replicate (suc n) zero = rw zero-sub
+drop-replicate (suc n) (suc m) = drop-replicate n m ∙ rw suc-sub-suc
+
+replicate-add : (n m k : ℕ) → n + m ≡ k → replicate n 0 ++ replicate m 0 ≡ replicate {A = ℕ} k 0
+replicate-add zero m k e = let z : m ≡ k = omega arith in rw z
+replicate-add (suc n) m zero e = absurd (omega arith)
+replicate-add (suc n) m (suc k) e = rw (replicate-add n m k (omega arith))
+
+blank-past : {n : ℕ} {l : List ℕ} → Filled n l → (m : ℕ) → n ≤ m → drop m l ≡ replicate (length l - m) 0
+blank-past {n} {l} f m h =
+    let there : n + (m - n) ≡ m = omega arith in
+    let left : length (drop n l) - (m - n) ≡ length l - m = omega (arith, length-drop n l) in
+    ap (λ (k : ℕ). drop k l) (sym there)
+    ∙ sym (drop-drop (m - n) n l)
+    ∙ ap (drop (m - n)) (zeros-are (drop n l) (f .blank))
+    ∙ drop-replicate (m - n) (length (drop n l))
+    ∙ ap (λ (k : ℕ). replicate k 0) left
+
+-- other elements put in front, up to a new end: what was in use past it is cleared
+module _ (l s w : List ℕ) (n end : ℕ) (f : Filled n l) (e : s ≡ w ++ drop end l) (q : length w ≡ end) (h : end ≤ length l) where
+  pub refilled : cleared end n s ≡ pad (length l) w
+  refilled =
+      let long : length s ≡ length l = ap length e ∙ simp (length-append, length-drop) (omega arith) in
+      let past : drop (end + (n - end)) s ≡ replicate (length l - (end + (n - end))) 0 =
+      sym (drop-drop (n - end) end s)
+      ∙ ap (drop (n - end)) (ap (drop end) e ∙ drop-at w (drop end l) end q)
+      ∙ drop-drop (n - end) end l
+      ∙ blank-past f (end + (n - end)) (omega arith) in
+      let all : replicate (n - end) 0 ++ replicate (length l - (end + (n - end))) 0 ≡ replicate {A = ℕ} (length l - length w) 0 =
+      replicate-add (n - end) (length l - (end + (n - end))) (length l - length w) (omega (arith, f .fits)) in
+      (λ i. take end (e i) ++ take (n - end) (replicate (long i) 0) ++ past i)
+      ∙ rw (take-at w (drop end l) end q, take-replicate (n - end) (length l) (omega (arith, f .fits)), append-assoc, all)
 
 -- the tail moved, the cells copied in and the rest cleared
-module _ (t cells : List ℕ) (len place count : ℕ) (h : place + count ≤ len) (g : len ≤ length t) (k : len - count + length cells ≤ length t) where
+module _ (t cells : List ℕ) (len place count : ℕ) (h : place + count ≤ len) (f : Filled len t) (k : len - count + length cells ≤ length t) where
   abbrev m : ℕ
   m = length cells
 
@@ -123,13 +171,7 @@ module _ (t cells : List ℕ) (len place count : ℕ) (h : place + count ≤ len
   pub splice-length : end ≡ length (spliced place count cells (take len t))
   splice-length = sym (ap length spliced-is ∙ length-whole)
 
-  module _ (s₁ s₂ s₃ : List ℕ) (e₁ : s₁ ≡ paste t (place + m) (drop (place + count) t) tail) (e₂ : s₂ ≡ paste s₁ place cells m) (e₃ : s₃ ≡ pad (length s₂) (take end s₂)) where
-    length-moved : length s₁ ≡ length t
-    length-moved = rw e₁ (length-paste t (place + m) (drop (place + count) t) tail (omega arith) (omega (arith, length-drop (place + count) t)))
-
-    length-copied : length s₂ ≡ length t
-    length-copied = rw e₂ (length-paste s₁ place cells m (omega (arith, length-moved)) (omega arith) ∙ length-moved)
-
+  module _ (s₁ s₂ s₃ : List ℕ) (e₁ : s₁ ≡ paste t (place + m) (drop (place + count) t) tail) (e₂ : s₂ ≡ paste s₁ place cells m) (e₃ : s₃ ≡ cleared end len s₂) where
     front : List ℕ
     front = take (place + m) t
 
@@ -151,13 +193,19 @@ module _ (t cells : List ℕ) (len place count : ℕ) (h : place + count ≤ len
         )
 
     pub splice-is : s₃ ≡ pad (length t) (spliced place count cells (take len t))
-    splice-is = rw (e₃, length-copied, copied, take-at whole (drop end t) end length-whole, spliced-is)
+    splice-is = e₃ ∙ refilled t s₂ whole len end f copied length-whole (omega arith) ∙ rw spliced-is
+
+-- past a part that was put, a list is as it was
+drop-past : (l s : List ℕ) (at n m : ℕ) → at ≤ length l → n ≤ length s → at + n ≤ m → drop m (paste l at s n) ≡ drop m l
+drop-past l s at n m g h k =
+    let there : at + n + (m - (at + n)) ≡ m = omega arith in
+    rw (← there, ← drop-drop (m - (at + n)) (at + n) (paste l at s n), ← drop-drop (m - (at + n)) (at + n) l, drop-paste l at s n g h)
 
 -- a record's words, put one part after another
 pub head-put : (h : List ℕ) (at a b c : ℕ) → at + 3 ≤ length h → set (set (set h at a) (at + 1) b) (at + 2) c ≡ paste h at (headOf a b c) 3
 head-put h at a b c q = rw (add-one, add-two) (sets-eq (a ∷ b ∷ c ∷ []) h at q)
 
-module _ (h removed added : List ℕ) (at place : ℕ) (q : at + (3 + length removed + length added) ≤ length h) (h₁ h₂ h₃ h₄ : List ℕ) where
+module _ (h removed added : List ℕ) (used at place : ℕ) (f : Filled used h) (q : at + (3 + length removed + length added) ≤ length h) (h₁ h₂ h₃ h₄ : List ℕ) where
   abbrev r : ℕ
   r = length removed
 
@@ -166,7 +214,7 @@ module _ (h removed added : List ℕ) (at place : ℕ) (q : at + (3 + length rem
 
   pub record-put :
       h₁ ≡ paste h at (headOf place r a) 3 → h₂ ≡ paste h₁ (at + 3) removed r → h₃ ≡ paste h₂ (at + 3 + r) added a →
-      h₄ ≡ pad (length h₃) (take (at + 3 + r + a) h₃) →
+      h₄ ≡ cleared (at + 3 + r + a) used h₃ →
       h₄ ≡ pad (length h) (take at h ++ wordsOf (record { place = place; removed = removed; added = added }))
   record-put e₁ e₂ e₃ e₄ =
       let l₁ : length h₁ ≡ length h = rw e₁ (length-paste h at (headOf place r a) 3 (omega arith) (omega arith)) in
@@ -177,4 +225,11 @@ module _ (h removed added : List ℕ) (at place : ℕ) (q : at + (3 + length rem
       rw e₂ (take-paste h₁ (at + 3) removed r (omega arith) (omega arith) ∙ rw (t₁, take-length removed)) in
       let t₃ : take (at + 3 + r + a) h₃ ≡ take at h ++ headOf place r a ++ removed ++ added =
       rw e₃ (take-paste h₂ (at + 3 + r) added a (omega arith) (omega arith) ∙ rw (t₂, take-length added)) in
-      rw (e₄, l₃, t₃, append-assoc (take at h ++ headOf place r a) removed added, append-assoc (take at h) (headOf place r a) (removed ++ added))
+      let end : ℕ = at + 3 + r + a in
+      let d₁ : drop end h₁ ≡ drop end h = rw e₁ (drop-past h (headOf place r a) at 3 end (omega arith) (omega arith) (omega arith)) in
+      let d₂ : drop end h₂ ≡ drop end h₁ = rw e₂ (drop-past h₁ removed (at + 3) r end (omega arith) (omega arith) (omega arith)) in
+      let d₃ : drop end h₃ ≡ drop end h₂ = rw e₃ (drop-past h₂ added (at + 3 + r) a end (omega arith) (omega arith) (omega arith)) in
+      let whole : List ℕ = take at h ++ headOf place r a ++ removed ++ added in
+      e₄
+      ∙ refilled h h₃ whole used end f (sym (take-append-drop end h₃) ∙ (λ i. t₃ i ++ (d₃ ∙ d₂ ∙ d₁) i)) (sym (ap length t₃) ∙ length-take-le end h₃ (omega arith)) (omega arith)
+      ∙ rw (append-assoc (take at h ++ headOf place r a) removed added, append-assoc (take at h) (headOf place r a) (removed ++ added))

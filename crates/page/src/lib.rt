@@ -19,7 +19,7 @@ ghost use Rattle.records.specs.Walking.{judgeOf};
 ghost use Rattle.ledger.specs.Words.{pad};
 ghost use Rattle.ledger.specs.Page.{stateOf, leaves, keeps};
 ghost use Rattle.ledger.specs.Calls.{undoOf, redoOf, entryAt, replaceFitting, replaceSound, replaceOf, openOf, saveOf};
-ghost use Rattle.page.specs.Edits.{spliced};
+ghost use Rattle.page.specs.Edits.{spliced, Filled};
 ghost use Rattle.page.specs.Steps.{steppedOf, spanOf, changeIn};
 ghost use Rattle.page.specs.Outcomes.{editedAs, freshPage, savedIn};
 
@@ -55,7 +55,7 @@ fn accept(
     done: usize,
     text: &mut [u32],
 ) -> Edited
-    requires { ⌜ (place + count ≤ page .length) × (page .length ≤ length (now text)) × (page .length - count + length (now cells) ≤ length (now text)) ⌝ }
+    requires { ⌜ (place + count ≤ page .length) × Filled (page .length) (now text) × (page .length - count + length (now cells) ≤ length (now text)) ⌝ }
     ensures { λ r. ⌜ (r ≡ editedAs page (spliced place count (now (cells .entry)) (take (page .length) (now (text .entry)))) used done)
         × (now (text .exit) ≡ pad (length (now (text .entry))) (spliced place count (now (cells .entry)) (take (page .length) (now (text .entry))))) ⌝ }
 {
@@ -181,7 +181,7 @@ fn replace_fitting(
     text: &mut [u32],
     history: &mut [u32],
 ) -> Edited
-    requires { ⌜ (place + count ≤ page .length) × (page .length ≤ length (now text)) × (page .done ≤ length (now history))
+    requires { ⌜ (place + count ≤ page .length) × Filled (page .length) (now text) × (page .done ≤ page .used) × Filled (page .used) (now history)
         × (length (now cells) ≤ limit) × (length (now text) ≤ limit) × (length (now history) ≤ limit) ⌝ }
     ensures { λ r. ⌜ leaves r (now (text .exit)) (now (history .exit))
         ≡ replaceFitting (stateOf page (now (text .entry)) (now (history .entry)))
@@ -197,7 +197,14 @@ fn replace_fitting(
         return refused(page, Answer::Refused(Refusal::HistoryFull, used));
     }
     let end = place + count;
-    edits::put_record(&mut *history, done, place, &text[place..end], cells);
+    edits::put_record(
+        &mut *history,
+        page.used,
+        done,
+        place,
+        &text[place..end],
+        cells,
+    );
     accept(page, place, count, cells, used, used, &mut *text)
 }
 
@@ -210,7 +217,7 @@ fn replace_sound(
     text: &mut [u32],
     history: &mut [u32],
 ) -> Edited
-    requires { ⌜ (page .length ≤ length (now text)) × (page .done ≤ length (now history))
+    requires { ⌜ Filled (page .length) (now text) × (page .done ≤ page .used) × Filled (page .used) (now history)
         × (length (now cells) ≤ limit) × (length (now text) ≤ limit) × (length (now history) ≤ limit) ⌝ }
     ensures { λ r. ⌜ leaves r (now (text .exit)) (now (history .exit))
         ≡ replaceSound (stateOf page (now (text .entry)) (now (history .entry))) place count (now (cells .entry)) ⌝ }

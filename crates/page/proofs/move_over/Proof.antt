@@ -4,6 +4,7 @@ use Prim.Native.Nat.{_-_}
 use lib.ListN.{drop, length-take, length-drop}
 use Rattle.ledger.specs.Page.{State, stateOf, leaves}
 use Rattle.records.proofs.Found.{fit}
+use Rattle.page.proofs.Fills.{text-filled}
 use Rattle.page.proofs.Turns.{ready, change-moves, nothing-left}
 use borrow.Author.Needs.{needs}
 use Rattle.page.proofs.move_over.Statement.{statement}
@@ -70,7 +71,7 @@ accept-requires c κs =
     let q = c .before .before .change-at .result in
     let part = length-take (q .to - q .from) (drop (q .from) (a .history .now)) in
     let rest = length-drop (q .from) (a .history .now) in
-    (m .place, f .frame .fits, omega (arith, m .room, m .part, m .whole))
+    (m .place, text-filled f, omega (arith, m .room, m .part, m .whole))
 
 same-length : tie.Need-same-length
 same-length c = search needs

@@ -5,6 +5,7 @@ use borrow.Author.Tests.{ltb-false}
 use Rattle.answer.specs.Answer.{limit}
 use Rattle.ledger.specs.Page.{State, stateOf}
 use Rattle.records.proofs.Found.{fit}
+use Rattle.page.proofs.Fills.{text-filled, history-filled}
 use Rattle.page.proofs.Replacings.{replace-long, replace-unfit, replace-fit}
 use borrow.Author.Needs.{needs}
 use Rattle.page.proofs.replace.Statement.{statement}
@@ -43,7 +44,7 @@ replace-sound-requires c κs =
     let s : State = stateOf (a .page) (a .text .now) (a .history .now) in
     let f = fit s (c .before .before .before .before .judge .ensures) (c .before .before .enum-told .given .1) in
     let few = ltb-false limit (length (a .cells .now)) (sym (c .before .before .before .before .before .before .before .before .over-limit .ensures) ∙ c .before .before .before .before .before .before .before .if1 .left) in
-    omega (arith, f .frame, f .short-text, f .short-history)
+    (text-filled f, f .frame .stands, history-filled f, few, f .short-text, f .short-history)
 
 same-length : tie.Need-same-length
 same-length c = search needs

@@ -60,7 +60,7 @@ put-record-requires c κs =
     let a = c .before .before .before .before .before .before .before .before .before .args in
     let s : State = stateOf (a .page) (a .text .now) (a .history .now) in
     let n = length-part s (a .place) (a .count) (a .cells .now) (omega arith) (omega arith) in
-    omega (arith, limit-small)
+    (c .before .before .before .before .before .before .before .before .before .pre .3, omega arith, omega (arith, limit-small), omega (arith, limit-small), omega (arith, limit-small))
 
 accept-requires : tie.Need-accept-requires
 accept-requires c κs = search needs
@@ -78,7 +78,7 @@ returns-3 c =
     let p = c .before .before .before .before .before .before .before .before .before .before .before .before .before .before .before .before .pre in
     let e = c .before .before .accept in
     let h = c .before .before .before .before .before .before .put-record in
-    replaced-is s (a .place) (a .count) (a .cells .now) (p .0) (p .1) (e .result) (e .last .1 .1 .1 .1 .1 .1 .0) (h .last .0) (omega (arith, c .before .before .before .before .before .before .before .before .before .before .before .if1 .left)) (omega (arith, c .before .before .before .before .before .before .before .before .before .before .if2 .left)) (e .ensures .0) (e .ensures .1) (h .ensures)
+    replaced-is s (a .place) (a .count) (a .cells .now) (p .0) (p .1 .fits) (e .result) (e .last .1 .1 .1 .1 .1 .1 .0) (h .last .0) (omega (arith, c .before .before .before .before .before .before .before .before .before .before .before .if1 .left)) (omega (arith, c .before .before .before .before .before .before .before .before .before .before .if2 .left)) (e .ensures .0) (e .ensures .1) (h .ensures)
 
 pub replace-fitting-spec : {M : Type 1} → statement M
 replace-fitting-spec =

@@ -1,61 +1,19 @@
-use native.Mathlib.Omega.{arith}
+use mathlib.Core.Path.{_∙_}
+use Rattle.page.proofs.Splices.{clear-all}
 use borrow.Author.Needs.{needs}
-use Prim.Native.Nat.{_≤_, _+_, _-_}
-use mathlib.Core.Path.{_≡_, refl}
-use lib.ListN.{length, length-set}
-use Rattle.page.proofs.Splices.{cleared, clear-start, clear-turn, clear-end}
 use Rattle.page.proofs.edits.clear_from.Statement.{statement}
 use Rattle.page.proofs.edits.clear_from.Tie as tie
 
-abbrev Inv-loop : tie.InvT-loop
-Inv-loop s₀ at i₀ s i = (at ≤ i) × (i ≤ at + (length s₀ - at)) × (length s ≡ length s₀) × (s ≡ cleared s₀ at i)
+clear-part-requires : tie.Need-clear-part-requires
+clear-part-requires c κs = search needs
 
-abbrev μ-loop : tie.MeasureT-loop
-μ-loop s₀ at i₀ s i = length s₀ - i
+same-length : tie.Need-same-length
+same-length c = search needs
 
-loop-holds : tie.Need-loop-holds Inv-loop μ-loop
-loop-holds c =
-    let a = c .args in
-    (omega arith, omega arith, refl, clear-start (a .s .now) (a .at))
-
-mul-s : tie.Need-mul-s Inv-loop μ-loop
-mul-s c = search needs
-
-slice-write-s : tie.Need-slice-write-s Inv-loop μ-loop
-slice-write-s c = search needs
-
-add-i : tie.Need-add-i Inv-loop μ-loop
-add-i c = search needs
-
-loop-less : tie.Need-loop-less Inv-loop μ-loop
-loop-less c = search needs
-
-loop-again : tie.Need-loop-again Inv-loop μ-loop
-loop-again c =
-    let a = c .before .before .args in
-    let l = c .before .loop in
-    (omega arith, omega arith, simp length-set (omega arith), clear-turn (a .s .now) (l .s) (a .at) (l .i) (l .inv .3) (omega arith) (omega arith))
-
-same-length : tie.Need-same-length Inv-loop μ-loop
-same-length c = c .before .loop .inv .2
-
-returns : tie.Need-returns Inv-loop μ-loop
+returns : tie.Need-returns
 returns c =
-    let a = c .before .before .args in
-    let l = c .before .loop in
-    clear-end (a .s .now) (l .s) (a .at) (l .i) (l .inv .3) (omega arith) (omega arith)
+    let a = c .before .before .before .before .before .args in
+    c .before .before .clear-part .ensures ∙ clear-all (a .s .now) (a .at)
 
 pub clear-from-spec : {M : Type 1} → statement M
-clear-from-spec =
-    tie.close
-    (tie.spec
-    Inv-loop
-    μ-loop
-    loop-holds
-    mul-s
-    slice-write-s
-    add-i
-    loop-less
-    loop-again
-    same-length
-    returns)
+clear-from-spec = tie.close (tie.spec clear-part-requires same-length returns)

@@ -22,8 +22,8 @@ copy-at-requires-2 c κs = search needs
 add-end : tie.Need-add-end
 add-end c = search needs
 
-clear-from-requires : tie.Need-clear-from-requires
-clear-from-requires c κs = search needs
+clear-part-requires : tie.Need-clear-part-requires
+clear-part-requires c κs = search needs
 
 same-length : tie.Need-same-length
 same-length c = search needs
@@ -34,8 +34,8 @@ returns c =
     let e₁ = c .before .before .before .before .before .before .before .before .before .before .before .before .before .before .put-head in
     let e₂ = c .before .before .before .before .before .before .before .before .before .before .copy-at in
     let e₃ = c .before .before .before .before .before .before .copy-at2 in
-    let e₄ = c .before .before .clear-from in
-    record-put (a .history .now) (a .removed .now) (a .added .now) (a .at) (a .place) (omega arith)
+    let e₄ = c .before .before .clear-part in
+    record-put (a .history .now) (a .removed .now) (a .added .now) (a .used) (a .at) (a .place) (c .before .before .before .before .before .before .before .before .before .before .before .before .before .before .before .before .before .before .before .pre .0) (omega arith)
     (e₁ .last .0) (e₂ .last .0) (e₃ .last .0) (e₄ .last .0) (e₁ .ensures) (e₂ .ensures) (e₃ .ensures) (e₄ .ensures)
 
 pub put-record-spec : {M : Type 1} → statement M
@@ -48,6 +48,6 @@ put-record-spec =
     add-second
     copy-at-requires-2
     add-end
-    clear-from-requires
+    clear-part-requires
     same-length
     returns)

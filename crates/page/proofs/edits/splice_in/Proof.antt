@@ -22,8 +22,8 @@ copy-at-requires c κs = search needs
 add-end : tie.Need-add-end
 add-end c = search needs
 
-clear-from-requires : tie.Need-clear-from-requires
-clear-from-requires c κs = search needs
+clear-part-requires : tie.Need-clear-part-requires
+clear-part-requires c κs = search needs
 
 same-length : tie.Need-same-length
 same-length c = search needs
@@ -31,11 +31,12 @@ same-length c = search needs
 returns : tie.Need-returns
 returns c =
     let a = c .before .before .before .before .before .before .before .before .before .before .before .before .before .before .args in
+    let p = c .before .before .before .before .before .before .before .before .before .before .before .before .before .before .pre in
     let e₁ = c .before .before .before .before .before .before .before .before .before .before .move-part in
     let e₂ = c .before .before .before .before .before .before .copy-at in
-    let e₃ = c .before .before .clear-from in (
-      splice-length (a .text .now) (a .cells .now) (a .len) (a .place) (a .count) (omega arith) (omega arith) (omega arith),
-      splice-is (a .text .now) (a .cells .now) (a .len) (a .place) (a .count) (omega arith) (omega arith) (omega arith)
+    let e₃ = c .before .before .clear-part in (
+      splice-length (a .text .now) (a .cells .now) (a .len) (a .place) (a .count) (omega arith) (p .1) (omega arith),
+      splice-is (a .text .now) (a .cells .now) (a .len) (a .place) (a .count) (omega arith) (p .1) (omega arith)
           (e₁ .last .0) (e₂ .last .0) (e₃ .last .0) (e₁ .ensures) (e₂ .ensures) (e₃ .ensures),
     )
 
@@ -49,6 +50,6 @@ splice-in-spec =
     move-part-requires
     copy-at-requires
     add-end
-    clear-from-requires
+    clear-part-requires
     same-length
     returns)
