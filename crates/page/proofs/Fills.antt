@@ -8,7 +8,7 @@ use Rattle.answer.proofs.Below.{both}
 use Rattle.ledger.specs.Words.{zeros}
 use Rattle.ledger.specs.Page.{State, framed}
 use Rattle.records.proofs.Found.{Fit}
-use Rattle.page.specs.Edits.{Filled}
+use Rattle.splice.specs.Splice.{Filled}
 
 zeros-both : (s : State) → framed s ≡ true → (zeros (drop (s .page .length) (s .text)) ≡ true) × (zeros (drop (s .page .used) (s .history)) ≡ true)
 unfolding framed

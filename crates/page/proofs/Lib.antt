@@ -1,5 +1,5 @@
 pub mod Fills
-pub mod Splices
+pub mod Recording
 pub mod Turns
 pub mod Replacings
 pub mod Savings

@@ -13,13 +13,13 @@ use Rattle.codec.specs.Kinds.{firstUnwritable}
 use Rattle.ledger.specs.Words.{Entry, sizeOf, wordsOf, pad}
 use Rattle.ledger.specs.Page.{State, textIn, leaves}
 use Rattle.ledger.specs.Calls.{refusing, over, applied, entryAt, replaceFitting, replaceSound, replaceParted, replaceOf}
+use Rattle.ledger.proofs.Words.{drop-take}
 use Rattle.ledger.specs.declared.Edited.{Edited}
 use Rattle.records.specs.declared.Judged.{Judged}
 use Rattle.records.specs.declared.Judged.the-variants.{Unfit}
 use Rattle.records.specs.Walking.{judgeOf}
-use Rattle.records.proofs.Walks.{drop-take}
 use Rattle.records.proofs.Found.{Fit, unfit}
-use Rattle.page.specs.Edits.{spliced}
+use Rattle.splice.specs.Splice.{spliced}
 use Rattle.page.specs.Outcomes.{editedAs}
 
 module _ (s : State) (place count : ℕ) (cells : List ℕ) where

@@ -24,7 +24,7 @@ use Rattle.records.specs.declared.Judged.the-variants.{Unfit}
 use Rattle.records.proofs.Found.{Fit, unfit}
 use Rattle.page.specs.declared.Span.{Span}
 use Rattle.page.specs.declared.Change.{Change}
-use Rattle.page.specs.Edits.{spliced}
+use Rattle.splice.specs.Splice.{spliced}
 use Rattle.page.specs.Steps.{steppedOf, spanOf, changeOf, changeIn}
 
 -- a record's words stand at a word of the history

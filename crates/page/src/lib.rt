@@ -1,5 +1,4 @@
 // The five calls on a page: open, replace, undo, redo, save. Each is judged whole before anything is changed.
-mod edits;
 mod output;
 
 use answer::Answer;
@@ -9,17 +8,17 @@ use ledger::Edited;
 use ledger::Page;
 use records::Judged;
 ghost use mathlib.Core.Path.{_≡_};
-ghost use Prim.Native.Nat.{_+_, _-_, _≤_};
-ghost use mathlib.Core.List.{[]};
+ghost use Prim.Native.Nat.{_+_, _-_, _≤_, _<_, _^_};
+ghost use mathlib.Core.List.{[], _++_};
 ghost use lib.ListN.{length, getD, take, replicate};
 ghost use Rattle.answer.specs.Answer.{limit, numbered};
 ghost use Rattle.answer.specs.Output as output;
 ghost use Rattle.records.specs.declared.Judged.the-variants.{Sound};
 ghost use Rattle.records.specs.Walking.{judgeOf};
-ghost use Rattle.ledger.specs.Words.{pad};
+ghost use Rattle.ledger.specs.Words.{wordsOf, pad};
 ghost use Rattle.ledger.specs.Page.{stateOf, leaves, keeps};
 ghost use Rattle.ledger.specs.Calls.{undoOf, redoOf, entryAt, replaceFitting, replaceSound, replaceOf, openOf, saveOf};
-ghost use Rattle.page.specs.Edits.{spliced, Filled};
+ghost use Rattle.splice.specs.Splice.{spliced, Filled};
 ghost use Rattle.page.specs.Steps.{steppedOf, spanOf, changeIn};
 ghost use Rattle.page.specs.Outcomes.{editedAs, freshPage, savedIn};
 
@@ -61,7 +60,7 @@ fn accept(
 {
     let length = page.length;
     let kind = page.kind;
-    let n = edits::splice_in(&mut *text, length, place, count, cells);
+    let n = splice::splice_in(&mut *text, length, place, count, cells);
     Edited {
         answer: Answer::Accepted(n),
         page: Page {
@@ -172,6 +171,26 @@ pub fn redo(page: Page, text: &mut [u32], history: &[u32]) -> Edited
     step_over(page, true, &mut *text, history)
 }
 
+// Puts a step's record in place of all words used from a word on: its first three words, and then the cells.
+fn put_record(
+    history: &mut [u32],
+    used: usize,
+    at: usize,
+    place: usize,
+    removed: &[u32],
+    added: &[u32],
+)
+    requires { ⌜ Filled used (now history) × (at ≤ used) × (at + (3 + length (now removed) + length (now added)) ≤ length (now history))
+        × (place < 2 ^ 32) × (length (now removed) < 2 ^ 32) × (length (now added) < 2 ^ 32) ⌝ }
+    ensures { λ _. ⌜ now (history .exit) ≡ pad (length (now (history .entry)))
+        (take at (now (history .entry)) ++ wordsOf (record { place = place; removed = now (removed .entry); added = now (added .entry) })) ⌝ }
+{
+    let head = [place as u32, removed.len() as u32, added.len() as u32];
+    let first = splice::splice_in(&mut *history, used, at, used - at, &head);
+    let second = splice::splice_in(&mut *history, first, first, 0, removed);
+    splice::splice_in(&mut *history, second, second, 0, added);
+}
+
 // 9, then 12; else the step is recorded and done.
 fn replace_fitting(
     page: Page,
@@ -197,7 +216,7 @@ fn replace_fitting(
         return refused(page, Answer::Refused(Refusal::HistoryFull, used));
     }
     let end = place + count;
-    edits::put_record(
+    put_record(
         &mut *history,
         page.used,
         done,
@@ -282,8 +301,8 @@ fn opened(kind: Kind, count: usize, text: &mut [u32], history: &mut [u32]) -> Ed
           output = [];
         } ⌝ }
 {
-    edits::clear_from(&mut *text, count);
-    edits::clear_from(&mut *history, 0);
+    splice::clear_from(&mut *text, count);
+    splice::clear_from(&mut *history, 0);
     Edited {
         answer: Answer::Accepted(count),
         page: fresh(kind, count),

@@ -21,14 +21,14 @@ use Rattle.ledger.specs.Words.{Entry, sizeOf, recordsIn, lengthsFit, reached, z
 use Rattle.ledger.specs.Page.{State, stateOf, framed, records}
 use Rattle.ledger.specs.Parts.{joined, recordsTwice}
 use Rattle.ledger.specs.Calls.{over}
-use Rattle.ledger.proofs.Words.{Whole, words, sizes, length-words, exact}
+use Rattle.ledger.proofs.Words.{Whole, drop-take, words, sizes, length-words, exact}
 use Rattle.ledger.proofs.Parts.{two-parts}
 use Rattle.records.specs.declared.Walk.{Walk}
 use Rattle.records.specs.declared.Walk.the-variants.{Broken, Led}
 use Rattle.records.specs.declared.Judged.{Judged}
 use Rattle.records.specs.declared.Judged.the-variants.{Unfit, Sound}
 use Rattle.records.specs.Walking.{lastFrom, walkOf, walkIn, lastBegin, unsound, judgedAs, judgeOf}
-use Rattle.records.proofs.Walks.{records-enough, drop-take}
+use Rattle.records.proofs.Walks.{records-enough}
 
 -- what a walk tells of its test
 led : (t : Bool) (a b n l : ℕ) → cond t (Led a b) Broken ≡ Led n l → (t ≡ true) × (a ≡ n) × (b ≡ l)

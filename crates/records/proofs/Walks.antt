@@ -6,9 +6,8 @@ use mathlib.Core.List.{List, [], _∷_}
 use mathlib.Core.Option.{Option, none, some}
 use native.Mathlib.Omega.{arith}
 use native.Mathlib.Numerals.{add-one}
-use native.Mathlib.Nat.{sub-zero, zero-sub, suc-sub-suc}
 use lib.ListN.{length, getD, take, drop, length-drop, drop-of-length-le}
-use lib.Seq.{slice, slice-cons, length-slice, drop-drop, drop-cons, length-take-le, take-nil}
+use lib.Seq.{slice, slice-cons, length-slice, drop-drop, drop-cons, length-take-le}
 use lib.Dec.{leb}
 use lib.Bits.{bitOr, or-add-and, or-comm, and-le-r}
 use borrow.Author.Tests.{le-leb, lt-leb, eq-eqb, ne-eqb}
@@ -16,13 +15,6 @@ use Rattle.ledger.specs.Words.{Entry, sizeOf, onto, recordsIn, lengthAfter, len
 use Rattle.records.specs.declared.Walk.{Walk}
 use Rattle.records.specs.declared.Walk.the-variants.{Broken, Led}
 use Rattle.records.specs.Walking.{walkOf, walkIn}
-
--- part of a list, cut at its end first or at its start
-pub drop-take : (j m : ℕ) (l : List ℕ) → drop j (take m l) ≡ take (m - j) (drop j l)
-drop-take zero m l = rw sub-zero
-drop-take (suc j) zero l = rw zero-sub
-drop-take (suc j) (suc m) [] = sym (take-nil (suc m - suc j))
-drop-take (suc j) (suc m) (x ∷ l) = drop-take j m l ∙ rw suc-sub-suc
 
 -- elements that are all 0, from a place on
 module _ (s : List ℕ) (i : ℕ) where

@@ -60,7 +60,7 @@ put-record-requires c κs =
     let a = c .before .before .before .before .before .before .before .before .before .args in
     let s : State = stateOf (a .page) (a .text .now) (a .history .now) in
     let n = length-part s (a .place) (a .count) (a .cells .now) (omega arith) (omega arith) in
-    (c .before .before .before .before .before .before .before .before .before .pre .3, omega arith, omega (arith, limit-small), omega (arith, limit-small), omega (arith, limit-small))
+    (c .before .before .before .before .before .before .before .before .before .pre .3, omega arith, omega arith, omega (arith, limit-small), omega (arith, limit-small), omega (arith, limit-small))
 
 accept-requires : tie.Need-accept-requires
 accept-requires c κs = search needs

@@ -1,8 +1,8 @@
 use native.Mathlib.Omega.{arith}
-use Rattle.page.proofs.Splices.{splice-length, splice-is}
+use Rattle.splice.proofs.Splices.{end-is, splice-is}
 use borrow.Author.Needs.{needs}
-use Rattle.page.proofs.edits.splice_in.Statement.{statement}
-use Rattle.page.proofs.edits.splice_in.Tie as tie
+use Rattle.splice.proofs.splice_fitting.Statement.{statement}
+use Rattle.splice.proofs.splice_fitting.Tie as tie
 
 add-from : tie.Need-add-from
 add-from c = search needs
@@ -35,21 +35,11 @@ returns c =
     let e₁ = c .before .before .before .before .before .before .before .before .before .before .move-part in
     let e₂ = c .before .before .before .before .before .before .copy-at in
     let e₃ = c .before .before .clear-part in (
-      splice-length (a .text .now) (a .cells .now) (a .len) (a .place) (a .count) (omega arith) (p .1) (omega arith),
-      splice-is (a .text .now) (a .cells .now) (a .len) (a .place) (a .count) (omega arith) (p .1) (omega arith)
-          (e₁ .last .0) (e₂ .last .0) (e₃ .last .0) (e₁ .ensures) (e₂ .ensures) (e₃ .ensures),
+      end-is (a .buffer .now) (a .cells .now) (a .used) (a .place) (a .count) (p .0) (p .1) (p .2),
+      splice-is (a .buffer .now) (a .cells .now) (a .used) (a .place) (a .count) (p .0) (p .1) (p .2) (e₁ .last .0) (e₂ .last .0) (e₃ .last .0)
+          (e₁ .ensures) (e₂ .ensures) (e₃ .ensures),
     )
 
-pub splice-in-spec : {M : Type 1} → statement M
-splice-in-spec =
-    tie.close
-    (tie.spec
-    add-from
-    add-to
-    sub-tail
-    move-part-requires
-    copy-at-requires
-    add-end
-    clear-part-requires
-    same-length
-    returns)
+pub splice-fitting-spec : {M : Type 1} → statement M
+splice-fitting-spec =
+    tie.close (tie.spec add-from add-to sub-tail move-part-requires copy-at-requires add-end clear-part-requires same-length returns)

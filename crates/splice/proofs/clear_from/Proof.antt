@@ -1,8 +1,8 @@
 use mathlib.Core.Path.{_∙_}
-use Rattle.page.proofs.Splices.{clear-all}
+use Rattle.splice.proofs.Splices.{clear-all}
 use borrow.Author.Needs.{needs}
-use Rattle.page.proofs.edits.clear_from.Statement.{statement}
-use Rattle.page.proofs.edits.clear_from.Tie as tie
+use Rattle.splice.proofs.clear_from.Statement.{statement}
+use Rattle.splice.proofs.clear_from.Tie as tie
 
 clear-part-requires : tie.Need-clear-part-requires
 clear-part-requires c κs = search needs

@@ -1,19 +1,19 @@
--- Laws of moving, copying and clearing part of a list, a turn of a loop at a time, and of the edits made of them. Assumes nothing.
+-- Laws of moving, copying and clearing part of a list, a turn of a loop at a time, and of the edit made of them. Assumes nothing.
 use Prim.Native.Nat.{ℕ, zero, suc, _+_, _-_, _≤_, _<_}
 use mathlib.Core.Path.{_≡_, refl, sym, ap, _∙_}
-use mathlib.Core.Bool.{true}
+use mathlib.Core.Bool.{true, false, _&&_}
 use mathlib.Core.List.{List, [], _∷_, _++_, append-assoc, append-nil}
 use native.Mathlib.Nat.{sub-zero, zero-sub, suc-sub-suc, add-zero, le-of-suc-le-suc}
-use native.Mathlib.Numerals.{add-one, add-two}
+use native.Mathlib.Numerals.{add-one}
 use native.Mathlib.Omega.{arith}
 use lib.ListN.{length, getD, take, drop, set, replicate, length-take, length-drop, length-append, length-replicate, getD-replicate, List·getD-append, drop-of-length-le, take-append-drop}
-use lib.Seq.{take-take, take-add, drop-drop, take-length, take-append-le, take-at, drop-at, paste, paste-zero, paste-suc, take-paste, drop-paste, length-paste, getD-drop, getD-take, take-suc, drop-cons, set-at, sets-eq, length-take-le}
-use lib.Dec.{eqb}
-use borrow.Author.Tests.{eqb-true}
+use lib.Seq.{take-take, take-add, drop-drop, take-length, take-append-le, take-at, drop-at, paste, paste-zero, paste-suc, drop-paste, length-paste, getD-drop, getD-take, take-suc, drop-cons, set-at, length-take-le}
+use lib.Dec.{eqb, leb}
+use borrow.Author.Tests.{eqb-true, le-leb, leb-true}
 use Rattle.answer.proofs.Below.{both}
-use Rattle.ledger.specs.Words.{pad, wordsOf, zeros}
-use Rattle.records.proofs.Walks.{drop-take}
-use Rattle.page.specs.Edits.{spliced, headOf, cleared, Filled}
+use Rattle.ledger.specs.Words.{pad, zeros}
+use Rattle.ledger.proofs.Words.{drop-take}
+use Rattle.splice.specs.Splice.{Filled, spliced, cleared, fitting, usedAfter, splicedIn}
 
 -- elements moved to a place that is not after theirs, from the first on
 module _ (l s : List ℕ) (from to j : ℕ) (e : s ≡ paste l to (drop from l) j) where
@@ -149,87 +149,107 @@ module _ (l s w : List ℕ) (n end : ℕ) (f : Filled n l) (e : s ≡ w ++ drop 
       ∙ rw (take-at w (drop end l) end q, take-replicate (n - end) (length l) (omega (arith, f .fits)), append-assoc, all)
 
 -- the tail moved, the cells copied in and the rest cleared
-module _ (t cells : List ℕ) (len place count : ℕ) (h : place + count ≤ len) (f : Filled len t) (k : len - count + length cells ≤ length t) where
+module _ (t cells : List ℕ) (used place count : ℕ) where
   abbrev m : ℕ
   m = length cells
 
   abbrev tail : ℕ
-  tail = len - (place + count)
+  tail = used - (place + count)
 
+  -- the new end, as the code has it, and as the definitions do
   abbrev end : ℕ
   end = place + m + tail
 
-  abbrev whole : List ℕ
-  whole = take place t ++ (cells ++ take tail (drop (place + count) t))
+  abbrev after : ℕ
+  after = used - count + m
 
-  spliced-is : spliced place count cells (take len t) ≡ whole
-  spliced-is = rw (take-take place len t (omega arith), drop-take (place + count) len t)
+  abbrev new : List ℕ
+  new = spliced place count cells (take used t)
 
-  length-whole : length whole ≡ end
-  length-whole = simp (length-append, length-take-le place t (omega arith), length-take, length-drop) (omega arith)
+  pub fits-so : fitting used place count m (length t) ≡ true → (place + count ≤ used) × (used ≤ length t) × (after ≤ length t)
+  unfolding fitting
+  fits-so e =
+      let b₁ = both (leb (place + count) used && leb used (length t)) (leb after (length t)) e in
+      let b₂ = both (leb (place + count) used) (leb used (length t)) (b₁ .0) in
+      (leb-true _ _ (b₂ .0), leb-true _ _ (b₂ .1), leb-true _ _ (b₁ .1))
 
-  pub splice-length : end ≡ length (spliced place count cells (take len t))
-  splice-length = sym (ap length spliced-is ∙ length-whole)
+  -- what the code leaves, by what it finds of the fit
+  pub unfit-left : fitting used place count m (length t) ≡ false → (used ≡ usedAfter used place count m (length t)) × (t ≡ splicedIn used place count cells t)
+  unfolding usedAfter splicedIn
+  unfit-left e = (rw e, rw e)
 
-  module _ (s₁ s₂ s₃ : List ℕ) (e₁ : s₁ ≡ paste t (place + m) (drop (place + count) t) tail) (e₂ : s₂ ≡ paste s₁ place cells m) (e₃ : s₃ ≡ cleared end len s₂) where
-    front : List ℕ
-    front = take (place + m) t
+  pub fit-left :
+      fitting used place count m (length t) ≡ true → (r : ℕ) (s : List ℕ) → (r ≡ after) × (s ≡ cleared r used (new ++ drop r t)) →
+      (r ≡ usedAfter used place count m (length t)) × (s ≡ splicedIn used place count cells t)
+  unfolding usedAfter splicedIn
+  fit-left e r s l = (rw e (l .0), rw e (l .1 ∙ ap (λ (n : ℕ). cleared n used (new ++ drop n t)) (l .0)))
 
-    copied : s₂ ≡ whole ++ drop end t
-    unfolding front
-    copied =
-        let moved : s₁ ≡ front ++ (take tail (drop (place + count) t) ++ drop end t) = e₁ ∙ append-assoc front (take tail (drop (place + count) t)) (drop end t) in
-        let long : length front ≡ place + m = length-take-le (place + m) t (omega arith) in
-        rw (
-          e₂,
-          moved,
-          take-append-le place front (take tail (drop (place + count) t) ++ drop end t) (omega (arith, long)),
-          take-take place (place + m) t (omega arith),
-          take-length cells,
-          drop-at front (take tail (drop (place + count) t) ++ drop end t) (place + m) long,
-          append-assoc,
-          append-assoc,
-          append-assoc,
-        )
+  module _ (h : place + count ≤ used) (g : used ≤ length t) (k : after ≤ length t) where
+    pub does-fit : fitting used place count m (length t) ≡ true
+    unfolding fitting
+    does-fit = rw (le-leb (place + count) used h, le-leb used (length t) g, le-leb after (length t) k)
 
-    pub splice-is : s₃ ≡ pad (length t) (spliced place count cells (take len t))
-    splice-is = e₃ ∙ refilled t s₂ whole len end f copied length-whole (omega arith) ∙ rw spliced-is
+    pub end-is : end ≡ after
+    end-is = omega arith
 
--- past a part that was put, a list is as it was
-drop-past : (l s : List ℕ) (at n m : ℕ) → at ≤ length l → n ≤ length s → at + n ≤ m → drop m (paste l at s n) ≡ drop m l
-drop-past l s at n m g h k =
-    let there : at + n + (m - (at + n)) ≡ m = omega arith in
-    rw (← there, ← drop-drop (m - (at + n)) (at + n) (paste l at s n), ← drop-drop (m - (at + n)) (at + n) l, drop-paste l at s n g h)
+    whole : List ℕ
+    whole = take place t ++ (cells ++ take tail (drop (place + count) t))
 
--- a record's words, put one part after another
-pub head-put : (h : List ℕ) (at a b c : ℕ) → at + 3 ≤ length h → set (set (set h at a) (at + 1) b) (at + 2) c ≡ paste h at (headOf a b c) 3
-head-put h at a b c q = rw (add-one, add-two) (sets-eq (a ∷ b ∷ c ∷ []) h at q)
+    new-is : new ≡ whole
+    unfolding whole
+    new-is = rw (take-take place used t (omega arith), drop-take (place + count) used t)
 
-module _ (h removed added : List ℕ) (used at place : ℕ) (f : Filled used h) (q : at + (3 + length removed + length added) ≤ length h) (h₁ h₂ h₃ h₄ : List ℕ) where
-  abbrev r : ℕ
-  r = length removed
+    length-new : length new ≡ end
+    unfolding whole
+    length-new = ap length new-is ∙ simp (length-append, length-take-le place t (omega arith), length-take, length-drop) (omega arith)
 
-  abbrev a : ℕ
-  a = length added
+    module _ (s₁ s₂ s₃ : List ℕ) (e₁ : s₁ ≡ paste t (place + m) (drop (place + count) t) tail) (e₂ : s₂ ≡ paste s₁ place cells m) (e₃ : s₃ ≡ cleared end used s₂) where
+      front : List ℕ
+      front = take (place + m) t
 
-  pub record-put :
-      h₁ ≡ paste h at (headOf place r a) 3 → h₂ ≡ paste h₁ (at + 3) removed r → h₃ ≡ paste h₂ (at + 3 + r) added a →
-      h₄ ≡ cleared (at + 3 + r + a) used h₃ →
-      h₄ ≡ pad (length h) (take at h ++ wordsOf (record { place = place; removed = removed; added = added }))
-  record-put e₁ e₂ e₃ e₄ =
-      let l₁ : length h₁ ≡ length h = rw e₁ (length-paste h at (headOf place r a) 3 (omega arith) (omega arith)) in
-      let l₂ : length h₂ ≡ length h = rw e₂ (length-paste h₁ (at + 3) removed r (omega arith) (omega arith) ∙ l₁) in
-      let l₃ : length h₃ ≡ length h = rw e₃ (length-paste h₂ (at + 3 + r) added a (omega arith) (omega arith) ∙ l₂) in
-      let t₁ : take (at + 3) h₁ ≡ take at h ++ headOf place r a = rw e₁ (take-paste h at (headOf place r a) 3 (omega arith) (omega arith)) in
-      let t₂ : take (at + 3 + r) h₂ ≡ take at h ++ headOf place r a ++ removed =
-      rw e₂ (take-paste h₁ (at + 3) removed r (omega arith) (omega arith) ∙ rw (t₁, take-length removed)) in
-      let t₃ : take (at + 3 + r + a) h₃ ≡ take at h ++ headOf place r a ++ removed ++ added =
-      rw e₃ (take-paste h₂ (at + 3 + r) added a (omega arith) (omega arith) ∙ rw (t₂, take-length added)) in
-      let end : ℕ = at + 3 + r + a in
-      let d₁ : drop end h₁ ≡ drop end h = rw e₁ (drop-past h (headOf place r a) at 3 end (omega arith) (omega arith) (omega arith)) in
-      let d₂ : drop end h₂ ≡ drop end h₁ = rw e₂ (drop-past h₁ removed (at + 3) r end (omega arith) (omega arith) (omega arith)) in
-      let d₃ : drop end h₃ ≡ drop end h₂ = rw e₃ (drop-past h₂ added (at + 3 + r) a end (omega arith) (omega arith) (omega arith)) in
-      let whole : List ℕ = take at h ++ headOf place r a ++ removed ++ added in
-      e₄
-      ∙ refilled h h₃ whole used end f (sym (take-append-drop end h₃) ∙ (λ i. t₃ i ++ (d₃ ∙ d₂ ∙ d₁) i)) (sym (ap length t₃) ∙ length-take-le end h₃ (omega arith)) (omega arith)
-      ∙ rw (append-assoc (take at h ++ headOf place r a) removed added, append-assoc (take at h) (headOf place r a) (removed ++ added))
+      copied : s₂ ≡ whole ++ drop end t
+      unfolding front whole
+      copied =
+          let moved : s₁ ≡ front ++ (take tail (drop (place + count) t) ++ drop end t) = e₁ ∙ append-assoc front (take tail (drop (place + count) t)) (drop end t) in
+          let long : length front ≡ place + m = length-take-le (place + m) t (omega arith) in
+          rw (
+            e₂,
+            moved,
+            take-append-le place front (take tail (drop (place + count) t) ++ drop end t) (omega (arith, long)),
+            take-take place (place + m) t (omega arith),
+            take-length cells,
+            drop-at front (take tail (drop (place + count) t) ++ drop end t) (place + m) long,
+            append-assoc,
+            append-assoc,
+            append-assoc,
+          )
+
+      pub splice-is : s₃ ≡ cleared end used (new ++ drop end t)
+      splice-is = e₃ ∙ ap (cleared end used) (copied ∙ rw new-is)
+
+    -- in a buffer that is 0 past what is in use
+    pub used-after : usedAfter used place count m (length t) ≡ length new
+    unfolding usedAfter
+    used-after = rw does-fit (sym (length-new ∙ end-is))
+
+    pub filled-after : Filled used t → splicedIn used place count cells t ≡ pad (length t) new
+    unfolding splicedIn
+    filled-after f = rw does-fit (refilled t (new ++ drop after t) new used after f refl (length-new ∙ end-is) k)
+
+-- cells put for all from a place on
+module _ (t cells : List ℕ) (used at count : ℕ) (f : Filled used t) (all : at + count ≡ used) (room : at + length cells ≤ length t) where
+  abbrev ended : List ℕ
+  ended = take at t ++ cells
+
+  spliced-end : spliced at count cells (take used t) ≡ ended
+  spliced-end =
+      rw (take-take at used t (omega arith), drop-of-length-le (take used t) {i = at + count} (omega (arith, length-take used t)), append-nil)
+
+  length-ended : length ended ≡ at + length cells
+  length-ended = simp (length-append, length-take-le at t (omega (arith, f .fits)))
+
+  pub used-end : usedAfter used at count (length cells) (length t) ≡ length ended
+  used-end = used-after t cells used at count (omega arith) (f .fits) (omega arith) ∙ ap length spliced-end
+
+  pub filled-end : splicedIn used at count cells t ≡ pad (length t) ended
+  filled-end = filled-after t cells used at count (omega arith) (f .fits) (omega arith) f ∙ ap (pad (length t)) spliced-end

@@ -1,11 +1,11 @@
-// Edits of a buffer in place, each element moved at most once.
+// An edit of a buffer in place, each element moved at most once. The first elements of a buffer are in use.
 ghost use mathlib.Core.Path.{_≡_};
 ghost use mathlib.Core.List.{_++_};
-ghost use Prim.Native.Nat.{_+_, _-_, _≤_, _<_, _^_};
+ghost use Prim.Native.Nat.{_+_, _-_, _≤_};
 ghost use lib.ListN.{length, take, drop};
 ghost use lib.Seq.{paste};
-ghost use Rattle.ledger.specs.Words.{wordsOf, pad};
-ghost use Rattle.page.specs.Edits.{spliced, headOf, cleared, Filled};
+ghost use Rattle.ledger.specs.Words.{pad};
+ghost use Rattle.splice.specs.Splice.{spliced, cleared, fitting, usedAfter, splicedIn};
 
 // Moves n elements to a place that is not after theirs.
 fn move_left(s: &mut [u32], from: usize, to: usize, n: usize)
@@ -75,51 +75,61 @@ pub fn clear_from(s: &mut [u32], at: usize)
     clear_part(&mut *s, at, end);
 }
 
-// Puts cells for `count` cells at a place of the first `len` cells, and 0 past the new length, which is given back.
-// Past the old length is 0 already.
-pub fn splice_in(text: &mut [u32], len: usize, place: usize, count: usize, cells: &[u32]) -> usize
-    requires { ⌜ (place + count ≤ len) × Filled len (now text) × (len - count + length (now cells) ≤ length (now text)) ⌝ }
-    ensures { λ r. ⌜ (r ≡ length (spliced place count (now (cells .entry)) (take len (now (text .entry)))))
-        × (now (text .exit) ≡ pad (length (now (text .entry))) (spliced place count (now (cells .entry)) (take len (now (text .entry))))) ⌝ }
+// Whether so many cells can be put for `count` at a place of the elements in use, in a buffer of this length.
+fn is_fitting(used: usize, place: usize, count: usize, new: usize, room: usize) -> bool
+    ensures { λ r. ⌜ r ≡ fitting used place count new room ⌝ }
+{
+    if used < count {
+        return false;
+    }
+    if used - count < place {
+        return false;
+    }
+    if room < used {
+        return false;
+    }
+    if room - (used - count) < new {
+        return false;
+    }
+    true
+}
+
+// The tail is moved once, the cells are copied in, and what was in use past the new end is cleared.
+fn splice_fitting(
+    buffer: &mut [u32],
+    used: usize,
+    place: usize,
+    count: usize,
+    cells: &[u32],
+) -> usize
+    requires { ⌜ (place + count ≤ used) × (used ≤ length (now buffer)) × (used - count + length (now cells) ≤ length (now buffer)) ⌝ }
+    ensures { λ r. ⌜ (r ≡ used - count + length (now (cells .entry)))
+        × (now (buffer .exit) ≡ cleared r used (spliced place count (now (cells .entry)) (take used (now (buffer .entry))) ++ drop r (now (buffer .entry)))) ⌝ }
 {
     let from = place + count;
     let to = place + cells.len();
-    let tail = len - from;
-    move_part(&mut *text, from, to, tail);
-    copy_at(&mut *text, place, cells);
+    let tail = used - from;
+    move_part(&mut *buffer, from, to, tail);
+    copy_at(&mut *buffer, place, cells);
     let end = to + tail;
-    clear_part(&mut *text, end, len);
+    clear_part(&mut *buffer, end, used);
     end
 }
 
-fn put_head(history: &mut [u32], at: usize, place: usize, removed: usize, added: usize)
-    requires { ⌜ (at + 3 ≤ length (now history)) × (place < 2 ^ 32) × (removed < 2 ^ 32) × (added < 2 ^ 32) ⌝ }
-    ensures { λ _. ⌜ now (history .exit) ≡ paste (now (history .entry)) at (headOf place removed added) 3 ⌝ }
-{
-    history[at] = place as u32;
-    history[at + 1] = removed as u32;
-    history[at + 2] = added as u32;
-}
-
-// Puts a step's record at a word of those used, and 0 after it.
-pub fn put_record(
-    history: &mut [u32],
+// Puts cells for `count` of the elements in use, at a place, and gives how many are then in use. Cells that do not fit
+// change nothing.
+pub fn splice_in(
+    buffer: &mut [u32],
     used: usize,
-    at: usize,
     place: usize,
-    removed: &[u32],
-    added: &[u32],
-)
-    requires { ⌜ Filled used (now history) × (at + (3 + length (now removed) + length (now added)) ≤ length (now history))
-        × (place < 2 ^ 32) × (length (now removed) < 2 ^ 32) × (length (now added) < 2 ^ 32) ⌝ }
-    ensures { λ _. ⌜ now (history .exit) ≡ pad (length (now (history .entry)))
-        (take at (now (history .entry)) ++ wordsOf (record { place = place; removed = now (removed .entry); added = now (added .entry) })) ⌝ }
+    count: usize,
+    cells: &[u32],
+) -> usize
+    ensures { λ r. ⌜ (r ≡ usedAfter used place count (length (now (cells .entry))) (length (now (buffer .entry))))
+        × (now (buffer .exit) ≡ splicedIn used place count (now (cells .entry)) (now (buffer .entry))) ⌝ }
 {
-    put_head(&mut *history, at, place, removed.len(), added.len());
-    let first = at + 3;
-    copy_at(&mut *history, first, removed);
-    let second = first + removed.len();
-    copy_at(&mut *history, second, added);
-    let end = second + added.len();
-    clear_part(&mut *history, end, used);
+    if !is_fitting(used, place, count, cells.len(), buffer.len()) {
+        return used;
+    }
+    splice_fitting(&mut *buffer, used, place, count, cells)
 }

@@ -4,10 +4,10 @@ use Prim.Native.Nat.{_≤_, _+_, _-_}
 use mathlib.Core.Path.{_≡_, refl, ap, _∙_}
 use lib.ListN.{length, replicate, length-set}
 use lib.Seq.{paste}
-use Rattle.page.specs.Edits.{cleared}
-use Rattle.page.proofs.Splices.{clear-start, clear-turn}
-use Rattle.page.proofs.edits.clear_part.Statement.{statement}
-use Rattle.page.proofs.edits.clear_part.Tie as tie
+use Rattle.splice.specs.Splice.{cleared}
+use Rattle.splice.proofs.Splices.{clear-start, clear-turn}
+use Rattle.splice.proofs.clear_part.Statement.{statement}
+use Rattle.splice.proofs.clear_part.Tie as tie
 
 abbrev Inv-loop : tie.InvT-loop
 Inv-loop s₀ at to i₀ s i = (at ≤ i) × (i ≤ at + (to - at)) × (length s ≡ length s₀) × (s ≡ cleared at i s₀)

@@ -4,9 +4,9 @@ use Prim.Native.Nat.{_≤_, _+_, _-_}
 use mathlib.Core.Path.{_≡_, refl}
 use lib.ListN.{length, drop, length-set}
 use lib.Seq.{paste}
-use Rattle.page.proofs.Splices.{right-start, right-turn, right-end}
-use Rattle.page.proofs.edits.move_right.Statement.{statement}
-use Rattle.page.proofs.edits.move_right.Tie as tie
+use Rattle.splice.proofs.Splices.{right-start, right-turn, right-end}
+use Rattle.splice.proofs.move_right.Statement.{statement}
+use Rattle.splice.proofs.move_right.Tie as tie
 
 abbrev Inv-loop : tie.InvT-loop
 Inv-loop s₀ from to n k₀ s k = (k ≤ n) × (length s ≡ length s₀) × (s ≡ paste s₀ (to + k) (drop (from + k) s₀) (n - k))

@@ -3,10 +3,10 @@ use mathlib.Core.Path.{_≡_, sym, ap, _∙_}
 use native.Mathlib.Omega.{arith}
 use lib.ListN.{drop}
 use lib.Seq.{paste}
-use Rattle.page.proofs.Splices.{move-same}
+use Rattle.splice.proofs.Splices.{move-same}
 use borrow.Author.Needs.{needs}
-use Rattle.page.proofs.edits.move_part.Statement.{statement}
-use Rattle.page.proofs.edits.move_part.Tie as tie
+use Rattle.splice.proofs.move_part.Statement.{statement}
+use Rattle.splice.proofs.move_part.Tie as tie
 
 move-left-requires : tie.Need-move-left-requires
 move-left-requires c κs = search needs
