@@ -7,7 +7,7 @@ use native.Mathlib.Nat.{sub-zero, zero-sub, suc-sub-suc, add-zero, le-of-suc-le-
 use native.Mathlib.Numerals.{add-one}
 use native.Mathlib.Omega.{arith}
 use lib.ListN.{length, getD, take, drop, set, replicate, length-take, length-drop, length-append, length-replicate, getD-replicate, List·getD-append, drop-of-length-le, take-append-drop}
-use lib.Seq.{take-take, take-add, drop-drop, take-length, take-append-le, take-at, drop-at, paste, paste-zero, paste-suc, drop-paste, length-paste, getD-drop, getD-take, take-suc, drop-cons, set-at, length-take-le}
+use lib.Seq.{take-take, take-add, drop-drop, take-length, take-append-le, take-at, drop-at, paste, paste-zero, paste-suc, drop-paste, getD-drop, getD-take, take-suc, drop-cons, set-at, length-take-le}
 use lib.Dec.{eqb, leb}
 use borrow.Author.Tests.{eqb-true, le-leb, leb-true}
 use Rattle.answer.proofs.Below.{both}

@@ -1,4 +1,3 @@
-use native.Mathlib.Omega.{arith}
 use Rattle.splice.proofs.Splices.{end-is, splice-is}
 use borrow.Author.Needs.{needs}
 use Rattle.splice.proofs.splice_fitting.Statement.{statement}
