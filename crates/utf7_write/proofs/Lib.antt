@@ -1,3 +1,5 @@
+pub mod Ahead
+pub mod Over
 pub mod Two
 pub mod Stretches
 pub mod Running

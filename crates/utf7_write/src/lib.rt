@@ -4,12 +4,14 @@ use answer::Refusal;
 use utf7::Style;
 ghost use mathlib.Core.Path.{_≡_};
 ghost use Prim.Native.Nat.{_+_, _<_, _≤_, _^_};
+ghost use mathlib.Core.Bool.{true};
 ghost use lib.ListN.{length, drop};
 ghost use Rattle.answer.specs.Answer.{limit};
 ghost use Rattle.answer.specs.Lists.{Each};
 ghost use Rattle.answer.specs.Output.{leaves, filled};
 ghost use Rattle.utf7.specs.Writing.{IsUnit, spell, stretch, writing, firstOver, writeInto};
 ghost use Rattle.utf7_write.specs.Stretch.{other, stretchLength};
+ghost use Rattle.utf7_write.specs.Ahead.{Ahead};
 
 // The unit belongs to a run.
 fn is_other(style: Style, u: u32) -> bool
@@ -101,10 +103,11 @@ fn write_run(style: Style, cells: &[u32], out: &mut [u8]) -> usize
     }
 }
 
-// The writing of units goes to the front of the output.
-fn write_all(style: Style, cells: &[u32], out: &mut [u8])
+// The writing of units goes to the front of the output; its length.
+fn write_all(style: Style, cells: &[u32], out: &mut [u8]) -> usize
     requires { ⌜ Each IsUnit (now cells) × (length (writing style (now cells)) ≤ length (now out)) ⌝ }
-    ensures { λ _. ⌜ now (out .exit) ≡ filled (writing style (now (cells .entry))) (now (out .entry)) ⌝ }
+    ensures { λ r. ⌜ (r ≡ length (writing style (now (cells .entry))))
+        × (now (out .exit) ≡ filled (writing style (now (cells .entry))) (now (out .entry))) ⌝ }
 {
     let sign = utf7::sign_of(style);
     let mut i: usize = 0;
@@ -129,6 +132,21 @@ fn write_all(style: Style, cells: &[u32], out: &mut [u8])
             }
         }
     }
+    at
+}
+
+// Whether the sixteen cells from a place on are units.
+fn units_ahead(cells: &[u32], i: usize) -> bool
+    requires { ⌜ i + 16 ≤ length (now cells) ⌝ }
+    ensures { λ r. ⌜ (r ≡ true → Ahead IsUnit (now (cells .entry)) i 16) ⌝ }
+{
+    let mut units = true;
+    for k in 0..16 {
+        if 65535 < cells[i + k] {
+            units = false;
+        }
+    }
+    units
 }
 
 // The index of the first cell that is no unit, or the length.
@@ -136,6 +154,21 @@ pub fn first_over(cells: &[u32]) -> usize
     ensures { λ r. ⌜ r ≡ firstOver (now (cells .entry)) ⌝ }
 {
     let mut i: usize = 0;
+    while 16 <= cells.len() - i {
+        if !units_ahead(cells, i) {
+            return first_over_from(cells, i);
+        }
+        i += 16;
+    }
+    first_over_from(cells, i)
+}
+
+// The same, where the cells before a place are units.
+fn first_over_from(cells: &[u32], from: usize) -> usize
+    requires { ⌜ (from ≤ length (now cells)) × (from + firstOver (drop from (now cells)) ≡ firstOver (now cells)) ⌝ }
+    ensures { λ r. ⌜ r ≡ firstOver (now (cells .entry)) ⌝ }
+{
+    let mut i = from;
     while i < cells.len() {
         if 65535 < cells[i] {
             return i;
@@ -145,7 +178,7 @@ pub fn first_over(cells: &[u32]) -> usize
     i
 }
 
-// Writes cells into an output. All cells are judged before a byte is written.
+// Writes cells into an output. All cells are judged before a byte is written; n of them need at most 5n bytes, so that with such room none is counted.
 pub fn write(style: Style, cells: &[u32], out: &mut [u8]) -> Answer
     ensures { λ r. ⌜ leaves r (now (out .exit)) ≡ writeInto style (now (cells .entry)) (now (out .entry)) ⌝ }
 {
@@ -156,10 +189,12 @@ pub fn write(style: Style, cells: &[u32], out: &mut [u8]) -> Answer
     if over < cells.len() {
         return Answer::Refused(Refusal::Unwritable, over);
     }
-    let need = size(style, cells);
-    if out.len() < need {
-        return Answer::Refused(Refusal::NoRoom, need);
+    if out.len() / 5 < cells.len() {
+        let need = size(style, cells);
+        if out.len() < need {
+            return Answer::Refused(Refusal::NoRoom, need);
+        }
     }
-    write_all(style, cells, out);
-    Answer::Accepted(need)
+    let count = write_all(style, cells, out);
+    Answer::Accepted(count)
 }

@@ -1,32 +1,16 @@
-use Prim.Native.Nat.{ℕ, suc, _+_, _-_, _<_, _≤_}
+use Prim.Native.Nat.{_+_, _-_, _≤_}
 use mathlib.Core.Path.{_≡_}
-use mathlib.Core.List.{List}
 use native.Mathlib.Omega.{arith}
-use native.Mathlib.Numerals.{add-one}
-use lib.ListN.{length, getD, drop, drop-of-length-le}
-use lib.Seq.{drop-cons}
-use borrow.Author.Tests.{lt-ltb, le-ltb}
-use Rattle.utf7.specs.Writing.{IsUnit, firstOver}
+use lib.ListN.{length, drop}
+use borrow.Author.Tests.{not-false}
+use Rattle.utf7.specs.Writing.{firstOver}
+use Rattle.utf7_write.proofs.Over.{over-block}
 use borrow.Author.Needs.{needs}
 use Rattle.utf7_write.proofs.first_over.Statement.{statement}
 use Rattle.utf7_write.proofs.first_over.Tie as tie
 
--- what stands at a place, or that nothing does
-module _ (us : List ℕ) (i : ℕ) where
-  over-end : length us ≤ i → firstOver (drop i us) ≡ 0
-  unfolding firstOver
-  over-end h = rw (drop-of-length-le us h)
-
-  over-here : i < length us → 65535 < getD us i 0 → firstOver (drop i us) ≡ 0
-  unfolding firstOver
-  over-here h k = rw (drop-cons us i 0 h, le-ltb (getD us i 0) 65536 k)
-
-  over-more : i < length us → IsUnit (getD us i 0) → firstOver (drop i us) ≡ suc (firstOver (drop (i + 1) us))
-  unfolding firstOver
-  over-more h k = rw (drop-cons us i 0 h, add-one, lt-ltb (getD us i 0) 65536 k)
-
 abbrev Inv-loop : tie.InvT-loop
-Inv-loop cells i₀ i = (i + firstOver (drop i cells) ≡ firstOver cells) × (i ≤ length cells)
+Inv-loop cells i₀ i = (i ≤ length cells) × (i + firstOver (drop i cells) ≡ firstOver cells)
 
 abbrev μ-loop : tie.MeasureT-loop
 μ-loop cells i₀ i = length cells - i
@@ -34,16 +18,17 @@ abbrev μ-loop : tie.MeasureT-loop
 loop-holds : tie.Need-loop-holds Inv-loop μ-loop
 loop-holds c = (omega arith, omega arith)
 
-mul-if1 : tie.Need-mul-if1 Inv-loop μ-loop
-mul-if1 c = search needs
+sub-loop : tie.Need-sub-loop Inv-loop μ-loop
+sub-loop c = search needs
 
-shared-slice-read-if1 : tie.Need-shared-slice-read-if1 Inv-loop μ-loop
-shared-slice-read-if1 c = search needs
+units-ahead-requires : tie.Need-units-ahead-requires Inv-loop μ-loop
+units-ahead-requires c κs = omega (arith, c .loop-test .taken)
+
+first-over-from-requires : tie.Need-first-over-from-requires Inv-loop μ-loop
+first-over-from-requires c κs = c .before .before .before .loop .inv
 
 returns : tie.Need-returns Inv-loop μ-loop
-returns c =
-    let l = c .before .before .before in
-    omega (arith, l .loop .inv .0, over-here (l .before .args .cells .now) (l .loop .i) (c .before .before .loop-test .taken) (omega (arith, c .if1 .taken)))
+returns c = c .first-over-from .ensures
 
 add-i : tie.Need-add-i Inv-loop μ-loop
 add-i c = search needs
@@ -53,14 +38,16 @@ loop-less c = search needs
 
 loop-again : tie.Need-loop-again Inv-loop μ-loop
 loop-again c =
-    let t = c .before .before in
-    let l = t .before in (
-      omega (arith, l .loop .inv .0, over-more (l .before .args .cells .now) (l .loop .i) (t .loop-test .taken) (omega (arith, c .if1 .left))),
-      omega (arith, t .loop-test .taken),
-    )
+    let u = c .before in
+    let l = u .before .before in
+    let h : l .loop .i + 16 ≤ length (l .before .before .args .cells .now) = omega (arith, u .before .loop-test .taken) in
+    (h, omega (arith, l .loop .inv .1, over-block (l .before .before .args .cells .now) 16 (l .loop .i) h (u .units-ahead .ensures (not-false _ (c .if1 .left)))))
+
+first-over-from-requires-2 : tie.Need-first-over-from-requires-2 Inv-loop μ-loop
+first-over-from-requires-2 c κs = c .before .loop .inv
 
 returns-2 : tie.Need-returns-2 Inv-loop μ-loop
-returns-2 c = omega (arith, c .before .loop .inv .0, over-end (c .before .before .args .cells .now) (c .before .loop .i) (c .loop-test .left))
+returns-2 c = c .first-over-from2 .ensures
 
 pub first-over-spec : {M : Type 1} → statement M
 first-over-spec =
@@ -69,10 +56,12 @@ first-over-spec =
     Inv-loop
     μ-loop
     loop-holds
-    mul-if1
-    shared-slice-read-if1
+    sub-loop
+    units-ahead-requires
+    first-over-from-requires
     returns
     add-i
     loop-less
     loop-again
+    first-over-from-requires-2
     returns-2)

@@ -1,5 +1,7 @@
+use Prim.Native.Nat.{_≤_}
 use mathlib.Core.Path.{_≡_, sym, _∙_}
 use mathlib.Core.Bool.{false}
+use mathlib.Core.Logic.{⊎-elim}
 use native.Mathlib.Omega.{arith}
 use lib.ListN.{length}
 use lib.Dec.{ltb}
@@ -7,8 +9,8 @@ use denote.Ref.{now}
 use borrow.Author.Tests.{ltb-false, lt-ltb, le-ltb}
 use Rattle.answer.specs.Answer.{limit}
 use Rattle.answer.specs.Output.{deliver}
-use Rattle.utf7.specs.Writing.{writeInto, firstOver}
-use Rattle.utf7.proofs.Pieces.{units-all}
+use Rattle.utf7.specs.Writing.{writing, writeInto, firstOver}
+use Rattle.utf7.proofs.Pieces.{units-all, size-bound}
 use borrow.Author.Needs.{needs}
 use Rattle.utf7_write.proofs.write.Statement.{statement}
 use Rattle.utf7_write.proofs.write.Tie as tie
@@ -21,6 +23,14 @@ judged :
     (c : tie.Else2) → let us = now (c .before .before .before .before .before .before .args .cells) in
     ltb (firstOver us) (length us) ≡ false
 judged c = rw (sym (c .before .first-over .ensures)) (le-ltb _ _ (c .if2 .left))
+
+-- the output has room: it was counted, or is as long as any writing of so many units
+room :
+    (c : tie.Joined3) → let a = c .before .before .before .before .before .before .before .args in
+    length (writing (a .style) (now (a .cells))) ≤ length (now (a .out))
+room c =
+    let a = c .before .before .before .before .before .before .before .args in
+    ⊎-elim (λ p. omega (arith, p .1 .ensures, p .2 .left)) (λ q. omega (arith, size-bound (a .style) (now (a .cells)), q .left)) (c .if3 .came)
 
 over-limit-requires : tie.Need-over-limit-requires
 over-limit-requires c κs = search needs
@@ -40,18 +50,17 @@ unfolding writeInto
 returns-2 c = simp (within (c .before .before), sym (c .before .first-over .ensures), lt-ltb _ _ (c .if2 .taken))
 
 size-requires : tie.Need-size-requires
-size-requires c κs = ltb-false _ _ (within (c .before .before))
+size-requires c κs = ltb-false _ _ (within (c .before .before .before))
 
 returns-3 : tie.Need-returns-3
 unfolding writeInto deliver
 returns-3 c =
     let s = c .before in
-    simp (within (s .before .before .before), judged (s .before), sym (s .size .ensures), lt-ltb _ _ (c .if3 .taken))
+    let j = s .before .before in
+    simp (within (j .before .before), judged j, sym (s .size .ensures), lt-ltb _ _ (c .if4 .taken))
 
 write-all-requires : tie.Need-write-all-requires
-write-all-requires c κs =
-    let s = c .before .before in
-    (units-all _ (ltb-false _ _ (judged (s .before))), omega (arith, s .size .ensures, c .before .if3 .left))
+write-all-requires c κs = (units-all _ (ltb-false _ _ (judged (c .before .before))), room (c .before))
 
 same-length : tie.Need-same-length
 same-length c = search needs
@@ -60,9 +69,9 @@ returns-4 : tie.Need-returns-4
 unfolding writeInto deliver
 returns-4 c =
     let w = c .before .before in
-    let g = w .before .before in
-    let s = g .before in
-    simp (within (s .before .before .before), judged (s .before), sym (s .size .ensures), le-ltb _ _ (g .if3 .left), w .write-all .ensures)
+    let r = w .before .before in
+    let j = r .before in
+    simp (within (j .before .before), judged j, le-ltb _ _ (room r), w .write-all .ensures .0, w .write-all .ensures .1)
 
 pub write-spec : {M : Type 1} → statement M
 write-spec =

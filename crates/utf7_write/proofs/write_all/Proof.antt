@@ -4,7 +4,7 @@ use mathlib.Core.List.{List, _∷_, _++_}
 use native.Mathlib.Omega.{arith}
 use lib.ListN.{length, getD, take, drop, length-set}
 use Rattle.answer.proofs.Below.{each-take, each-drop}
-use Rattle.answer.proofs.Put.{Put, put-start, put-as, put-lt, put-next, put-lent-room, put-lent, put-done}
+use Rattle.answer.proofs.Put.{Put, put-start, put-as, put-lt, put-next, put-lent-room, put-lent, put-end, put-done}
 use Rattle.utf7.proofs.Sets.{sign-byte}
 use Rattle.utf7.specs.Writing.{IsUnit, stretch, spell, writing}
 use Rattle.utf7_write.proofs.Two.{Two, put-two}
@@ -180,7 +180,9 @@ same-length : tie.Need-same-length Inv-loop μ-loop
 same-length c = c .before .loop .inv .0 .same
 
 returns : tie.Need-returns Inv-loop μ-loop
-returns c = put-done (put-as (write-end _ _ _ (c .loop-test .left)) (c .before .loop .inv .0))
+returns c =
+    let p = put-as (write-end _ _ _ (c .loop-test .left)) (c .before .loop .inv .0) in
+    (put-end p, put-done p)
 
 pub write-all-spec : {M : Type 1} → statement M
 write-all-spec =
