@@ -4,14 +4,17 @@ use answer::Refusal;
 use utf7::Style;
 ghost use mathlib.Core.Path.{_≡_};
 ghost use Prim.Native.Nat.{_+_, _<_, _≤_, _^_};
-ghost use mathlib.Core.Bool.{true};
+ghost use mathlib.Core.Bool.{true, cond};
 ghost use lib.ListN.{length, drop};
+ghost use lib.Seq.{paste};
 ghost use Rattle.answer.specs.Answer.{limit};
 ghost use Rattle.answer.specs.Lists.{Each};
 ghost use Rattle.answer.specs.Output.{leaves, filled};
+ghost use Rattle.base64.specs.Letters.{within};
+ghost use Rattle.utf7.specs.declared.Style.the-variants.{Header, Body, Name};
 ghost use Rattle.utf7.specs.Writing.{IsUnit, spell, stretch, writing, firstOver, writeInto};
 ghost use Rattle.utf7_write.specs.Stretch.{other, stretchLength};
-ghost use Rattle.utf7_write.specs.Ahead.{Ahead};
+ghost use Rattle.utf7_write.specs.Ahead.{Ahead, Own, ownBit, narrow, Narrowed};
 
 // The unit belongs to a run.
 fn is_other(style: Style, u: u32) -> bool
@@ -103,6 +106,117 @@ fn write_run(style: Style, cells: &[u32], out: &mut [u8]) -> usize
     }
 }
 
+// 1 where a byte is from one to another, else what it was before. A block of bytes is told by such choices alone, so that it compiles to vector code.
+fn or_within(own: u8, from: u8, to: u8, b: u8) -> u8
+    ensures { λ r. ⌜ r ≡ cond (within from to b) 1 own ⌝ }
+{
+    if from <= b && b <= to {
+        return 1;
+    }
+    own
+}
+
+// 1 for a byte that header style writes as itself.
+fn own_in_header(b: u8) -> u8
+    ensures { λ r. ⌜ r ≡ ownBit Header b ⌝ }
+{
+    let small = or_within(0, b'a', b'z', b);
+    let letter = or_within(small, b'A', b'Z', b);
+    let digit = or_within(letter, b',', b':', b);
+    let quote = or_within(digit, b'\'', b')', b);
+    let question = or_within(quote, b'?', b'?', b);
+    let space = or_within(question, b' ', b' ', b);
+    let tab = or_within(space, 9, 10, b);
+    or_within(tab, 13, 13, b)
+}
+
+// 1 for a byte that body style writes as itself.
+fn own_in_body(b: u8) -> u8
+    ensures { λ r. ⌜ r ≡ ownBit Body b ⌝ }
+{
+    let low = or_within(0, b' ', b'*', b);
+    let middle = or_within(low, b',', b'[', b);
+    let high = or_within(middle, b']', b'}', b);
+    let tab = or_within(high, 9, 10, b);
+    or_within(tab, 13, 13, b)
+}
+
+// 1 for a byte that stands for itself in names.
+fn own_in_name(b: u8) -> u8
+    ensures { λ r. ⌜ r ≡ ownBit Name b ⌝ }
+{
+    let low = or_within(0, b' ', b'%', b);
+    or_within(low, b'\'', b'~', b)
+}
+
+// 1 for a byte that is written as itself in the style.
+fn own_byte(style: Style, b: u8) -> u8
+    ensures { λ r. ⌜ r ≡ ownBit style b ⌝ }
+{
+    match style {
+        Style::Header => own_in_header(b),
+        Style::Body => own_in_body(b),
+        Style::Name => own_in_name(b),
+    }
+}
+
+// A cell below 128 as a byte; 0, which no style writes as itself, for any other.
+fn byte_of(u: u32) -> u8
+    ensures { λ r. ⌜ r ≡ narrow u ⌝ }
+{
+    if u < 128 {
+        return u as u8;
+    }
+    0
+}
+
+// The sixteen cells from a place on as bytes.
+fn bytes_ahead(cells: &[u32], i: usize) -> [u8; 16]
+    requires { ⌜ i + 16 ≤ length (now cells) ⌝ }
+    ensures { λ r. ⌜ Narrowed (now (cells .entry)) i r 16 ⌝ }
+{
+    let mut bytes = [0u8; 16];
+    for k in 0..16 {
+        bytes[k] = byte_of(cells[i + k]);
+    }
+    bytes
+}
+
+// Whether the style writes all of sixteen bytes as themselves.
+fn all_own(style: Style, bytes: [u8; 16]) -> bool
+    ensures { λ r. ⌜ (r ≡ true → Ahead (Own style) bytes 0 16) ⌝ }
+{
+    let mut count: u8 = 0;
+    for k in 0..16 {
+        count += own_byte(style, bytes[k]);
+    }
+    count == 16
+}
+
+// Whether the sixteen cells from a place on are all written as themselves. It is asked at every sixteenth cell only.
+fn own_ahead(style: Style, cells: &[u32], i: usize) -> bool
+    requires { ⌜ i ≤ length (now cells) ⌝ }
+    ensures { λ r. ⌜ (r ≡ true → (i + 16 ≤ length (now (cells .entry))) × Ahead (Own style) (now (cells .entry)) i 16) ⌝ }
+{
+    if i % 16 != 0 {
+        return false;
+    }
+    if cells.len() - i < 16 {
+        return false;
+    }
+    all_own(style, bytes_ahead(cells, i))
+}
+
+// Sixteen cells go to the output as bytes.
+fn copy_block(style: Style, cells: &[u32], i: usize, out: &mut [u8], at: usize)
+    requires { ⌜ (i + 16 ≤ length (now cells)) × Ahead (Own style) (now cells) i 16 × (at + 16 ≤ length (now out)) ⌝ }
+    ensures { λ _. ⌜ now (out .exit) ≡ paste (now (out .entry)) at (drop i (now (cells .entry))) 16 ⌝ }
+{
+    for k in 0..16 {
+        out[at + k] = cells[i + k] as u8;
+    }
+}
+
 // The writing of units goes to the front of the output; its length.
 fn write_all(style: Style, cells: &[u32], out: &mut [u8]) -> usize
     requires { ⌜ Each IsUnit (now cells) × (length (writing style (now cells)) ≤ length (now out)) ⌝ }
@@ -113,22 +227,28 @@ fn write_all(style: Style, cells: &[u32], out: &mut [u8]) -> usize
     let mut i: usize = 0;
     let mut at: usize = 0;
     while i < cells.len() {
-        let u = cells[i];
-        if is_other(style, u) {
-            let j = stretch_end(style, cells, i);
-            let n = write_run(style, &cells[i..j], &mut out[at..]);
-            at += n;
-            i = j;
+        if own_ahead(style, cells, i) {
+            copy_block(style, cells, i, out, at);
+            at += 16;
+            i += 16;
         } else {
-            if u == sign {
-                out[at] = sign as u8;
-                out[at + 1] = 45;
-                at += 2;
-                i += 1;
+            let u = cells[i];
+            if is_other(style, u) {
+                let j = stretch_end(style, cells, i);
+                let n = write_run(style, &cells[i..j], &mut out[at..]);
+                at += n;
+                i = j;
             } else {
-                out[at] = u as u8;
-                at += 1;
-                i += 1;
+                if u == sign {
+                    out[at] = sign as u8;
+                    out[at + 1] = 45;
+                    at += 2;
+                    i += 1;
+                } else {
+                    out[at] = u as u8;
+                    at += 1;
+                    i += 1;
+                }
             }
         }
     }
