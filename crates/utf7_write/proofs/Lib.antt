@@ -2,6 +2,7 @@ pub mod Ahead
 pub mod Over
 pub mod Two
 pub mod Stretches
-pub mod Running
+pub mod Values
 pub mod Blocks
 pub mod Several
+pub mod Runs

@@ -3,17 +3,20 @@ use answer::Answer;
 use answer::Refusal;
 use utf7::Style;
 ghost use mathlib.Core.Path.{_≡_};
-ghost use Prim.Native.Nat.{_+_, _<_, _≤_, _^_};
+ghost use Prim.Native.Nat.{_+_, _-_, _<_, _≤_, _^_};
 ghost use mathlib.Core.Bool.{true, cond};
-ghost use lib.ListN.{length, drop};
-ghost use lib.Seq.{paste};
+ghost use mathlib.Core.List.{map};
+ghost use lib.ListN.{length, take, drop};
+ghost use lib.Seq.{sets, paste};
 ghost use Rattle.answer.specs.Answer.{limit};
 ghost use Rattle.answer.specs.Lists.{Each};
 ghost use Rattle.answer.specs.Output.{leaves, filled};
-ghost use Rattle.base64.specs.Letters.{within};
+ghost use Rattle.bits.specs.Bits.{bitsOf};
+ghost use Rattle.base64.specs.Letters.{within, letterOf};
 ghost use Rattle.utf7.specs.declared.Style.the-variants.{Header, Body, Name};
 ghost use Rattle.utf7.specs.Writing.{IsUnit, spell, stretch, writing, firstOver, writeInto};
 ghost use Rattle.utf7_write.specs.Stretch.{other, stretchLength};
+ghost use Rattle.utf7_write.specs.Values.{values, fourOf};
 ghost use Rattle.utf7_write.specs.Ahead.{Ahead, Own, ownBit, narrow, Narrowed};
 
 // The unit belongs to a run.
@@ -68,42 +71,88 @@ fn size(style: Style, cells: &[u32]) -> usize
     total
 }
 
+// The values of the four letters of 24 bits.
+fn put_four(v: u32, out: &mut [u8], at: usize)
+    requires { ⌜ (v < 2 ^ 24) × (at + 4 ≤ length (now out)) ⌝ }
+    ensures { λ _. ⌜ now (out .exit) ≡ sets (now (out .entry)) at (fourOf v) ⌝ }
+{
+    let a = v % 262144;
+    let b = a % 4096;
+    out[at] = (v / 262144) as u8;
+    out[at + 1] = (a / 4096) as u8;
+    out[at + 2] = (b / 64) as u8;
+    out[at + 3] = (b % 64) as u8;
+}
+
+// The values of the last letters: those of none, one or two units.
+fn put_last(cells: &[u32], i: usize, out: &mut [u8], at: usize) -> usize
+    requires { ⌜ Each IsUnit (now cells) × (i ≤ length (now cells)) × (length (now cells) < i + 3)
+        × (at + length (values (bitsOf 16 (drop i (now cells)))) ≤ length (now out)) ⌝ }
+    ensures { λ r. ⌜ (r ≡ at + length (values (bitsOf 16 (drop i (now (cells .entry))))))
+        × (now (out .exit) ≡ sets (now (out .entry)) at (values (bitsOf 16 (drop i (now (cells .entry)))))) ⌝ }
+{
+    if cells.len() - i == 0 {
+        return at;
+    }
+    let u = cells[i];
+    if cells.len() - i == 1 {
+        let a = u % 1024;
+        out[at] = (u / 1024) as u8;
+        out[at + 1] = (a / 16) as u8;
+        out[at + 2] = (a % 16 * 4) as u8;
+        return at + 3;
+    }
+    let w = cells[i + 1];
+    let b = w % 256;
+    put_four(u * 256 + w / 256, out, at);
+    out[at + 4] = (b / 4) as u8;
+    out[at + 5] = (b % 4 * 16) as u8;
+    at + 6
+}
+
+// The values of the letters of units go to the output from a place on; the place behind them.
+fn put_values(cells: &[u32], out: &mut [u8], from: usize) -> usize
+    requires { ⌜ Each IsUnit (now cells) × (from + length (values (bitsOf 16 (now cells))) ≤ length (now out)) ⌝ }
+    ensures { λ r. ⌜ (r ≡ from + length (values (bitsOf 16 (now (cells .entry)))))
+        × (now (out .exit) ≡ sets (now (out .entry)) from (values (bitsOf 16 (now (cells .entry))))) ⌝ }
+{
+    let mut i: usize = 0;
+    let mut at = from;
+    while 3 <= cells.len() - i {
+        let u = cells[i];
+        let w = cells[i + 1];
+        let x = cells[i + 2];
+        put_four(u * 256 + w / 256, out, at);
+        put_four(w % 256 * 65536 + x, out, at + 4);
+        at += 8;
+        i += 3;
+    }
+    put_last(cells, i, out, at)
+}
+
+// Values are turned into letters where they stand.
+fn turn_letters(last: u8, out: &mut [u8], from: usize, to: usize)
+    requires { ⌜ (from ≤ to) × (to ≤ length (now out)) ⌝ }
+    ensures { λ _. ⌜ now (out .exit) ≡ sets (now (out .entry)) from (map (letterOf last) (take (to - from) (drop from (now (out .entry))))) ⌝ }
+{
+    let mut k = from;
+    while k < to {
+        out[k] = base64::letter_of(last, out[k] as u32);
+        k += 1;
+    }
+}
+
 // One run: the sign, the letters of its units, '-'.
 fn write_run(style: Style, cells: &[u32], out: &mut [u8]) -> usize
     requires { ⌜ Each IsUnit (now cells) × (length (spell style (stretch (now cells))) ≤ length (now out)) ⌝ }
     ensures { λ r. ⌜ (r ≡ length (spell style (stretch (now (cells .entry)))))
         × (now (out .exit) ≡ filled (spell style (stretch (now (cells .entry)))) (now (out .entry))) ⌝ }
 {
-    let last = utf7::last_of(style);
     out[0] = utf7::sign_of(style) as u8;
-    let mut at: usize = 1;
-    let mut i: usize = 0;
-    let mut n: u32 = 0;
-    let mut v: u32 = 0;
-    loop {
-        if 6 <= n {
-            n -= 6;
-            let w = bits::power(n);
-            out[at] = base64::letter_of(last, v / w);
-            v = v % w;
-            at += 1;
-        } else {
-            if i < cells.len() {
-                v = v * 65536 + cells[i];
-                n += 16;
-                i += 1;
-            } else {
-                if 0 < n {
-                    let w = bits::power(6 - n);
-                    out[at] = base64::letter_of(last, v * w);
-                    out[at + 1] = 45;
-                    return at + 2;
-                }
-                out[at] = 45;
-                return at + 1;
-            }
-        }
-    }
+    let end = put_values(cells, out, 1);
+    turn_letters(utf7::last_of(style), out, 1, end);
+    out[end] = 45;
+    end + 1
 }
 
 // 1 where a byte is from one to another, else what it was before. A block of bytes is told by such choices alone, so that it compiles to vector code.
