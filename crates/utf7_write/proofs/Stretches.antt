@@ -1,10 +1,11 @@
 -- A longest stretch is one piece, and how a writing goes on from a place. Assumes nothing.
-use Prim.Native.Nat.{ℕ, suc, _+_, _-_, _*_, _/_, _<_, _≤_}
+use Prim.Native.Nat.{ℕ, zero, suc, _+_, _-_, _*_, _/_, _<_, _≤_}
 use mathlib.Core.Path.{_≡_, refl, sym, _∙_}
-use mathlib.Core.Bool.{true, false, not, and-true, true≢false}
+use mathlib.Core.Bool.{Bool, true, false, not, and-true, true≢false}
 use mathlib.Core.List.{List, [], _∷_, _++_}
 use native.Mathlib.Omega.{arith}
 use native.Mathlib.Numerals.{add-one}
+use native.Mathlib.Nat.{add-zero}
 use lib.ListN.{length, getD, take, drop, length-append, length-drop, drop-of-length-le}
 use lib.Seq.{length-take-le, drop-drop, drop-cons}
 use lib.Dec.{eqb}
@@ -13,9 +14,15 @@ use Rattle.answer.proofs.Below.{both, cond-case}
 use Rattle.utf7.specs.Sets.{signOf, own}
 use Rattle.utf7.specs.Writing.{Piece, stretch, extend, pieces, spell, spellAll, writing}
 use Rattle.utf7.specs.declared.Style.{Style}
-use Rattle.utf7.proofs.Sets.{own-byte, own-sign}
+use Rattle.utf7.proofs.Sets.{own-byte, own-sign, sign-byte}
 use Rattle.utf7.proofs.Pieces.{length-run}
 use Rattle.utf7_write.specs.Stretch.{other, stretchLength}
+use Rattle.utf7_write.specs.Ahead.{Ahead, High}
+use Rattle.utf7_write.proofs.Ahead.{ahead-next}
+
+bool-false : (t : Bool) → (t ≡ true → ⊥) → t ≡ false
+bool-false true f = absurd (f refl)
+bool-false false f = refl
 
 module _ (style : Style) where
   own-else : (u : ℕ) → other style u ≡ false → eqb u (signOf style) ≡ false → own style u ≡ true
@@ -114,3 +121,19 @@ module _ (style : Style) (us : List ℕ) (i : ℕ) where
           cut = c;
           bytes = rw (c, length-append (spell style (stretch (take (j - i) (drop i us)))) (writing style (drop j us)), length-run, t);
         }
+
+-- a block of units of 128 or more
+high-other : (style : Style) (u : ℕ) → High u → other style u ≡ true
+unfolding other
+high-other style u h =
+    let o : own style u ≡ false = bool-false (own style u) (λ e. omega (arith, own-byte style u e)) in
+    rw (o, ne-eqb u (signOf style) (λ e. omega (arith, sign-byte style)))
+
+pub stretch-block :
+    (style : Style) (us : List ℕ) (n i : ℕ) → i + n ≤ length us → Ahead High us i n →
+    stretchLength style (drop i us) ≡ n + stretchLength style (drop (i + n) us)
+stretch-block style us zero i h a = rw (add-zero i) (omega arith)
+stretch-block style us (suc n) i h a =
+    let e : i + 1 + n ≡ i + suc n = omega arith in
+    stretch-more style us i (omega arith) (high-other style (getD us i 0) (rw (add-zero i) at (a 0 (omega arith))))
+    ∙ rw (stretch-block style us n (i + 1) (omega arith) (ahead-next High us i n a), e) (omega arith)

@@ -12,6 +12,10 @@ use Rattle.utf7.specs.declared.Style.{Style}
 abbrev pub Ahead : (ℕ → Type 0) → List ℕ → ℕ → ℕ → Type 0
 Ahead P us i n = (m : ℕ) → m < n → P (getD us (i + m) 0)
 
+-- 128 or more, and so neither written as itself nor a sign
+abbrev pub High : ℕ → Type 0
+High u = 127 < u
+
 -- written as itself, and 1 for what is
 abbrev pub Own : Style → ℕ → Type 0
 Own style u = own style u ≡ true

@@ -17,7 +17,7 @@ ghost use Rattle.utf7.specs.declared.Style.the-variants.{Header, Body, Name};
 ghost use Rattle.utf7.specs.Writing.{IsUnit, spell, stretch, writing, firstOver, writeInto};
 ghost use Rattle.utf7_write.specs.Stretch.{other, stretchLength};
 ghost use Rattle.utf7_write.specs.Values.{values, fourOf};
-ghost use Rattle.utf7_write.specs.Ahead.{Ahead, Own, ownBit, narrow, Narrowed};
+ghost use Rattle.utf7_write.specs.Ahead.{Ahead, High, Own, ownBit, narrow, Narrowed};
 
 // The unit belongs to a run.
 fn is_other(style: Style, u: u32) -> bool
@@ -29,6 +29,26 @@ fn is_other(style: Style, u: u32) -> bool
     u != utf7::sign_of(style)
 }
 
+// Whether the sixteen cells from a place on are 128 or more, and so other units. It is asked at every sixteenth cell only.
+fn high_ahead(cells: &[u32], i: usize) -> bool
+    requires { ⌜ i ≤ length (now cells) ⌝ }
+    ensures { λ r. ⌜ (r ≡ true → (i + 16 ≤ length (now (cells .entry))) × Ahead High (now (cells .entry)) i 16) ⌝ }
+{
+    if i % 16 != 0 {
+        return false;
+    }
+    if cells.len() - i < 16 {
+        return false;
+    }
+    let mut high = true;
+    for k in 0..16 {
+        if cells[i + k] < 128 {
+            high = false;
+        }
+    }
+    high
+}
+
 // The end of the longest stretch from a place on.
 fn stretch_end(style: Style, cells: &[u32], from: usize) -> usize
     requires { ⌜ from ≤ length (now cells) ⌝ }
@@ -36,10 +56,14 @@ fn stretch_end(style: Style, cells: &[u32], from: usize) -> usize
 {
     let mut j = from;
     while j < cells.len() {
-        if !is_other(style, cells[j]) {
-            return j;
+        if high_ahead(cells, j) {
+            j += 16;
+        } else {
+            if !is_other(style, cells[j]) {
+                return j;
+            }
+            j += 1;
         }
-        j += 1;
     }
     j
 }

@@ -4,7 +4,8 @@ use native.Mathlib.Omega.{arith}
 use lib.ListN.{length, drop}
 use borrow.Author.Tests.{not-true, not-false}
 use Rattle.utf7_write.specs.Stretch.{stretchLength}
-use Rattle.utf7_write.proofs.Stretches.{stretch-end, stretch-here, stretch-more}
+use Rattle.utf7_write.specs.Ahead.{Ahead, High}
+use Rattle.utf7_write.proofs.Stretches.{stretch-end, stretch-here, stretch-more, stretch-block}
 use borrow.Author.Needs.{needs}
 use Rattle.utf7_write.proofs.stretch_end.Statement.{statement}
 use Rattle.utf7_write.proofs.stretch_end.Tie as tie
@@ -18,6 +19,28 @@ abbrev μ-loop : tie.MeasureT-loop
 loop-holds : tie.Need-loop-holds Inv-loop μ-loop
 loop-holds c = (refl, c .before .pre)
 
+-- a block of units of 128 or more
+found :
+    (c : tie.Then1 Inv-loop μ-loop) → let l = c .before .before .before in
+    (l .loop .j + 16 ≤ length (l .before .before .args .cells .now)) × Ahead High (l .before .before .args .cells .now) (l .loop .j) 16
+found c = c .before .high-ahead .ensures (c .if1 .taken)
+
+high-ahead-requires : tie.Need-high-ahead-requires Inv-loop μ-loop
+high-ahead-requires c κs = c .before .loop .inv .1
+
+add-j : tie.Need-add-j Inv-loop μ-loop
+add-j c = let h = found c .0 in search needs
+
+loop-less : tie.Need-loop-less Inv-loop μ-loop
+loop-less c = let h = found c .0 in search needs
+
+loop-again : tie.Need-loop-again Inv-loop μ-loop
+loop-again c =
+    let l = c .before .before .before in
+    let a = l .before .before .args in
+    let f = found c in
+    (omega (arith, l .loop .inv .0, stretch-block (a .style) (a .cells .now) 16 (l .loop .j) (f .0) (f .1)), f .0)
+
 mul-is-other : tie.Need-mul-is-other Inv-loop μ-loop
 mul-is-other c = search needs
 
@@ -29,23 +52,23 @@ is-other-requires c κs = search needs
 
 returns : tie.Need-returns Inv-loop μ-loop
 returns c =
-    let t = c .before .before .before in
+    let t = c .before .before .before .before .before in
     let l = t .before in
     let a = l .before .before .args in
-    omega (arith, l .loop .inv .0, stretch-here (a .style) (a .cells .now) (l .loop .j) (t .loop-test .taken) (sym (c .before .is-other .ensures) ∙ not-true _ (c .if1 .taken)))
+    omega (arith, l .loop .inv .0, stretch-here (a .style) (a .cells .now) (l .loop .j) (t .loop-test .taken) (sym (c .before .is-other .ensures) ∙ not-true _ (c .if2 .taken)))
 
-add-j : tie.Need-add-j Inv-loop μ-loop
-add-j c = search needs
+add-j-2 : tie.Need-add-j-2 Inv-loop μ-loop
+add-j-2 c = search needs
 
-loop-less : tie.Need-loop-less Inv-loop μ-loop
-loop-less c = search needs
+loop-less-2 : tie.Need-loop-less-2 Inv-loop μ-loop
+loop-less-2 c = search needs
 
-loop-again : tie.Need-loop-again Inv-loop μ-loop
-loop-again c =
-    let t = c .before .before .before in
+loop-again-2 : tie.Need-loop-again-2 Inv-loop μ-loop
+loop-again-2 c =
+    let t = c .before .before .before .before .before in
     let l = t .before in
     let a = l .before .before .args in (
-      omega (arith, l .loop .inv .0, stretch-more (a .style) (a .cells .now) (l .loop .j) (t .loop-test .taken) (sym (c .before .is-other .ensures) ∙ not-false _ (c .if1 .left))),
+      omega (arith, l .loop .inv .0, stretch-more (a .style) (a .cells .now) (l .loop .j) (t .loop-test .taken) (sym (c .before .is-other .ensures) ∙ not-false _ (c .if2 .left))),
       omega (arith, t .loop-test .taken),
     )
 
@@ -62,11 +85,15 @@ stretch-end-spec =
     Inv-loop
     μ-loop
     loop-holds
+    high-ahead-requires
+    add-j
+    loop-less
+    loop-again
     mul-is-other
     shared-slice-read-is-other
     is-other-requires
     returns
-    add-j
-    loop-less
-    loop-again
+    add-j-2
+    loop-less-2
+    loop-again-2
     returns-2)
