@@ -280,13 +280,14 @@ fn own_ahead(style: Style, cells: &[u32], i: usize) -> bool
     all_own(style, bytes_ahead(cells, i))
 }
 
-// Sixteen cells go to the output as bytes.
+// Sixteen cells go to the output as bytes. All are read before one is stored, so that the block is copied at once.
 fn copy_block(style: Style, cells: &[u32], i: usize, out: &mut [u8], at: usize)
     requires { ⌜ (i + 16 ≤ length (now cells)) × Ahead (Own style) (now cells) i 16 × (at + 16 ≤ length (now out)) ⌝ }
     ensures { λ _. ⌜ now (out .exit) ≡ paste (now (out .entry)) at (drop i (now (cells .entry))) 16 ⌝ }
 {
+    let bytes = bytes_ahead(cells, i);
     for k in 0..16 {
-        out[at + k] = cells[i + k] as u8;
+        out[at + k] = bytes[k];
     }
 }
 
