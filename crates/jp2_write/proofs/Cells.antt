@@ -1,27 +1,21 @@
--- The writing of cells, cut into the pieces that go out. Assumes nothing.
-use Prim.Native.Nat.{ℕ, _+_, _-_, _/_, _<_, _≤_}
+-- Cells by themselves: their codes, the bytes that they leave in an output, stretches. Assumes nothing.
+use Prim.Native.Nat.{ℕ, zero, suc, _+_, _-_, _/_, _%_, _<_, _≤_}
 use mathlib.Core.Path.{_≡_, refl, sym, _∙_}
-use mathlib.Core.Bool.{Bool, true, false, cond, true≢false}
-use mathlib.Core.List.{List, [], _++_, append-assoc, append-nil}
+use mathlib.Core.Bool.{Bool, true, false, cond, _&&_, true≢false, false≢true}
+use mathlib.Core.List.{List, [], _∷_}
 use native.Mathlib.Omega.{arith}
-use native.Mathlib.Numerals.{add-one}
-use lib.ListN.{length, getD, take, drop, length-append, drop-of-length-le}
-use lib.Seq.{drop-cons, length-take-le}
-use lib.Dec.{leb, lit<}
-use borrow.Author.Tests.{leb-true}
-use borrow.Rule.Slice.PartMut.{putMid}
+use lib.ListN.{length, getD, drop, set}
+use lib.Dec.{leb, eqb, lit<}
+use borrow.Author.Count.{below-more}
+use borrow.Author.Tests.{leb-true, eqb-true, eqb-false, eq-eqb, ne-eqb}
 use Rattle.answer.specs.Output.{filled}
 use Rattle.answer.proofs.Below.{both}
-use Rattle.answer.proofs.Put.{Put, put-lent-room, put-lent}
 use Rattle.jp2.specs.Table.{designations, firstWhere, rowOfNumber}
-use Rattle.jp2.specs.Rule.{graphic}
-use Rattle.jp2.specs.Writable.{ascii, pairSet, shiftSet, codes}
-use Rattle.jp2.specs.Writing.{Force, designating, spell, writeFrom}
+use Rattle.jp2.specs.Rule.{graphic, cellOf}
+use Rattle.jp2.specs.Writable.{setOf, codeOf, ascii, pairSet, shiftSet, codes}
+use Rattle.jp2.specs.Writing.{force, writeFrom}
 use Rattle.jp2.proofs.Sets.{Kind, of-ascii, of-roman, of-pair, of-shift, kind-of, graphic-range, codes-pair, codes-shift}
-use Rattle.jp2_write.specs.Pieces.{forceOf, standing, bodyOf, bytesOf, Whole, Holds, Spells}
-use Rattle.jp2_write.specs.declared.InForce.{InForce}
-use Rattle.jp2_write.specs.declared.Piece.{Piece}
-use Rattle.jp2_write.specs.declared.Spelling.{Spelling}
+use Rattle.jp2_write.specs.Pieces.{baseOf, afterCr, Plain, Stretch}
 
 -- the codes of a writable cell fit a byte, or two
 single-small : {n c : ℕ} → Kind n c → shiftSet n ≡ false → pairSet n ≡ false → c < 128
@@ -38,6 +32,26 @@ module _ (n c : ℕ) (w : codes n c ≡ true) where
   pub small-pair : pairSet n ≡ true → c / 256 < 128
   small-pair e = omega (arith, graphic-range (c / 256) (both (graphic (c / 256)) _ (sym (codes-pair n c e) ∙ w) .0) .1)
 
+  -- a code of G0 is a byte or a pair by its size
+  pub byte-single : shiftSet n ≡ false → c < 256 → pairSet n ≡ false
+  byte-single s h = by (pairSet n) refl
+    where
+      by : (t : Bool) → pairSet n ≡ t → pairSet n ≡ false
+      by true e = absurd (omega (arith, graphic-range (c / 256) (both (graphic (c / 256)) _ (sym (codes-pair n c e) ∙ w) .0) .0))
+      by false e = e
+
+  pub large-pair : shiftSet n ≡ false → 256 ≤ c → pairSet n ≡ true
+  large-pair s h = by (pairSet n) refl
+    where
+      by : (t : Bool) → pairSet n ≡ t → pairSet n ≡ true
+      by true e = e
+      by false e = absurd (omega (arith, small-single s e))
+
+  -- no set is numbered 0
+  pub some-set : eqb n 0 ≡ false
+  unfolding codes pairSet shiftSet
+  some-set = ne-eqb n 0 (λ e. false≢true (rw e at w))
+
   pub small-shift : shiftSet n ≡ true → c < 128
   small-shift e = omega (arith, leb-true c 127 (both (leb 32 c) (leb c 127) (sym (codes-shift n c e) ∙ w) .1))
 
@@ -46,51 +60,73 @@ pub ascii-row : rowOfNumber 6 < 9
 unfolding rowOfNumber firstWhere designations
 ascii-row = lit< tt
 
-pub whole-length : {p : Piece} → Whole p → length (bytesOf p) ≡ p .length
-whole-length {p} w = length-take-le (p .length) (p .bytes) (w .held)
+-- a cell is a code of ASCII if its set is 6 and its code is that one
+not-both : (s t : Bool) → (s ≡ true → t ≡ true → ⊥) → (s && t) ≡ false
+not-both true true h = absurd (h refl refl)
+not-both true false h = refl
+not-both false t h = refl
 
--- a designation and a body
-spell-by :
-    (t : Bool) (g0 g2 n : ℕ) (x y : List ℕ) →
-    cond t (designating g2 n ++ x) (designating g0 n ++ y) ≡ designating (cond t g2 g0) n ++ cond t x y
-spell-by true g0 g2 n x y = refl
-spell-by false g0 g2 n x y = refl
+code-by : (v c : ℕ) (t : Bool) → c < 65536 → eqb v (cellOf 6 c) ≡ t → (eqb (setOf v) 6 && eqb (codeOf v) c) ≡ t
+code-by v c true h e =
+    let q = eqb-true v (cellOf 6 c) e in
+    rw (eq-eqb (setOf v) 6 (omega arith), eq-eqb (codeOf v) c (omega arith))
+code-by v c false h e =
+    not-both (eqb (setOf v) 6) (eqb (codeOf v) c)
+    (λ a b. eqb-false v (cellOf 6 c) e (omega (arith, eqb-true (setOf v) 6 a, eqb-true (codeOf v) c b)))
 
-pub spell-cut : (f : Force) (n c : ℕ) → spell f n c ≡ designating (standing f n) n ++ bodyOf n c
-unfolding spell standing bodyOf
-spell-cut f n c = spell-by (shiftSet n) (f .g0) (f .g2) n _ _
+pub code-is : (v c : ℕ) → c < 65536 → (eqb (setOf v) 6 && eqb (codeOf v) c) ≡ eqb v (cellOf 6 c)
+code-is v c h = code-by v c (eqb v (cellOf 6 c)) h refl
 
-module _ (cells : List ℕ) (i : ℕ) (f : InForce) where
-  -- what is still to be written from the i-th cell on
-  abbrev pub todo : List ℕ
-  todo = writeFrom (drop i cells) (forceOf f)
+pub base-length : (n c : ℕ) → length (baseOf n c) ≡ cond (pairSet n) 2 1
+unfolding baseOf
+base-length n c = by (pairSet n)
+  where
+    by : (t : Bool) → length (cond t (c / 256 ∷ c % 256 ∷ []) (c ∷ [])) ≡ cond t 2 1
+    by true = refl
+    by false = refl
 
-  -- a cell more
-  module _ {s : Spelling} (e : Spells (forceOf f) (getD cells i 0) s) (h : i < length cells) where
-    pub cell-cut : todo ≡ bytesOf (s .first) ++ (bytesOf (s .second) ++ writeFrom (drop (i + 1) cells) (forceOf (s .after)))
-    unfolding writeFrom
-    cell-cut =
-        let r = writeFrom (drop (i + 1) cells) (forceOf (s .after)) in
-        rw (drop-cons cells i 0 h, add-one, e .cell, ← e .after) (rw add-one at (append-assoc (bytesOf (s .first)) (bytesOf (s .second)) r))
+-- the cell before one that is not the first
+pub after-cr : (cells : List ℕ) (i : ℕ) → (i ≡ 0 → ⊥) → afterCr cells i ≡ eqb (getD cells (i - 1) 0) (cellOf 6 13)
+after-cr cells zero h = absurd (h refl)
+after-cr cells (suc i) h = let q : suc i - 1 ≡ i = omega arith in rw q
 
-    pub cell-size : length todo ≡ s .first .length + s .second .length + length (writeFrom (drop (i + 1) cells) (forceOf (s .after)))
-    cell-size = rw cell-cut (simp length-append (omega (arith, whole-length (e .first), whole-length (e .second))))
+-- what is to be written from the i-th cell on
+abbrev pub todo : List ℕ → ℕ → ℕ → ℕ → List ℕ
+todo cells i g0 g2 = writeFrom (drop i cells) (force g0 g2 (afterCr cells i))
 
-  -- the return to ASCII
-  module _ {d : Piece} (e : Holds d (designating (standing (forceOf f) 6) 6)) (h : length cells ≤ i) where
-    pub last-cut : todo ≡ bytesOf d ++ []
-    unfolding writeFrom standing shiftSet
-    last-cut = rw (drop-of-length-le cells h, append-nil (bytesOf d)) (sym (e .so))
+abbrev pub setAt : List ℕ → ℕ → ℕ
+setAt cells i = setOf (getD cells i 0)
 
-    pub last-size : length todo ≡ d .length
-    last-size = rw (last-cut, append-nil (bytesOf d)) (whole-length (e .whole))
+abbrev pub codeAt : List ℕ → ℕ → ℕ
+codeAt cells i = codeOf (getD cells i 0)
 
--- a piece put into the rest of the output, lent on as `&mut out[at..]`
-module _ {text out₀ out : List ℕ} {at : ℕ} {d : Piece} (w : Whole d) (r : List ℕ) (p : Put text out₀ out at (bytesOf d ++ r)) where
-  pub piece-room : d .length ≤ length (take (length out - at) (drop at out))
-  piece-room = rw (whole-length w) at (put-lent-room (bytesOf d) r p)
+-- stores to the front of an output
+pub store-one : (a : ℕ) (out : List ℕ) → 1 ≤ length out → set out 0 a ≡ filled (a ∷ []) out
+store-one a [] h = absurd (omega arith)
+store-one a (x ∷ out) h = refl
 
-  pub piece-put :
-      {y : List ℕ} → y ≡ filled (bytesOf d) (take (length out - at) (drop at out)) →
-      Put text out₀ (putMid at (length out - at) out y) (at + d .length) r
-  piece-put e = rw (whole-length w) at (put-lent (bytesOf d) r p e)
+pub store-two : (a b : ℕ) (out : List ℕ) → 2 ≤ length out → set (set out 0 a) 1 b ≡ filled (a ∷ b ∷ []) out
+store-two a b [] h = absurd (omega arith)
+store-two a b (x ∷ []) h = absurd (omega arith)
+store-two a b (x ∷ y ∷ out) h = refl
+
+pub store-three : (a b c : ℕ) (out : List ℕ) → 3 ≤ length out → set (set (set out 0 a) 1 b) 2 c ≡ filled (a ∷ b ∷ c ∷ []) out
+store-three a b c [] h = absurd (omega arith)
+store-three a b c (x ∷ []) h = absurd (omega arith)
+store-three a b c (x ∷ y ∷ []) h = absurd (omega arith)
+store-three a b c (x ∷ y ∷ z ∷ out) h = refl
+
+-- a stretch of no cell, and of one more
+pub stretch-none : {cells : List ℕ} {g0 from : ℕ} → from ≤ length cells → Stretch cells g0 from from
+stretch-none h =
+    record { after = omega arith; within = h; ascii = λ a. absurd (omega arith); plain = λ k a b. absurd (omega arith) }
+
+pub stretch-more :
+    {cells : List ℕ} {g0 from i : ℕ} → Stretch cells g0 from i → i < length cells → g0 ≡ 6 → Plain (getD cells i 0) → Stretch cells g0 from (i + 1)
+stretch-more {cells} {from = from} {i} s h e p =
+    record {
+      after = omega arith;
+      within = omega arith;
+      ascii = λ _. e;
+      plain = λ k a b. below-more (λ k. from ≤ k → Plain (getD cells k 0)) i (λ k b a. s .plain k a b) (λ _. p) k b a;
+    }

@@ -1,1 +1,4 @@
 pub mod Cells
+pub mod Turns
+pub mod Counting
+pub mod Putting

@@ -1,41 +1,70 @@
--- A cell's bytes in two pieces, its designation and its body: what the writer's private functions hand on.
-use Prim.Native.Nat.{ℕ, _/_, _%_, _≤_}
+-- What the writer's private functions hand on: a text's pieces, and the sets in force.
+use Prim.Native.Nat.{ℕ, zero, suc, _/_, _%_, _<_, _≤_}
 use mathlib.Core.Path.{_≡_}
-use mathlib.Core.Bool.{cond}
-use mathlib.Core.List.{List, [], _∷_, _++_}
-use lib.ListN.{length, take}
-use Rattle.jp2.specs.Writable.{setOf, codeOf, pairSet, shiftSet}
-use Rattle.jp2.specs.Writing.{Force, force, spell, forceAfter}
-use Rattle.jp2_write.specs.declared.InForce.{InForce}
-use Rattle.jp2_write.specs.declared.Piece.{Piece}
-use Rattle.jp2_write.specs.declared.Spelling.{Spelling}
+use mathlib.Core.Bool.{Bool, true, false, cond, _&&_}
+use mathlib.Core.List.{List, [], _∷_}
+use mathlib.Core.Logic.{_⊎_}
+use lib.ListN.{length, getD}
+use lib.Dec.{eqb}
+use Rattle.answer.specs.Output.{filled}
+use Rattle.jp2.specs.Table.{rowAt, sent, rowOfNumber}
+use Rattle.jp2.specs.Rule.{cellOf}
+use Rattle.jp2.specs.Writable.{setOf, codeOf, pairSet, shiftSet, firstForeign}
+use Rattle.jp2.specs.Writing.{writing}
+use Rattle.jp2_write.specs.declared.Survey.{Survey}
 
-abbrev pub forceOf : InForce → Force
-forceOf f = force (f .g0) (f .g2) (f .cr)
+abbrev pub designationOf : ℕ → List ℕ
+designationOf n = sent (rowAt (rowOfNumber n))
 
--- the set in force in the place that a set goes to
-unfoldable pub standing : Force → ℕ → ℕ
-standing f n = cond (shiftSet n) (f .g2) (f .g0)
+-- a cell's bytes after its designation: of a set of G0, and of a set of G2
+unfoldable pub baseOf : ℕ → ℕ → List ℕ
+baseOf n c = cond (pairSet n) (c / 256 ∷ c % 256 ∷ []) (c ∷ [])
 
--- a cell's bytes after its designation
-unfoldable pub bodyOf : ℕ → ℕ → List ℕ
-bodyOf n c = cond (shiftSet n) (27 ∷ 78 ∷ c ∷ []) (cond (pairSet n) (c / 256 ∷ c % 256 ∷ []) (c ∷ []))
+abbrev pub shiftedOf : ℕ → List ℕ
+shiftedOf c = 27 ∷ 78 ∷ c ∷ []
 
-abbrev pub bytesOf : Piece → List ℕ
-bytesOf p = take (p .length) (p .bytes)
+-- how many these are where the set is in force; 0 where it is not
+unfoldable pub bodySize : ℕ → ℕ → ℕ → ℕ
+bodySize n g0 g2 = cond (shiftSet n) (cond (eqb n g2) 3 0) (cond (eqb n g0) (cond (pairSet n) 2 1) 0)
 
--- a piece's length is within its bytes
-pub record Whole (p : Piece) : Type 0 where
-  pub most : p .length ≤ 4
-  pub held : p .length ≤ length (p .bytes)
+abbrev pub lowByte : ℕ → ℕ
+lowByte v = v % 256
 
-pub record Holds (p : Piece) (bytes : List ℕ) : Type 0 where
-  pub so : bytesOf p ≡ bytes
-  pub whole : Whole p
+-- the cell before an index is CR
+abbrev pub afterCr : List ℕ → ℕ → Bool
+afterCr cells zero = false
+afterCr cells (suc i) = eqb (getD cells i 0) (cellOf 6 13)
 
--- a cell's two pieces, and the sets in force after it
-pub record Spells (f : Force) (v : ℕ) (s : Spelling) : Type 0 where
-  pub cell : spell f (setOf v) (codeOf v) ≡ bytesOf (s .first) ++ bytesOf (s .second)
-  pub first : Whole (s .first)
-  pub second : Whole (s .second)
-  pub after : forceOf (s .after) ≡ forceAfter f (setOf v) (codeOf v)
+-- G2 after a cell of G0: CR and then LF clear it
+unfoldable pub g2After : List ℕ → ℕ → ℕ → ℕ
+g2After cells i g2 = cond (afterCr cells i && eqb (getD cells i 0) (cellOf 6 10)) 0 g2
+
+-- a cell of ASCII that is one byte and leaves G2 as it is: 32 to 127
+pub record Plain (v : ℕ) : Type 0 where
+  pub least : cellOf 6 32 ≤ v
+  pub most : v ≤ cellOf 6 127
+
+-- plain cells from an index to another; if there are any, ASCII is in G0
+pub record Stretch (cells : List ℕ) (g0 from to : ℕ) : Type 0 where
+  pub after : from ≤ to
+  pub within : to ≤ length cells
+  pub ascii : from < to → g0 ≡ 6
+  pub plain : (k : ℕ) → from ≤ k → k < to → Plain (getD cells k 0)
+
+-- the bytes of a cell with a code of 32 to 127, of ASCII in G0 or of the set in G2
+pub record Ready (v g0 g2 size : ℕ) : Type 0 where
+  pub ascii : g0 ≡ 6
+  pub shift : shiftSet g2 ≡ true
+  pub least : 32 ≤ codeOf v
+  pub most : codeOf v ≤ 127
+  pub stands : ((setOf v ≡ 6) × (size ≡ 1)) ⊎ ((setOf v ≡ g2) × (size ≡ 3))
+
+-- cells are judged, and if all are writable, their bytes are counted
+pub record Surveyed (cells : List ℕ) (s : Survey) : Type 0 where
+  pub judged : s .foreign ≡ firstForeign cells
+  pub counted : length cells ≤ s .foreign → s .need ≡ length (writing cells)
+
+-- bytes are put to the front of an output, and counted
+pub record Puts (bytes out₀ out : List ℕ) (count : ℕ) : Type 0 where
+  pub so : out ≡ filled bytes out₀
+  pub size : count ≡ length bytes

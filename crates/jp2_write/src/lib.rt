@@ -2,177 +2,238 @@
 use answer::Answer;
 use answer::Refusal;
 ghost use mathlib.Core.Path.{_≡_};
-ghost use mathlib.Core.Bool.{true, _&&_};
+ghost use mathlib.Core.Bool.{true, false, cond};
+ghost use mathlib.Core.List.{map};
 ghost use Prim.Native.Nat.{_<_, _≤_};
 ghost use lib.ListN.{length};
-ghost use lib.Dec.{eqb};
 ghost use Rattle.answer.specs.Answer.{limit};
 ghost use Rattle.answer.specs.Lists.{Each};
 ghost use Rattle.answer.specs.Output.{leaves, filled};
 ghost use Rattle.jp2.specs.Table.{rowOfNumber};
-ghost use Rattle.jp2.specs.Writable.{codes, writable};
-ghost use Rattle.jp2.specs.Writing.{designating, forceAfter, writing, writeInto};
-ghost use Rattle.jp2_write.specs.Pieces.{forceOf, standing, bodyOf, bytesOf, Whole, Holds, Spells};
+ghost use Rattle.jp2.specs.Writable.{shiftSet, codes, writable};
+ghost use Rattle.jp2.specs.Writing.{designating, writing, writeInto};
+ghost use Rattle.jp2_write.specs.Pieces.{designationOf, bodySize, baseOf, shiftedOf, lowByte, g2After, Stretch, Ready, Surveyed, Puts};
 
-// The sets in G0 and G2 (0: nothing), and whether the last cell was CR.
-struct InForce {
-    g0: u16,
-    g2: u16,
-    cr: bool,
+const LF: u32 = 6 * 65536 + 10;
+
+const CR: u32 = 6 * 65536 + 13;
+
+// ASCII's printable cells and DEL: one byte each, and G2 stays.
+const FIRST_PLAIN: u32 = 6 * 65536 + 32;
+
+const LAST_PLAIN: u32 = 6 * 65536 + 127;
+
+// The first cell that is not writable, or the count of cells; and where all are writable, the bytes that their writing needs.
+struct Survey {
+    foreign: usize,
+    need: usize,
 }
 
-// Up to four bytes.
-struct Piece {
-    bytes: [u8; 4],
-    length: usize,
-}
-
-// A cell's designation and body, and the sets in force after it.
-struct Spelling {
-    first: Piece,
-    second: Piece,
-    after: InForce,
-}
-
-// The set in force in the place that a set goes to.
-fn standing_for(f: InForce, n: u16) -> u16
-    ensures { λ r. ⌜ r ≡ standing (forceOf f) n ⌝ }
+// The end of the stretch of plain cells at an index: empty where ASCII is not in force, or a set of G2 is, as stretches are short there.
+fn stretch_end(cells: &[u32], from: usize, g0: u16, g2: u16) -> usize
+    requires { ⌜ from ≤ length (now cells) ⌝ }
+    ensures { λ r. ⌜ Stretch (now (cells .entry)) g0 from r ⌝ }
 {
-    if jp2::is_shift_set(n as u32) {
-        return f.g2;
+    if g0 != 6 {
+        return from;
     }
-    f.g0
+    if g2 != 0 {
+        return from;
+    }
+    let mut i: usize = from;
+    while i < cells.len() {
+        if cells[i] < FIRST_PLAIN {
+            return i;
+        }
+        if LAST_PLAIN < cells[i] {
+            return i;
+        }
+        i += 1;
+    }
+    i
 }
 
-// A set's designation, or nothing where it is in force.
-fn designation(f: InForce, n: u16) -> Piece
+// G2 after a cell of G0: CR and then LF clear it.
+fn g2_after(cells: &[u32], i: usize, g2: u16) -> u16
+    requires { ⌜ i < length (now cells) ⌝ }
+    ensures { λ r. ⌜ r ≡ g2After (now (cells .entry)) i g2 ⌝ }
+{
+    if cells[i] != LF {
+        return g2;
+    }
+    if i == 0 {
+        return g2;
+    }
+    if cells[i - 1] == CR {
+        return 0;
+    }
+    g2
+}
+
+fn designation_size(n: u16) -> usize
     requires { ⌜ rowOfNumber n < 9 ⌝ }
-    ensures { λ r. ⌜ Holds r (designating (standing (forceOf f) n) n) ⌝ }
+    ensures { λ r. ⌜ r ≡ length (designationOf n) ⌝ }
 {
-    if standing_for(f, n) == n {
-        return Piece {
-            bytes: [0, 0, 0, 0],
-            length: 0,
-        };
-    }
     let d = jp2::row_at(jp2::row_of_number(n));
-    let bytes = d.escape;
-    Piece {
-        bytes,
-        length: d.length,
-    }
+    d.length
 }
 
-// ESC N and the code, a pair, or a single byte.
-fn body(n: u16, c: u32) -> Piece
-    requires { ⌜ codes n c ≡ true ⌝ }
-    ensures { λ r. ⌜ Holds r (bodyOf n c) ⌝ }
+// The bytes of the return to ASCII.
+fn return_size(g0: u16) -> usize
+    ensures { λ r. ⌜ r ≡ length (designating g0 6) ⌝ }
+{
+    if g0 == 6 {
+        return 0;
+    }
+    designation_size(6)
+}
+
+// One of two sizes, with no branch.
+fn pick(test: bool, yes: usize, no: usize) -> usize
+    ensures { λ r. ⌜ r ≡ cond test yes no ⌝ }
+{
+    if test {
+        return yes;
+    }
+    no
+}
+
+// The bytes of a cell whose set is in force; 0 where it is not.
+fn body_size(n: u16, g0: u16, g2: u16) -> usize
+    ensures { λ r. ⌜ r ≡ bodySize n g0 g2 ⌝ }
 {
     if jp2::is_shift_set(n as u32) {
-        return Piece {
-            bytes: [27, 78, c as u8, 0],
-            length: 3,
-        };
+        return pick(n == g2, 3, 0);
+    }
+    if n != g0 {
+        return 0;
     }
     if jp2::is_pair_set(n as u32) {
-        return Piece {
-            bytes: [(c / 256) as u8, (c % 256) as u8, 0, 0],
-            length: 2,
-        };
+        return 2;
     }
-    Piece {
-        bytes: [c as u8, 0, 0, 0],
-        length: 1,
-    }
+    1
 }
 
-// The cell is this code of ASCII.
-fn is_code(n: u16, c: u32, code: u32) -> bool
-    ensures { λ r. ⌜ r ≡ (eqb n 6 && eqb c code) ⌝ }
+// The bytes of a cell of ASCII or of the set in G2, with a code of 32 to 127, where both are in force; 0 for any other.
+fn ready(v: u32, g0: u16, g2: u16) -> usize
+    ensures { λ r. ⌜ (0 < r → Ready v g0 g2 r) ⌝ }
 {
-    if n != 6 {
-        return false;
+    if g0 != 6 {
+        return 0;
     }
-    c == code
-}
-
-// The sets in force after a cell: CR and then LF clear G2.
-fn after(f: InForce, n: u16, c: u32) -> InForce
-    ensures { λ r. ⌜ forceOf r ≡ forceAfter (forceOf f) n c ⌝ }
-{
-    if jp2::is_shift_set(n as u32) {
-        return InForce {
-            g0: f.g0,
-            g2: n,
-            cr: false,
-        };
+    if !jp2::is_shift_set(g2 as u32) {
+        return 0;
     }
-    let cr = is_code(n, c, 13);
-    if f.cr {
-        if is_code(n, c, 10) {
-            return InForce { g0: n, g2: 0, cr };
-        }
-    }
-    InForce {
-        g0: n,
-        g2: f.g2,
-        cr,
-    }
-}
-
-fn spell_cell(f: InForce, v: u32) -> Spelling
-    requires { ⌜ writable v ≡ true ⌝ }
-    ensures { λ r. ⌜ Spells (forceOf f) v r ⌝ }
-{
     let n = (v / 65536) as u16;
     let c = v % 65536;
-    let first = designation(f, n);
-    let second = body(n, c);
-    let after = after(f, n, c);
-    Spelling {
-        first,
-        second,
-        after,
-    }
+    let single = pick(n == 6, 1, 0);
+    let either = pick(n == g2, 3, single);
+    let above = pick(c < 32, 0, either);
+    pick(127 < c, 0, above)
 }
 
-// The bytes that a writing needs.
-fn size(cells: &[u32]) -> usize
-    requires { ⌜ Each (λ v. writable v ≡ true) (now cells) × (length (now cells) ≤ limit) ⌝ }
-    ensures { λ r. ⌜ r ≡ length (writing (now (cells .entry))) ⌝ }
+// Judges cells and counts their bytes. A set that is not in force is designated, and its cell then looked at again.
+fn survey_cells(cells: &[u32]) -> Survey
+    requires { ⌜ length (now cells) ≤ limit ⌝ }
+    ensures { λ r. ⌜ Surveyed (now (cells .entry)) r ⌝ }
 {
-    let mut f = InForce {
-        g0: 6,
-        g2: 0,
-        cr: false,
-    };
+    let mut g0: u16 = 6;
+    let mut g2: u16 = 0;
     let mut total: usize = 0;
     let mut i: usize = 0;
     while i < cells.len() {
-        let s = spell_cell(f, cells[i]);
-        let first = s.first;
-        let second = s.second;
-        total += first.length + second.length;
-        let next = s.after;
-        f = next;
-        i += 1;
+        let j = stretch_end(cells, i, g0, g2);
+        if i < j {
+            total += j - i;
+            i = j;
+        } else {
+            let v = cells[i];
+            let size = ready(v, g0, g2);
+            if 0 < size {
+                total += size;
+                i += 1;
+            } else {
+                if !jp2::is_writable(v) {
+                    return Survey {
+                        foreign: i,
+                        need: 0,
+                    };
+                }
+                let n = (v / 65536) as u16;
+                let bytes = body_size(n, g0, g2);
+                if 0 < bytes {
+                    total += bytes;
+                    g2 = g2_after(cells, i, g2);
+                    i += 1;
+                } else {
+                    total += designation_size(n);
+                    if jp2::is_shift_set(n as u32) {
+                        g2 = n;
+                    } else {
+                        g0 = n;
+                    }
+                }
+            }
+        }
     }
-    let back = designation(f, 6);
-    total + back.length
+    Survey {
+        foreign: i,
+        need: total + return_size(g0),
+    }
 }
 
-// A piece goes to the front of the output.
-fn put(out: &mut [u8], piece: Piece)
-    requires { ⌜ Whole piece × (piece .length ≤ length (now out)) ⌝ }
-    ensures { λ _. ⌜ now (out .exit) ≡ filled (bytesOf piece) (now (out .entry)) ⌝ }
+// A set's designation goes to the front of the output. Its length.
+fn designate(out: &mut [u8], n: u16) -> usize
+    requires { ⌜ (rowOfNumber n < 9) × (length (designationOf n) ≤ length (now out)) ⌝ }
+    ensures { λ r. ⌜ Puts (designationOf n) (now (out .entry)) (now (out .exit)) r ⌝ }
 {
-    let bytes = piece.bytes;
-    let n = piece.length;
+    let d = jp2::row_at(jp2::row_of_number(n));
+    let escape = d.escape;
+    let size = d.length;
     let mut j: usize = 0;
-    while j < n {
-        out[j] = bytes[j];
+    while j < size {
+        out[j] = escape[j];
         j += 1;
     }
+    j
+}
+
+// Plain cells go to the front of the output.
+fn put_plain(out: &mut [u8], cells: &[u32]) -> usize
+    requires { ⌜ length (now cells) ≤ length (now out) ⌝ }
+    ensures { λ r. ⌜ Puts (map lowByte (now (cells .entry))) (now (out .entry)) (now (out .exit)) r ⌝ }
+{
+    let mut k: usize = 0;
+    while k < cells.len() {
+        out[k] = (cells[k] % 256) as u8;
+        k += 1;
+    }
+    k
+}
+
+// A cell of G0 whose set is in force: a single byte, or a pair, whose code is no byte.
+fn put_base(out: &mut [u8], n: u16, c: u32) -> usize
+    requires { ⌜ (codes n c ≡ true) × (shiftSet n ≡ false) × (length (baseOf n c) ≤ length (now out)) ⌝ }
+    ensures { λ r. ⌜ Puts (baseOf n c) (now (out .entry)) (now (out .exit)) r ⌝ }
+{
+    if c < 256 {
+        out[0] = c as u8;
+        return 1;
+    }
+    out[0] = (c / 256) as u8;
+    out[1] = (c % 256) as u8;
+    2
+}
+
+// A cell of G2 whose set is in force: ESC N and its code.
+fn put_shifted(out: &mut [u8], n: u16, c: u32) -> usize
+    requires { ⌜ (codes n c ≡ true) × (shiftSet n ≡ true) × (3 ≤ length (now out)) ⌝ }
+    ensures { λ r. ⌜ Puts (shiftedOf c) (now (out .entry)) (now (out .exit)) r ⌝ }
+{
+    out[0] = 27;
+    out[1] = 78;
+    out[2] = c as u8;
+    3
 }
 
 // The writing of cells goes to the front of the output.
@@ -180,27 +241,40 @@ fn write_all(cells: &[u32], out: &mut [u8])
     requires { ⌜ Each (λ v. writable v ≡ true) (now cells) × (length (writing (now cells)) ≤ length (now out)) ⌝ }
     ensures { λ _. ⌜ now (out .exit) ≡ filled (writing (now (cells .entry))) (now (out .entry)) ⌝ }
 {
-    let mut f = InForce {
-        g0: 6,
-        g2: 0,
-        cr: false,
-    };
+    let mut g0: u16 = 6;
+    let mut g2: u16 = 0;
     let mut at: usize = 0;
     let mut i: usize = 0;
     while i < cells.len() {
-        let s = spell_cell(f, cells[i]);
-        let first = s.first;
-        put(&mut out[at..], first);
-        at += first.length;
-        let second = s.second;
-        put(&mut out[at..], second);
-        at += second.length;
-        let next = s.after;
-        f = next;
-        i += 1;
+        let j = stretch_end(cells, i, g0, g2);
+        if i < j {
+            at += put_plain(&mut out[at..], &cells[i..j]);
+            i = j;
+        } else {
+            let v = cells[i];
+            let n = (v / 65536) as u16;
+            if n == g0 {
+                at += put_base(&mut out[at..], n, v % 65536);
+                g2 = g2_after(cells, i, g2);
+                i += 1;
+            } else {
+                if n == g2 {
+                    at += put_shifted(&mut out[at..], n, v % 65536);
+                    i += 1;
+                } else {
+                    at += designate(&mut out[at..], n);
+                    if jp2::is_shift_set(n as u32) {
+                        g2 = n;
+                    } else {
+                        g0 = n;
+                    }
+                }
+            }
+        }
     }
-    let last = designation(f, 6);
-    put(&mut out[at..], last);
+    if g0 != 6 {
+        designate(&mut out[at..], 6);
+    }
 }
 
 // Writes cells into an output. All cells are judged before a byte is written.
@@ -210,11 +284,12 @@ pub fn write(cells: &[u32], out: &mut [u8]) -> Answer
     if answer::over_limit(cells.len()) {
         return answer::too_long();
     }
-    let foreign = jp2::first_foreign(cells);
+    let s = survey_cells(cells);
+    let foreign = s.foreign;
     if foreign < cells.len() {
         return Answer::Refused(Refusal::Unwritable, foreign);
     }
-    let need = size(cells);
+    let need = s.need;
     if out.len() < need {
         return Answer::Refused(Refusal::NoRoom, need);
     }

@@ -1,173 +1,358 @@
-use Prim.Native.Nat.{ℕ, _+_, _-_}
-use mathlib.Core.List.{List, [], _++_}
+use Prim.Native.Nat.{ℕ, _+_, _-_, _<_, _≤_}
+use mathlib.Core.Path.{_≡_, refl, sym, _∙_}
+use mathlib.Core.Bool.{Bool, true, false, true≢false}
+use mathlib.Core.List.{List, [], _++_, map, append-nil}
 use native.Mathlib.Omega.{arith}
-use lib.ListN.{length}
+use lib.ListN.{length, take, drop, length-map}
 use borrow.Rule.Slice.PartMut.{putMid}
 use borrow.Author.Needs.{needs}
 use Rattle.answer.proofs.Below.{each-at}
-use Rattle.answer.proofs.Put.{Put, put-start, put-as, put-done}
+use Rattle.answer.proofs.Put.{Put, put-start, put-as, put-lent-room, put-lent, put-done}
+use Rattle.jp2.specs.Table.{rowOfNumber}
+use Rattle.jp2.specs.Writable.{shiftSet, codes, writable}
 use Rattle.jp2.specs.Writing.{writing}
 use Rattle.jp2.proofs.Sets.{Writable}
-use Rattle.jp2_write.specs.Pieces.{bytesOf}
-use Rattle.jp2_write.proofs.Cells.{ascii-row, todo, cell-cut, last-cut, piece-room, piece-put}
+use Rattle.jp2.proofs.Rows.{row-found}
+use Rattle.jp2_write.specs.Pieces.{designationOf, baseOf, shiftedOf, lowByte, g2After}
+use Rattle.jp2_write.proofs.Cells.{some-set, ascii-row, setAt, codeAt}
+use Rattle.jp2_write.proofs.Turns.{Turn, turnsLeft, turn-stretch, turn-base, turn-shift, turn-g2, turn-g0, last-none, last-some}
+use Rattle.jp2_write.proofs.Putting.{held-after, Written, written-in, written-room, written-on}
 use Rattle.jp2_write.proofs.write_all.Statement.{statement}
 use Rattle.jp2_write.proofs.write_all.Tie as tie
 
 abbrev Inv-loop : tie.InvT-loop
-Inv-loop cells out₀ f₀ at₀ i₀ out f at i = Put (writing cells) out₀ out at (todo cells i f)
+Inv-loop cells out₀ g0₀ g2₀ at₀ i₀ out g0 g2 at i = Written cells out₀ out at i g0 g2
 
 abbrev μ-loop : tie.MeasureT-loop
-μ-loop cells out₀ f₀ at₀ i₀ out f at i = length cells - i
+μ-loop cells out₀ g0₀ g2₀ at₀ i₀ out g0 g2 at i = turnsLeft cells i g0 g2
 
--- the output on its way
-abbrev loop-at : tie.After-spell-cell Inv-loop μ-loop → tie.At-loop Inv-loop μ-loop
-loop-at c = c .before .before .before
+-- the cell in hand
+abbrev at-loop : tie.After-shared-slice-known2 Inv-loop μ-loop → tie.At-loop Inv-loop μ-loop
+at-loop k = k .before .before .before .before
 
-abbrev ToPut : tie.At-loop Inv-loop μ-loop → List ℕ → ℕ → List ℕ → Type 0
-ToPut l out at rest = let a = l .before .before .before .args in Put (writing (a .cells .now)) (a .out .now) out at rest
+abbrev cellsOf : tie.At-loop Inv-loop μ-loop → List ℕ
+cellsOf l = l .before .before .before .args .cells .now
 
--- what is to be put after a cell
-abbrev later : tie.After-spell-cell Inv-loop μ-loop → List ℕ
-later c =
-    let l = loop-at c in
-    todo (l .before .before .before .args .cells .now) (l .loop .i + 1) (c .spell-cell .result .after)
+in-list : (k : tie.After-shared-slice-known2 Inv-loop μ-loop) → at-loop k .loop .i < length (cellsOf (at-loop k))
+in-list k = k .before .before .before .loop-test .taken
 
--- a cell's designation and body are to be put
-both-left :
-    (c : tie.After-spell-cell Inv-loop μ-loop) → let l = loop-at c in
-    let s = c .spell-cell .result in
-    ToPut l (l .loop .out) (l .loop .at) (bytesOf (s .first) ++ (bytesOf (s .second) ++ later c))
-both-left c = put-as (cell-cut _ _ _ (c .spell-cell .ensures) (c .before .before .loop-test .taken)) (loop-at c .loop .inv)
+coded :
+    (k : tie.After-shared-slice-known2 Inv-loop μ-loop) → let l = at-loop k in
+    codes (setAt (cellsOf l) (l .loop .i)) (codeAt (cellsOf l) (l .loop .i)) ≡ true
+unfolding writable
+coded k = let l = at-loop k in each-at Writable (cellsOf l) (l .loop .i) (l .before .before .before .pre .0) (in-list k)
 
--- its designation is put
-abbrev half : tie.After-put Inv-loop μ-loop → List ℕ
-half c =
-    let l = loop-at (c .before .before .before) in
-    putMid (l .loop .at) (length (l .loop .out) - l .loop .at) (l .loop .out) (c .put .last .0)
+known : (k : tie.After-shared-slice-known2 Inv-loop μ-loop) → rowOfNumber (setAt (cellsOf (at-loop k)) (at-loop k .loop .i)) < 9
+known k = row-found _ _ (coded k)
 
-body-left :
-    (c : tie.After-put Inv-loop μ-loop) → let w = c .before .before .before in
-    let s = w .spell-cell .result in
-    ToPut (loop-at w) (half c) (loop-at w .loop .at + s .first .length) (bytesOf (s .second) ++ later w)
-body-left c = let w = c .before .before .before in piece-put (w .spell-cell .ensures .first) _ (both-left w) (c .put .ensures)
+-- the five turns
+stretched :
+    (c : tie.Then1 Inv-loop μ-loop) → let l = c .before .before .before in
+    let j = c .before .stretch-end .result in
+    Turn (cellsOf l) (l .loop .i) (l .loop .g0) (l .loop .g2) (map lowByte (take (j - l .loop .i) (drop (l .loop .i) (cellsOf l)))) j (l .loop .g0) (l .loop .g2)
+stretched c = turn-stretch _ (c .before .stretch-end .ensures) (c .if1 .taken) (c .before .before .before .loop .inv .base)
 
--- and its body
-abbrev spelled : tie.After-put2 Inv-loop μ-loop → tie.After-put Inv-loop μ-loop
-spelled c = c .before .before .before .before .before .before
+based :
+    (c : tie.Then2 Inv-loop μ-loop) → let l = at-loop (c .before) in
+    let cells = cellsOf l in
+    Turn cells (l .loop .i) (l .loop .g0) (l .loop .g2) (baseOf (setAt cells (l .loop .i)) (codeAt cells (l .loop .i))) (l .loop .i + 1) (l .loop .g0) (g2After cells (l .loop .i) (l .loop .g2))
+based c = turn-base _ _ (in-list (c .before)) (c .if2 .taken) (at-loop (c .before) .loop .inv .base)
 
-none-left :
-    (c : tie.After-put2 Inv-loop μ-loop) → let h = spelled c in
-    let w = h .before .before .before in
-    let s = w .spell-cell .result in
-    let at = loop-at w .loop .at + s .first .length in
-    ToPut (loop-at w) (putMid at (length (half h) - at) (half h) (c .put2 .last .0)) (at + s .second .length) (later w)
-none-left c =
-    let h = spelled c in
-    piece-put (h .before .before .before .spell-cell .ensures .second) _ (body-left h) (c .put2 .ensures)
+-- the set in G2 is one of G2
+is-shift : (c : tie.Then3 Inv-loop μ-loop) → let l = at-loop (c .before .before) in shiftSet (setAt (cellsOf l) (l .loop .i)) ≡ true
+is-shift c =
+    let k = c .before .before in
+    let some = some-set _ _ (coded k) in
+    rw (c .if3 .taken) (at-loop k .loop .inv .held (rw (c .if3 .taken) at some))
 
--- the return to ASCII is to be put
-return-left :
-    (c : tie.After-designation Inv-loop μ-loop) → let l = c .before .before in
-    ToPut l (l .loop .out) (l .loop .at) (bytesOf (c .designation .result) ++ [])
-return-left c = put-as (last-cut _ _ _ (c .designation .ensures) (c .before .loop-test .left)) (c .before .before .loop .inv)
+shifted :
+    (c : tie.Then3 Inv-loop μ-loop) → let l = at-loop (c .before .before) in
+    Turn
+    (cellsOf l)
+    (l .loop .i)
+    (l .loop .g0)
+    (l .loop .g2)
+    (shiftedOf (codeAt (cellsOf l) (l .loop .i)))
+    (l .loop .i + 1)
+    (l .loop .g0)
+    (l .loop .g2)
+shifted c =
+    let k = c .before .before in
+    turn-shift _ _ (in-list k) (c .if3 .taken) (is-shift c) (at-loop k .loop .inv .base)
 
-returned :
-    (c : tie.After-put3 Inv-loop μ-loop) → let d = c .before .before in
-    let l = d .before .before in
-    ToPut l (putMid (l .loop .at) (length (l .loop .out) - l .loop .at) (l .loop .out) (c .put3 .last .0)) (l .loop .at + d .designation .result .length) []
-returned c = let d = c .before .before in piece-put (d .designation .ensures .whole) _ (return-left d) (c .put3 .ensures)
+-- a set that is not in force, for G2 or for G0
+module _ (e : tie.Else3 Inv-loop μ-loop) where
+  abbrev was : tie.At-loop Inv-loop μ-loop
+  was = at-loop (e .before .before)
+
+  abbrev set : ℕ
+  set = setAt (cellsOf was) (was .loop .i)
+
+  abbrev To : ℕ → ℕ → Type 0
+  To g0 g2 = Turn (cellsOf was) (was .loop .i) (was .loop .g0) (was .loop .g2) (designationOf set) (was .loop .i) g0 g2
+
+  to-g2 : shiftSet set ≡ true → To (was .loop .g0) set
+  to-g2 s = turn-g2 _ _ (in-list (e .before .before)) (e .if3 .left) s (was .loop .inv .base)
+
+  to-g0 : shiftSet set ≡ false → To set (was .loop .g2)
+  to-g0 s = turn-g0 _ _ (in-list (e .before .before)) (e .before .if2 .left) s
+
+  either-room :
+      (t : Bool) → shiftSet set ≡ t →
+      length (designationOf set) ≤ length (take (length (was .loop .out) - was .loop .at) (drop (was .loop .at) (was .loop .out)))
+  either-room true s = written-room (was .loop .inv) (to-g2 s)
+  either-room false s = written-room (was .loop .inv) (to-g0 s)
+
+-- what each leaves of the output
+abbrev Put-on : tie.At-loop Inv-loop μ-loop → List ℕ → ℕ → ℕ → ℕ → ℕ → Type 0
+Put-on l y count i g0 g2 =
+    let out = l .loop .out in
+    let at = l .loop .at in
+    Written (cellsOf l) (l .before .before .before .args .out .now) (putMid at (length out - at) out y) (at + count) i g0 g2
+
+stretch-put :
+    (c : tie.After-put-plain Inv-loop μ-loop) → let t = c .before .before .before in
+    let l = t .before .before .before in
+    Put-on l (c .put-plain .last .0) (c .put-plain .result) (t .before .stretch-end .result) (l .loop .g0) (l .loop .g2)
+stretch-put c =
+    let t = c .before .before .before in
+    let v = t .before .before .before .loop .inv in
+    written-on v (stretched t) (v .held) (c .put-plain .ensures)
+
+base-put :
+    (c : tie.After-put-base Inv-loop μ-loop) → let l = at-loop (c .before .before .before) in
+    Put-on l (c .put-base .last .0) (c .put-base .result) (l .loop .i + 1) (l .loop .g0) (g2After (cellsOf l) (l .loop .i) (l .loop .g2))
+base-put c =
+    let t = c .before .before in
+    let l = at-loop (t .before) in
+    written-on (l .loop .inv) (based t) (held-after (cellsOf l) (l .loop .i) (l .loop .g2) (l .loop .inv .held)) (c .put-base .ensures)
+
+shift-put :
+    (c : tie.After-put-shifted Inv-loop μ-loop) → let l = at-loop (c .before .before .before .before) in
+    Put-on l (c .put-shifted .last .0) (c .put-shifted .result) (l .loop .i + 1) (l .loop .g0) (l .loop .g2)
+shift-put c =
+    let t = c .before .before in
+    let v = at-loop (t .before .before) .loop .inv in
+    written-on v (shifted t) (v .held) (c .put-shifted .ensures)
+
+module _ (c : tie.After-designate Inv-loop μ-loop) where
+  abbrev waited : tie.Else3 Inv-loop μ-loop
+  waited = c .before .before
+
+  g2-put :
+      shiftSet (set waited) ≡ true →
+      Put-on (was waited) (c .designate .last .0) (c .designate .result) (was waited .loop .i) (was waited .loop .g0) (set waited)
+  g2-put s = written-on (was waited .loop .inv) (to-g2 waited s) (λ _. s) (c .designate .ensures)
+
+  g0-put :
+      shiftSet (set waited) ≡ false →
+      Put-on (was waited) (c .designate .last .0) (c .designate .result) (was waited .loop .i) (set waited) (was waited .loop .g2)
+  g0-put s = let v = was waited .loop .inv in written-on v (to-g0 waited s) (v .held) (c .designate .ensures)
+
+  either-in : (t : Bool) → shiftSet (set waited) ≡ t → was waited .loop .at + c .designate .result ≤ length (was waited .before .before .before .args .out .now)
+  either-in true s = written-in (g2-put s)
+  either-in false s = written-in (g0-put s)
 
 loop-holds : tie.Need-loop-holds Inv-loop μ-loop
-unfolding writing
-loop-holds c = put-start _ _ (c .before .before .pre .1)
+unfolding writing shiftSet
+loop-holds c = record { put = put-start _ _ (c .before .before .pre .1); within = omega arith; base = refl; held = λ e. absurd (true≢false e) }
 
-mul-spell-cell : tie.Need-mul-spell-cell Inv-loop μ-loop
-mul-spell-cell c = search needs
+stretch-end-requires : tie.Need-stretch-end-requires Inv-loop μ-loop
+stretch-end-requires c κs = c .before .loop .inv .within
 
-shared-slice-read-spell-cell : tie.Need-shared-slice-read-spell-cell Inv-loop μ-loop
-shared-slice-read-spell-cell c = search needs
+sub-put-plain : tie.Need-sub-put-plain Inv-loop μ-loop
+sub-put-plain c = search needs
 
-spell-cell-requires : tie.Need-spell-cell-requires Inv-loop μ-loop
-spell-cell-requires c κs =
-    let s = c .before .before .before .before .before in
-    each-at Writable (s .args .cells .now) _ (s .pre .0) (c .before .loop-test .taken)
+part-put-plain-start : tie.Need-part-put-plain-start Inv-loop μ-loop
+part-put-plain-start c = search needs
 
-sub-put : tie.Need-sub-put Inv-loop μ-loop
-sub-put c = search needs
+part-put-plain-end : tie.Need-part-put-plain-end Inv-loop μ-loop
+part-put-plain-end c = search needs
 
-part-put-start : tie.Need-part-put-start Inv-loop μ-loop
-part-put-start c = search needs
+mul-put-plain : tie.Need-mul-put-plain Inv-loop μ-loop
+mul-put-plain c = search needs
 
-part-put-end : tie.Need-part-put-end Inv-loop μ-loop
-part-put-end c = search needs
+sub-put-plain-2 : tie.Need-sub-put-plain-2 Inv-loop μ-loop
+sub-put-plain-2 c = search needs
 
-put-requires : tie.Need-put-requires Inv-loop μ-loop
-put-requires c κs =
-    let w = c .before .before in
-    (w .spell-cell .ensures .first, piece-room (w .spell-cell .ensures .first) _ (both-left w))
+part-put-plain-start-2 : tie.Need-part-put-plain-start-2 Inv-loop μ-loop
+part-put-plain-start-2 c = search needs
+
+part-put-plain-end-2 : tie.Need-part-put-plain-end-2 Inv-loop μ-loop
+part-put-plain-end-2 c = search needs
+
+put-plain-requires : tie.Need-put-plain-requires Inv-loop μ-loop
+put-plain-requires c κs =
+    let t = c .before .before in
+    simp length-map at (written-room (t .before .before .before .loop .inv) (stretched t))
 
 add-at : tie.Need-add-at Inv-loop μ-loop
 add-at c =
-    let h = c .before .before .before in
-    let p = body-left h in
-    omega (arith, p .upto, p .room, loop-at (h .before .before .before) .before .before .before .good)
+    let p = c .before .before in
+    omega (arith, written-in (stretch-put p), p .before .before .before .before .before .before .before .before .before .good)
 
-sub-put-2 : tie.Need-sub-put-2 Inv-loop μ-loop
-sub-put-2 c = let p = body-left (c .before .before .before .before) in omega (arith, p)
+loop-less : tie.Need-loop-less Inv-loop μ-loop
+loop-less c = stretched (c .before .before .before .before .before) .less
 
-part-put-start-2 : tie.Need-part-put-start-2 Inv-loop μ-loop
-part-put-start-2 c = let p = body-left (c .before .before .before .before) in omega (arith, p)
+loop-again : tie.Need-loop-again Inv-loop μ-loop
+loop-again c = stretch-put (c .before .before)
 
-part-put-end-2 : tie.Need-part-put-end-2 Inv-loop μ-loop
-part-put-end-2 c = let p = body-left (c .before .before .before .before) in omega (arith, p)
+mul-v : tie.Need-mul-v Inv-loop μ-loop
+mul-v c = search needs
 
-put-requires-2 : tie.Need-put-requires-2 Inv-loop μ-loop
-put-requires-2 c κs =
-    let h = c .before .before .before .before .before in
-    let w = h .before .before .before .spell-cell .ensures .second in
-    (w, piece-room w _ (body-left h))
+shared-slice-read-v : tie.Need-shared-slice-read-v Inv-loop μ-loop
+shared-slice-read-v c = search needs
+
+cast-n : tie.Need-cast-n Inv-loop μ-loop
+cast-n c = omega (arith, c .shared-slice-known2 .given (at-loop c .loop .i))
+
+sub-put-base : tie.Need-sub-put-base Inv-loop μ-loop
+sub-put-base c = search needs
+
+part-put-base-start : tie.Need-part-put-base-start Inv-loop μ-loop
+part-put-base-start c = search needs
+
+part-put-base-end : tie.Need-part-put-base-end Inv-loop μ-loop
+part-put-base-end c = search needs
+
+put-base-requires : tie.Need-put-base-requires Inv-loop μ-loop
+put-base-requires c κs =
+    let t = c .before in
+    let l = at-loop (t .before) in
+    (coded (t .before), rw (t .if2 .taken) (l .loop .inv .base), written-room (l .loop .inv) (based t))
 
 add-at-2 : tie.Need-add-at-2 Inv-loop μ-loop
 add-at-2 c =
-    let b = c .before .before .before in
-    let p = none-left b in
-    omega (arith, p .upto, p .room, loop-at (spelled b .before .before .before) .before .before .before .good)
+    let p = c .before .before in
+    omega (arith, written-in (base-put p), at-loop (p .before .before .before) .before .before .before .good)
+
+g2-after-requires : tie.Need-g2-after-requires Inv-loop μ-loop
+g2-after-requires c κs = in-list (c .before .before .before .before .before)
 
 add-i : tie.Need-add-i Inv-loop μ-loop
 add-i c =
-    let t = spelled (c .before .before .before .before) .before .before .before .before .before in
-    omega (arith, t .loop-test .taken, t .before .before .before .before .good)
+    let k = c .before .before .before .before .before .before in
+    omega (arith, in-list k, at-loop k .before .before .before .good)
 
-loop-less : tie.Need-loop-less Inv-loop μ-loop
-loop-less c =
-    let t = spelled (c .before .before .before .before) .before .before .before .before .before in
-    omega (arith, t .loop-test .taken)
+loop-less-2 : tie.Need-loop-less-2 Inv-loop μ-loop
+loop-less-2 c = rw (c .g2-after .ensures) (based (c .before .before .before .before .before) .less)
 
-loop-again : tie.Need-loop-again Inv-loop μ-loop
-loop-again c = none-left (c .before .before .before .before)
+loop-again-2 : tie.Need-loop-again-2 Inv-loop μ-loop
+loop-again-2 c = rw (c .g2-after .ensures) (base-put (c .before .before .before))
 
-designation-requires : tie.Need-designation-requires Inv-loop μ-loop
-designation-requires c κs = ascii-row
+sub-put-shifted : tie.Need-sub-put-shifted Inv-loop μ-loop
+sub-put-shifted c = search needs
 
-sub-put-3 : tie.Need-sub-put-3 Inv-loop μ-loop
-sub-put-3 c = search needs
+part-put-shifted-start : tie.Need-part-put-shifted-start Inv-loop μ-loop
+part-put-shifted-start c = search needs
 
-part-put-start-3 : tie.Need-part-put-start-3 Inv-loop μ-loop
-part-put-start-3 c = search needs
+part-put-shifted-end : tie.Need-part-put-shifted-end Inv-loop μ-loop
+part-put-shifted-end c = search needs
 
-part-put-end-3 : tie.Need-part-put-end-3 Inv-loop μ-loop
-part-put-end-3 c = search needs
+put-shifted-requires : tie.Need-put-shifted-requires Inv-loop μ-loop
+put-shifted-requires c κs =
+    let t = c .before in
+    let k = t .before .before in
+    (coded k, is-shift t, written-room (at-loop k .loop .inv) (shifted t))
 
-put-requires-3 : tie.Need-put-requires-3 Inv-loop μ-loop
-put-requires-3 c κs =
-    let d = c .before in
-    (d .designation .ensures .whole, piece-room (d .designation .ensures .whole) _ (return-left d))
+add-at-3 : tie.Need-add-at-3 Inv-loop μ-loop
+add-at-3 c =
+    let p = c .before .before in
+    omega (arith, written-in (shift-put p), at-loop (p .before .before .before .before) .before .before .before .good)
+
+add-i-2 : tie.Need-add-i-2 Inv-loop μ-loop
+add-i-2 c =
+    let k = c .before .before .before .before .before .before in
+    omega (arith, in-list k, at-loop k .before .before .before .good)
+
+loop-less-3 : tie.Need-loop-less-3 Inv-loop μ-loop
+loop-less-3 c = shifted (c .before .before .before .before) .less
+
+loop-again-3 : tie.Need-loop-again-3 Inv-loop μ-loop
+loop-again-3 c = shift-put (c .before .before)
+
+sub-designate : tie.Need-sub-designate Inv-loop μ-loop
+sub-designate c = search needs
+
+part-designate-start : tie.Need-part-designate-start Inv-loop μ-loop
+part-designate-start c = search needs
+
+part-designate-end : tie.Need-part-designate-end Inv-loop μ-loop
+part-designate-end c = search needs
+
+designate-requires : tie.Need-designate-requires Inv-loop μ-loop
+designate-requires c κs =
+    let e = c .before in
+    (known (e .before .before), either-room e (shiftSet (set e)) refl)
+
+add-at-4 : tie.Need-add-at-4 Inv-loop μ-loop
+add-at-4 c =
+    let d = c .before .before in
+    omega (arith, either-in d (shiftSet (set (waited d))) refl, was (waited d) .before .before .before .good)
+
+cast-is-shift-set : tie.Need-cast-is-shift-set Inv-loop μ-loop
+cast-is-shift-set c =
+    let k = c .before .before .before .before .before .before in
+    omega (arith, k .shared-slice-known2 .given (at-loop k .loop .i))
+
+is-shift-set-requires : tie.Need-is-shift-set-requires Inv-loop μ-loop
+is-shift-set-requires c κs = search needs
+
+shifts : (c : tie.Then4 Inv-loop μ-loop) → shiftSet (set (waited (c .before .before .before .before))) ≡ true
+shifts c = sym (c .before .is-shift-set .ensures) ∙ c .if4 .taken
+
+stays : (c : tie.Else4 Inv-loop μ-loop) → shiftSet (set (waited (c .before .before .before .before))) ≡ false
+stays c = sym (c .before .is-shift-set .ensures) ∙ c .if4 .left
+
+loop-less-4 : tie.Need-loop-less-4 Inv-loop μ-loop
+loop-less-4 c = to-g2 (waited (c .before .before .before .before)) (shifts c) .less
+
+loop-again-4 : tie.Need-loop-again-4 Inv-loop μ-loop
+loop-again-4 c = g2-put (c .before .before .before .before) (shifts c)
+
+loop-less-5 : tie.Need-loop-less-5 Inv-loop μ-loop
+loop-less-5 c = to-g0 (waited (c .before .before .before .before)) (stays c) .less
+
+loop-again-5 : tie.Need-loop-again-5 Inv-loop μ-loop
+loop-again-5 c = g0-put (c .before .before .before .before) (stays c)
+
+-- the return to ASCII
+return-left :
+    (c : tie.Then5 Inv-loop μ-loop) → let l = c .before .before in
+    Put (writing (cellsOf l)) (l .before .before .before .args .out .now) (l .loop .out) (l .loop .at) (designationOf 6 ++ [])
+return-left c =
+    put-as (last-some _ _ _ _ (c .before .loop-test .left) (c .if5 .taken) ∙ sym (append-nil (designationOf 6))) (c .before .before .loop .inv .put)
+
+returned :
+    (c : tie.After-designate2 Inv-loop μ-loop) → let l = c .before .before .before .before in
+    let out = l .loop .out in
+    let at = l .loop .at in
+    Put (writing (cellsOf l)) (l .before .before .before .args .out .now) (putMid at (length out - at) out (c .designate2 .last .0)) (at + length (designationOf 6)) []
+returned c = put-lent (designationOf 6) [] (return-left (c .before .before)) (c .designate2 .ensures .so)
+
+sub-designate-2 : tie.Need-sub-designate-2 Inv-loop μ-loop
+sub-designate-2 c = search needs
+
+part-designate-start-2 : tie.Need-part-designate-start-2 Inv-loop μ-loop
+part-designate-start-2 c = search needs
+
+part-designate-end-2 : tie.Need-part-designate-end-2 Inv-loop μ-loop
+part-designate-end-2 c = search needs
+
+designate-requires-2 : tie.Need-designate-requires-2 Inv-loop μ-loop
+designate-requires-2 c κs = (ascii-row, put-lent-room (designationOf 6) [] (return-left (c .before)))
 
 same-length : tie.Need-same-length Inv-loop μ-loop
 same-length c = returned (c .before .before) .same
 
 returns : tie.Need-returns Inv-loop μ-loop
 returns c = put-done (returned (c .before .before))
+
+same-length-2 : tie.Need-same-length-2 Inv-loop μ-loop
+same-length-2 c = c .before .before .loop .inv .put .same
+
+returns-2 : tie.Need-returns-2 Inv-loop μ-loop
+returns-2 c = put-done (put-as (last-none _ _ _ _ (c .before .loop-test .left) (c .if5 .left)) (c .before .before .loop .inv .put))
 
 pub write-all-spec : {M : Type 1} → statement M
 write-all-spec =
@@ -176,26 +361,54 @@ write-all-spec =
     Inv-loop
     μ-loop
     loop-holds
-    mul-spell-cell
-    shared-slice-read-spell-cell
-    spell-cell-requires
-    sub-put
-    part-put-start
-    part-put-end
-    put-requires
+    stretch-end-requires
+    sub-put-plain
+    part-put-plain-start
+    part-put-plain-end
+    mul-put-plain
+    sub-put-plain-2
+    part-put-plain-start-2
+    part-put-plain-end-2
+    put-plain-requires
     add-at
-    sub-put-2
-    part-put-start-2
-    part-put-end-2
-    put-requires-2
-    add-at-2
-    add-i
     loop-less
     loop-again
-    designation-requires
-    sub-put-3
-    part-put-start-3
-    part-put-end-3
-    put-requires-3
+    mul-v
+    shared-slice-read-v
+    cast-n
+    sub-put-base
+    part-put-base-start
+    part-put-base-end
+    put-base-requires
+    add-at-2
+    g2-after-requires
+    add-i
+    loop-less-2
+    loop-again-2
+    sub-put-shifted
+    part-put-shifted-start
+    part-put-shifted-end
+    put-shifted-requires
+    add-at-3
+    add-i-2
+    loop-less-3
+    loop-again-3
+    sub-designate
+    part-designate-start
+    part-designate-end
+    designate-requires
+    add-at-4
+    cast-is-shift-set
+    is-shift-set-requires
+    loop-less-4
+    loop-again-4
+    loop-less-5
+    loop-again-5
+    sub-designate-2
+    part-designate-start-2
+    part-designate-end-2
+    designate-requires-2
     same-length
-    returns)
+    returns
+    same-length-2
+    returns-2)
