@@ -1,6 +1,7 @@
 pub mod Laws
 pub mod Filling
 pub mod Walk
+pub mod Strides
 pub mod Spans
 pub mod Steps
 pub mod Cursors

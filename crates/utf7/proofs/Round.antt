@@ -89,7 +89,7 @@ module _ (last : ℕ) (s : Sign last) where
   letters-letters [] h = tt
   letters-letters (x ∷ xs) h = (rw (value-letter last s x (h .0)) (lt-ltb x 64 (h .0)), letters-letters xs (h .1))
 
-close-run : (f : List Bool) → mayEnd f ≡ true → byteDoes (run f) 45 ≡ go outside
+pub close-run : (f : List Bool) → mayEnd f ≡ true → byteDoes (run f) 45 ≡ go outside
 unfolding byteDoes lowDoes setB valueOf endDoes
 close-run f e = rw e
 

@@ -1,4 +1,6 @@
 // Reading UTF-7: a byte, a cell, and a whole text at a time.
+mod quick;
+
 use answer::Answer;
 use answer::Refusal;
 use reading::Marked;
@@ -251,8 +253,9 @@ pub fn step(text: &[u8], c: Cursor) -> Stepped
 fn count(text: &[u8]) -> Answer
     ensures { λ r. ⌜ inNumbers r ≡ verdictOf (reading utf7 (now (text .entry))) ⌝ }
 {
-    let mut at: usize = 0;
-    let mut n: usize = 0;
+    let reached = quick::count(text);
+    let mut at = reached.at;
+    let mut n = reached.n;
     let mut st = State::Outside;
     while at < text.len() {
         match feed(st, text[at]) {
@@ -278,8 +281,9 @@ fn fill(text: &[u8], out: &mut [u32])
     requires { ⌜ length (reading utf7 (now text) .cells) ≤ length (now out) ⌝ }
     ensures { λ _. ⌜ now (out .exit) ≡ filled (reading utf7 (now (text .entry)) .cells) (now (out .entry)) ⌝ }
 {
-    let mut at: usize = 0;
-    let mut n: usize = 0;
+    let reached = quick::fill(text, out);
+    let mut at = reached.at;
+    let mut n = reached.n;
     let mut st = State::Outside;
     while at < text.len() {
         match feed(st, text[at]) {

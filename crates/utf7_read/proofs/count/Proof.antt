@@ -2,7 +2,7 @@ use Prim.Native.Nat.{_-_}
 use mathlib.Core.Path.{_∙_}
 use lib.ListN.{length}
 use borrow.Author.Needs.{needs}
-use Rattle.reading.proofs.Laws.{Left, left-start, left-give, left-go, left-bad, left-end}
+use Rattle.reading.proofs.Laws.{Left, left-give, left-go, left-bad, left-end}
 use Rattle.utf7.specs.Rule.{utf7}
 use Rattle.utf7_read.specs.Cursor.{shiftOf, Settled}
 use Rattle.utf7_read.proofs.Moves.{moved}
@@ -15,8 +15,11 @@ Inv-loop text at₀ n₀ st₀ at n st = Left utf7 text at (shiftOf st) n × Set
 abbrev μ-loop : tie.MeasureT-loop
 μ-loop text at₀ n₀ st₀ at n st = length text - at
 
+count-requires : tie.Need-count-requires Inv-loop μ-loop
+count-requires c κs = search needs
+
 loop-holds : tie.Need-loop-holds Inv-loop μ-loop
-loop-holds c = (left-start utf7 _, tt)
+loop-holds c = (c .count .ensures, tt)
 
 shared-slice-read-feed : tie.Need-shared-slice-read-feed Inv-loop μ-loop
 shared-slice-read-feed c = search needs
@@ -80,6 +83,7 @@ count-spec =
     (tie.spec
     Inv-loop
     μ-loop
+    count-requires
     loop-holds
     shared-slice-read-feed
     feed-requires

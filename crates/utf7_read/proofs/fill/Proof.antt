@@ -1,11 +1,13 @@
 use Prim.Native.Nat.{_-_, _<_}
+use mathlib.Core.Path.{_∙_}
 use native.Mathlib.Omega.{arith}
 use lib.ListN.{length}
 use borrow.Author.Needs.{needs}
-use Rattle.reading.proofs.Filling.{Filling, filling-start, filling-index, filling-give, filling-go, filling-bad, filling-end}
+use Rattle.reading.proofs.Filling.{Filling, filling-index, filling-give, filling-go, filling-bad, filling-end}
 use Rattle.utf7.specs.Rule.{utf7}
 use Rattle.utf7_read.specs.Cursor.{shiftOf, Settled}
 use Rattle.utf7_read.proofs.Moves.{moved}
+use Rattle.utf7_read.proofs.Tokens.{filling-again, filled-again}
 use Rattle.utf7_read.proofs.fill.Statement.{statement}
 use Rattle.utf7_read.proofs.fill.Tie as tie
 
@@ -15,8 +17,11 @@ Inv-loop text out₀ at₀ n₀ st₀ out at n st = Filling utf7 text at (shiftO
 abbrev μ-loop : tie.MeasureT-loop
 μ-loop text out₀ at₀ n₀ st₀ out at n st = length text - at
 
+fill-requires : tie.Need-fill-requires Inv-loop μ-loop
+fill-requires c κs = c .before .before .before .pre
+
 loop-holds : tie.Need-loop-holds Inv-loop μ-loop
-loop-holds c = (filling-start utf7 _ _ (c .before .before .pre), tt)
+loop-holds c = (filling-again (c .before .before .fill .ensures), tt)
 
 shared-slice-read-feed : tie.Need-shared-slice-read-feed Inv-loop μ-loop
 shared-slice-read-feed c = search needs
@@ -83,12 +88,13 @@ returns c =
     let f = c .before .before in
     let i = f .before .before in
     filling-bad (i .before .loop .inv .0) (i .loop-test .taken) (moved (f .feed .ensures) (c .enum-told .given .1) .0)
+    ∙ filled-again (i .before .before .before .before .fill .ensures)
 
 same-length-2 : tie.Need-same-length-2 Inv-loop μ-loop
 same-length-2 c = search needs
 
 returns-2 : tie.Need-returns-2 Inv-loop μ-loop
-returns-2 c = filling-end (c .before .loop .inv .0) (c .loop-test .left)
+returns-2 c = filling-end (c .before .loop .inv .0) (c .loop-test .left) ∙ filled-again (c .before .before .before .before .fill .ensures)
 
 pub fill-spec : {M : Type 1} → statement M
 fill-spec =
@@ -96,6 +102,7 @@ fill-spec =
     (tie.spec
     Inv-loop
     μ-loop
+    fill-requires
     loop-holds
     shared-slice-read-feed
     feed-requires
