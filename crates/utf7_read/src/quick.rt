@@ -141,10 +141,10 @@ fn letter_bytes(text: &[u8], from: usize, to: usize) -> usize
 
 // The end of the bytes that stand for themselves: a few are looked at before whole blocks are.
 fn stretch_end(text: &[u8], from: usize) -> usize
-    requires { ⌜ from + 5 ≤ length (now text) ⌝ }
+    requires { ⌜ from + 12 ≤ length (now text) ⌝ }
     ensures { λ r. ⌜ Span direct (now (text .entry)) from r ⌝ }
 {
-    let few = from + 5;
+    let few = from + 12;
     let near = direct_bytes(text, from, few);
     if near < few {
         return near;
@@ -317,14 +317,14 @@ pub fn count(text: &[u8]) -> Reached
 {
     let mut at: usize = 0;
     let mut n: usize = 0;
-    while at + 5 <= text.len() {
+    while at + 12 <= text.len() {
         if text[at] != b'+' {
-            let end = stretch_end(text, at);
-            if end == at {
+            let far = stretch_end(text, at);
+            if far == at {
                 return Reached { at, n };
             }
-            n += end - at;
-            at = end;
+            n += far - at;
+            at = far;
         } else {
             let from = at + 1;
             if is_one(text, from) {
@@ -335,12 +335,12 @@ pub fn count(text: &[u8]) -> Reached
                     n += 1;
                     at += 2;
                 } else {
-                    let end = run_end(text, from);
-                    if !is_run(text, from, end) {
+                    let to = run_end(text, from);
+                    if !is_run(text, from, to) {
                         return Reached { at, n };
                     }
-                    n += units(end - from);
-                    at = past_run(text, end);
+                    n += units(to - from);
+                    at = past_run(text, to);
                 }
             }
         }
@@ -355,7 +355,7 @@ pub fn fill(text: &[u8], out: &mut [u32]) -> Reached
 {
     let mut at: usize = 0;
     let mut n: usize = 0;
-    while at + 5 <= text.len() {
+    while at + 12 <= text.len() {
         if text[at] != b'+' {
             let end = stretch_end(text, at);
             if end == at {
