@@ -24,7 +24,7 @@ ascii-low : (c : ℕ) → ascii c ≡ true → c < 128
 unfolding ascii
 ascii-low c h = omega (arith, leb-true c 127 (both (leb c 127) _ h .0))
 
-byte-single :
+pub byte-single :
     (g0 g2 c : ℕ) (cr : Bool) → single g0 ≡ true → ascii c ≡ true → cond (graphic c) g0 6 ≡ g0 →
     byteDoes (state g0 g2 (phaseOf cr)) c ≡ give (cellOf g0 c) (state g0 (cond (cr && eqb c 10) 0 g2) (phaseOf (eqb c 13)))
 unfolding betweenDoes singleDoes ascii
@@ -32,19 +32,19 @@ byte-single g0 g2 c cr s h e =
     byte-between g0 g2 cr c (ascii-low c h) ∙ simp (differs ascii c 27 h refl, s, differs ascii c 14 h refl, differs ascii c 15 h refl, e)
 
 module _ (g0 g2 a : ℕ) (h : graphic a ≡ true) where
-  byte-first : (cr : Bool) → eqb g0 6 ≡ false → eqb g0 14 ≡ false → byteDoes (state g0 g2 (phaseOf cr)) a ≡ go (state g0 g2 (first a))
+  pub byte-first : (cr : Bool) → eqb g0 6 ≡ false → eqb g0 14 ≡ false → byteDoes (state g0 g2 (phaseOf cr)) a ≡ go (state g0 g2 (first a))
   unfolding betweenDoes firstDoes graphic
   byte-first cr s t = byte-between g0 g2 cr a (omega (arith, graphic-range a h)) ∙ simp (differs graphic a 27 h refl, s, t, h)
 
-  byte-second : (b : ℕ) → byteDoes (state g0 g2 (first b)) a ≡ give (cellOf g0 (b * 256 + a)) (state g0 g2 plain)
+  pub byte-second : (b : ℕ) → byteDoes (state g0 g2 (first b)) a ≡ give (cellOf g0 (b * 256 + a)) (state g0 g2 plain)
   unfolding byteDoes secondDoes
   byte-second b = simp (lt-ltb a 128 (omega (arith, graphic-range a h)), h)
 
-byte-n : (g0 g2 : ℕ) → eqb g2 0 ≡ false → byteDoes (state g0 g2 (escape (27 ∷ []))) 78 ≡ go (state g0 g2 shifted)
+pub byte-n : (g0 g2 : ℕ) → eqb g2 0 ≡ false → byteDoes (state g0 g2 (escape (27 ∷ []))) 78 ≡ go (state g0 g2 shifted)
 unfolding byteDoes escapeDoes begins
 byte-n g0 g2 e = rw e
 
-byte-shifted : (g0 g2 c : ℕ) → 32 ≤ c → c ≤ 127 → byteDoes (state g0 g2 shifted) c ≡ give (cellOf g2 c) (state g0 g2 plain)
+pub byte-shifted : (g0 g2 c : ℕ) → 32 ≤ c → c ≤ 127 → byteDoes (state g0 g2 shifted) c ≡ give (cellOf g2 c) (state g0 g2 plain)
 unfolding byteDoes shiftedDoes
 byte-shifted g0 g2 c h k = simp (lt-ltb c 128 (omega arith), le-ltb c 32 h)
 

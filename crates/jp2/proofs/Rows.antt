@@ -133,7 +133,7 @@ module _ (g0 g2 i : ℕ) (known : i < 9) where
       let q = both (eqb b 27) _ t in
       rw (eqb-true b 27 (q .0)) (leads-walk _ 27 (27 ∷ []) rest (esc cr) (q .1))
 
-  row-walk : (cr : Bool) → Walk jp2 (state g0 g2 (phaseOf cr)) (sent (rowAt i)) [] (designated g0 g2 (rowAt i))
+  pub row-walk : (cr : Bool) → Walk jp2 (state g0 g2 (phaseOf cr)) (sent (rowAt i)) [] (designated g0 g2 (rowAt i))
   row-walk cr = sends-walk cr (sent (rowAt i)) (row-ruled i known .reads)
 
 -- the designation of a set puts it into G2 or G0

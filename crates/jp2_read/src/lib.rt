@@ -1,4 +1,6 @@
 // Reading ISO-2022-JP-2: a byte, a cell, and a whole text at a time.
+mod quick;
+
 use answer::Answer;
 use answer::Refusal;
 use reading::Marked;
@@ -15,7 +17,7 @@ ghost use Rattle.reading.specs.Spans.{Takes};
 ghost use Rattle.reading.specs.Stepping.{atStart};
 ghost use Rattle.reading.specs.Matching.{readsAs};
 ghost use Rattle.jp2.specs.Table.{rowAt, isList};
-ghost use Rattle.jp2.specs.Rule.{plain, return, graphic, designated, inPhase, endPhase, jp2, singleDoes, firstDoes, secondDoes, betweenDoes, shiftedDoes, escapeDoes, byteDoes, endsIn};
+ghost use Rattle.jp2.specs.Rule.{state, plain, return, graphic, designated, inPhase, endPhase, jp2, singleDoes, firstDoes, secondDoes, betweenDoes, shiftedDoes, escapeDoes, byteDoes, endsIn};
 ghost use Rattle.jp2.specs.Spans.{phaseSpan};
 ghost use Rattle.jp2_read.specs.Cursor.{phaseOf, stateOf, inEscape, stateFor, doesOf, cursorOf, least, told, stepOf};
 
@@ -364,6 +366,17 @@ fn begin() -> State
     }
 }
 
+// The state where a loop over tokens stopped.
+fn standing(r: quick::Reached) -> State
+    ensures { λ st. ⌜ stateOf st ≡ state (r .g0) (r .g2) plain ⌝ }
+{
+    State {
+        g0: r.g0,
+        g2: r.g2,
+        phase: Phase::Plain,
+    }
+}
+
 // The cursor of a reader that has read nothing.
 pub fn start() -> Cursor
     ensures { λ r. ⌜ r ≡ cursorOf (atStart jp2) ⌝ }
@@ -413,9 +426,10 @@ pub fn step(text: &[u8], c: Cursor) -> Stepped
 fn count(text: &[u8]) -> Answer
     ensures { λ r. ⌜ inNumbers r ≡ verdictOf (reading jp2 (now (text .entry))) ⌝ }
 {
-    let mut at: usize = 0;
-    let mut n: usize = 0;
-    let mut st = begin();
+    let reached = quick::count(text);
+    let mut at = reached.at;
+    let mut n = reached.n;
+    let mut st = standing(reached);
     while at < text.len() {
         match feed(st, text[at]) {
             Move::Give(_, state) => {
@@ -440,9 +454,10 @@ fn fill(text: &[u8], out: &mut [u32])
     requires { ⌜ length (reading jp2 (now text) .cells) ≤ length (now out) ⌝ }
     ensures { λ _. ⌜ now (out .exit) ≡ filled (reading jp2 (now (text .entry)) .cells) (now (out .entry)) ⌝ }
 {
-    let mut at: usize = 0;
-    let mut n: usize = 0;
-    let mut st = begin();
+    let reached = quick::fill(text, out);
+    let mut at = reached.at;
+    let mut n = reached.n;
+    let mut st = standing(reached);
     while at < text.len() {
         match feed(st, text[at]) {
             Move::Give(value, state) => {

@@ -2,7 +2,7 @@ use Prim.Native.Nat.{_-_}
 use mathlib.Core.Path.{_∙_}
 use lib.ListN.{length}
 use borrow.Author.Needs.{needs}
-use Rattle.reading.proofs.Laws.{Left, left-start, left-give, left-go, left-bad, left-end}
+use Rattle.reading.proofs.Laws.{Left, left-give, left-go, left-bad, left-end}
 use Rattle.jp2.specs.Rule.{jp2}
 use Rattle.jp2_read.specs.Cursor.{stateOf}
 use Rattle.jp2_read.proofs.Moves.{moved}
@@ -15,11 +15,14 @@ Inv-loop text at₀ n₀ st₀ at n st = Left jp2 text at (stateOf st) n
 abbrev μ-loop : tie.MeasureT-loop
 μ-loop text at₀ n₀ st₀ at n st = length text - at
 
-begin-requires : tie.Need-begin-requires Inv-loop μ-loop
-begin-requires c κs = search needs
+count-requires : tie.Need-count-requires Inv-loop μ-loop
+count-requires c κs = search needs
+
+standing-requires : tie.Need-standing-requires Inv-loop μ-loop
+standing-requires c κs = search needs
 
 loop-holds : tie.Need-loop-holds Inv-loop μ-loop
-loop-holds c = rw (c .begin .ensures) (left-start jp2 _)
+loop-holds c = rw (c .standing .ensures) (c .before .count .ensures)
 
 shared-slice-read-feed : tie.Need-shared-slice-read-feed Inv-loop μ-loop
 shared-slice-read-feed c = search needs
@@ -78,7 +81,8 @@ count-spec =
     (tie.spec
     Inv-loop
     μ-loop
-    begin-requires
+    count-requires
+    standing-requires
     loop-holds
     shared-slice-read-feed
     feed-requires

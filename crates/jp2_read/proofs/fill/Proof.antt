@@ -1,8 +1,9 @@
-use Prim.Native.Nat.{_-_, _<_}
+use Prim.Native.Nat.{ℕ, _-_, _<_}
 use native.Mathlib.Omega.{arith}
+use mathlib.Core.List.{List}
 use lib.ListN.{length}
 use borrow.Author.Needs.{needs}
-use Rattle.reading.proofs.Filling.{Filling, filling-start, filling-index, filling-give, filling-go, filling-bad, filling-end}
+use Rattle.reading.proofs.Filling.{Filling, filling-index, filling-give, filling-go, filling-bad, filling-end}
 use Rattle.jp2.specs.Rule.{jp2}
 use Rattle.jp2_read.specs.Cursor.{stateOf}
 use Rattle.jp2_read.proofs.Moves.{moved}
@@ -10,16 +11,27 @@ use Rattle.jp2_read.proofs.fill.Statement.{statement}
 use Rattle.jp2_read.proofs.fill.Tie as tie
 
 abbrev Inv-loop : tie.InvT-loop
-Inv-loop text out₀ at₀ n₀ st₀ out at n st = Filling jp2 text at (stateOf st) n out₀ out
+Inv-loop text out₀ at₀ n₀ st₀ out at n st =
+    (o : List ℕ) → Filling jp2 text at₀ (stateOf st₀) n₀ o out₀ → Filling jp2 text at (stateOf st) n o out
 
 abbrev μ-loop : tie.MeasureT-loop
 μ-loop text out₀ at₀ n₀ st₀ out at n st = length text - at
 
-begin-requires : tie.Need-begin-requires Inv-loop μ-loop
-begin-requires c κs = search needs
+fill-requires : tie.Need-fill-requires Inv-loop μ-loop
+fill-requires c κs = c .before .before .before .pre
+
+standing-requires : tie.Need-standing-requires Inv-loop μ-loop
+standing-requires c κs = search needs
 
 loop-holds : tie.Need-loop-holds Inv-loop μ-loop
-loop-holds c = rw (c .begin .ensures) (filling-start jp2 _ _ (c .before .before .before .pre))
+loop-holds c = λ o f. f
+
+-- the cells so far stand in the output as it was at entry
+so :
+    (c : tie.At-loop Inv-loop μ-loop) →
+    let a = c .before .before .before .before .before .before .before .before .args in
+    Filling jp2 (a .text .now) (c .loop .at) (stateOf (c .loop .st)) (c .loop .n) (a .out .now) (c .loop .out)
+so c = c .loop .inv _ (rw (c .before .standing .ensures) (c .before .before .before .before .fill .ensures))
 
 shared-slice-read-feed : tie.Need-shared-slice-read-feed Inv-loop μ-loop
 shared-slice-read-feed c = search needs
@@ -34,16 +46,16 @@ enum-known-value c = search needs
 index : (c : tie.After-known-told Inv-loop μ-loop) → let l = c .before .before .before .before .before .before .loop in l .n < length (l .out)
 index c =
     let f = c .before .before .before in
-    filling-index (f .before .before .before .loop .inv) (f .before .before .loop-test .taken) (moved (f .feed .ensures) (c .before .value .given .1))
+    filling-index (so (f .before .before .before)) (f .before .before .loop-test .taken) (moved (f .feed .ensures) (c .before .value .given .1))
 
 mul-out : tie.Need-mul-out Inv-loop μ-loop
-mul-out c = omega (arith, index c)
+mul-out c = omega (arith, index c, so (c .before .before .before .before .before .before) .put .same, c .before .before .before .before .before .before .before .before .before .before .before .before .before .before .good)
 
 slice-write-out : tie.Need-slice-write-out Inv-loop μ-loop
 slice-write-out c = index c
 
 add-n : tie.Need-add-n Inv-loop μ-loop
-add-n c = search needs
+add-n c = omega (arith, index c, so (c .before .before .before .before .before .before) .put .same, c .before .before .before .before .before .before .before .before .before .before .before .before .before .before .good)
 
 add-at : tie.Need-add-at Inv-loop μ-loop
 add-at c = search needs
@@ -54,7 +66,7 @@ loop-less c = search needs
 loop-again : tie.Need-loop-again Inv-loop μ-loop
 loop-again c =
     let f = c .before .before .before in
-    filling-give (f .before .before .before .loop .inv) (f .before .before .loop-test .taken) (moved (f .feed .ensures) (c .before .value .given .1))
+    λ o q. filling-give (f .before .before .before .loop .inv o q) (f .before .before .loop-test .taken) (moved (f .feed .ensures) (c .before .value .given .1))
 
 enum-known-state : tie.Need-enum-known-state Inv-loop μ-loop
 enum-known-state c = search needs
@@ -68,24 +80,24 @@ loop-less-2 c = search needs
 loop-again-2 : tie.Need-loop-again-2 Inv-loop μ-loop
 loop-again-2 c =
     let f = c .before .before .before in
-    filling-go (f .before .before .before .loop .inv) (f .before .before .loop-test .taken) (moved (f .feed .ensures) (c .before .state .given .1))
+    λ o q. filling-go (f .before .before .before .loop .inv o q) (f .before .before .loop-test .taken) (moved (f .feed .ensures) (c .before .state .given .1))
 
 enum-told : tie.Need-enum-told Inv-loop μ-loop
 enum-told c = search needs
 
 same-length : tie.Need-same-length Inv-loop μ-loop
-same-length c = search needs
+same-length c = so (c .before .before .before .before .before) .put .same
 
 returns : tie.Need-returns Inv-loop μ-loop
 returns c =
     let f = c .before .before in
-    filling-bad (f .before .before .before .loop .inv) (f .before .before .loop-test .taken) (moved (f .feed .ensures) (c .enum-told .given .1))
+    filling-bad (so (f .before .before .before)) (f .before .before .loop-test .taken) (moved (f .feed .ensures) (c .enum-told .given .1))
 
 same-length-2 : tie.Need-same-length-2 Inv-loop μ-loop
-same-length-2 c = search needs
+same-length-2 c = so (c .before) .put .same
 
 returns-2 : tie.Need-returns-2 Inv-loop μ-loop
-returns-2 c = filling-end (c .before .loop .inv) (c .loop-test .left)
+returns-2 c = filling-end (so (c .before)) (c .loop-test .left)
 
 pub fill-spec : {M : Type 1} → statement M
 fill-spec =
@@ -93,7 +105,8 @@ fill-spec =
     (tie.spec
     Inv-loop
     μ-loop
-    begin-requires
+    fill-requires
+    standing-requires
     loop-holds
     shared-slice-read-feed
     feed-requires
