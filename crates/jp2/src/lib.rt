@@ -1,7 +1,7 @@
 // ISO-2022-JP-2 (RFC 1554) as document 01 states it: definitions, laws, and the table of the nine designations.
 ghost use mathlib.Core.Path.{_≡_};
 ghost use Prim.Native.Nat.{_<_};
-ghost use Rattle.jp2.specs.Table.{rowAt, sent, begins, isList, rowOfNumber, rowOfEscape, rowBegunBy};
+ghost use Rattle.jp2.specs.Table.{designations, rowAt, sent, begins, isList, rowOfNumber, rowOfEscape, rowBegunBy};
 ghost use Rattle.jp2.specs.Rule.{graphic};
 ghost use Rattle.jp2.specs.Writable.{ascii, pairSet, shiftSet, writable, firstForeign};
 
@@ -85,6 +85,13 @@ pub fn row_at(i: usize) -> Designation
         length: 0,
         to: 0,
     }
+}
+
+// All rows, for a search that keeps them: the table is made anew at each use.
+pub fn all_rows() -> [Designation; 9]
+    ensures { λ r. ⌜ r ≡ designations ⌝ }
+{
+    TABLE
 }
 
 // The row of a set's registration number, or 9.

@@ -14,13 +14,15 @@ use borrow.Author.Tests.{not-true, eqb-true, eqb-false, eq-eqb, ne-eqb, lt-ltb, 
 use Rattle.answer.proofs.Below.{both, allBelow, below, cond-case}
 use Rattle.reading.specs.Reading.{Does, give, go, bad, Reading, onRead, readFrom, reading}
 use Rattle.reading.proofs.Strides.{Stride, stride-stay, stride-give, stride-go, stride-on, stride-as, stride-to, stride-walk}
-use Rattle.jp2.specs.Table.{designations, rowAt, sent, begins}
+use Rattle.jp2.specs.Table.{designations, noRow, rowAt, sent, begins}
 use Rattle.jp2.specs.Rule.{State, plain, return, first, shifted, escape, state, graphic, cellOf, designated, singleDoes, firstDoes, secondDoes, betweenDoes, shiftedDoes, escapeDoes, byteDoes, endsIn, jp2}
 use Rattle.jp2.specs.Writable.{ascii}
 use Rattle.jp2.proofs.Sets.{single, differs, graphic-range}
 use Rattle.jp2.proofs.Rows.{phaseOf, byte-between, row-walk}
 use Rattle.jp2.proofs.Round.{byte-single, byte-first, byte-second, byte-n, byte-shifted}
-use Rattle.jp2.proofs.Table.{table-rule, row-size}
+use Rattle.jp2.specs.declared.Designation.{Designation}
+use Rattle.jp2.proofs.Search.{at-any}
+use Rattle.jp2.proofs.Table.{rows, table-rule, row-size}
 use Rattle.jp2_read.specs.Quick.{codeOf, Sends, Designates, Found, Plains, Stretch}
 
 -- the state between cells
@@ -251,6 +253,10 @@ designation-stride {s} {at} {r} g0 g2 h e d =
     let f = rw e at (four-bytes s at h) ∙ begins-front (sent (rowAt (d .row))) _ (drop (at + 4) s) (d .bytes) in
     rw (← after-row (toG2 r) g0 g2 (r / 64 % 65536), d .code, small-number (d .row) (d .known), q .0, q .1 .0, q .1 .1)
     (stride-walk _ (row-walk g0 g2 (d .row) (d .known) false) f (omega arith))
+
+-- a row of the whole table
+pub row-of : {t : List Designation} {i : ℕ} (e : Designation) → t ≡ designations → i < 9 → getD t i e ≡ rowAt i
+row-of {t} {i} e q h = rw q (at-any designations i e noRow (rw rows h))
 
 -- the search: a row that passes stands there
 abbrev shape : ℕ → ℕ → Bool

@@ -30,18 +30,31 @@ fn joined(a: u8, b: u8) -> u32
     (a as u32) * 256 + (b as u32)
 }
 
-// What a row sends after ESC starts with two bytes, and is no longer or goes on with c.
+fn both(s: bool, t: bool) -> bool
+    ensures { λ r. ⌜ r ≡ (s && t) ⌝ }
+{
+    if s {
+        return t;
+    }
+    false
+}
+
+fn either(s: bool, t: bool) -> bool
+    ensures { λ r. ⌜ r ≡ (s || t) ⌝ }
+{
+    if s {
+        return true;
+    }
+    t
+}
+
+// What a row sends after ESC starts with two bytes, and is no longer or goes on with c. Every test is made, for a choice without a branch.
 fn is_sent(d: Designation, two: u32, c: u8) -> bool
     ensures { λ r. ⌜ (r ≡ true → Sends d two c) ⌝ }
 {
     let escape = d.escape;
-    if joined(escape[1], escape[2]) != two {
-        return false;
-    }
-    if d.length == 3 {
-        return true;
-    }
-    escape[3] == c
+    let front = joined(escape[1], escape[2]);
+    both(front == two, either(d.length == 3, escape[3] == c))
 }
 
 // A row in one number, so that the search takes one choice a row: the set's number, where it goes, and the length.
@@ -66,9 +79,10 @@ fn found(a: u8, b: u8, c: u8) -> u32
     ensures { λ r. ⌜ Found a b c r ⌝ }
 {
     let two = joined(a, b);
+    let table = jp2::all_rows();
     let mut r: u32 = 0;
     for i in 0..9 {
-        let d = jp2::row_at(i);
+        let d = table[i];
         let v = code(d);
         r = chosen(is_sent(d, two, c), v, r);
     }
@@ -130,13 +144,10 @@ fn is_shifted(g2: u16, b: u8) -> bool
 fn is_plain(b: u8) -> bool
     ensures { λ r. ⌜ r ≡ ascii b ⌝ }
 {
-    if b < 14 {
-        return true;
-    }
-    if b <= 15 {
+    if 127 < b {
         return false;
     }
-    if 127 < b {
+    if b / 2 == 7 {
         return false;
     }
     b != 27
@@ -152,15 +163,6 @@ fn cleared(g2: u16, b: u8, next: u8) -> u16
         }
     }
     g2
-}
-
-fn both(s: bool, t: bool) -> bool
-    ensures { λ r. ⌜ r ≡ (s && t) ⌝ }
-{
-    if s {
-        return t;
-    }
-    false
 }
 
 // Sixteen such bytes.
