@@ -8,7 +8,7 @@ ghost use mathlib.Core.Path.{_≡_};
 ghost use mathlib.Core.Bool.{cond, _&&_};
 ghost use mathlib.Core.List.{[], _∷_};
 ghost use Prim.Native.Nat.{_<_, _≤_};
-ghost use lib.ListN.{length};
+ghost use lib.ListN.{length, take};
 ghost use lib.Dec.{eqb};
 ghost use Rattle.answer.specs.Answer.{inNumbers};
 ghost use Rattle.answer.specs.Output.{leaves, filled};
@@ -422,36 +422,10 @@ pub fn step(text: &[u8], c: Cursor) -> Stepped
     Stepped::Final(finish(text.len(), handed, st))
 }
 
-// The answer of reading a text with room enough.
-fn count(text: &[u8]) -> Answer
-    ensures { λ r. ⌜ inNumbers r ≡ verdictOf (reading jp2 (now (text .entry))) ⌝ }
-{
-    let reached = quick::count(text);
-    let mut at = reached.at;
-    let mut n = reached.n;
-    let mut st = standing(reached);
-    while at < text.len() {
-        match feed(st, text[at]) {
-            Move::Give(_, state) => {
-                st = state;
-                n += 1;
-                at += 1;
-            }
-            Move::Go(state) => {
-                st = state;
-                at += 1;
-            }
-            Move::Bad(why) => {
-                return Answer::Refused(why, at);
-            }
-        }
-    }
-    finish(at, n, st)
-}
-
-// The cells of a text go to the front of the output.
-fn fill(text: &[u8], out: &mut [u32])
+// Reads a text into a buffer that has room for every cell. What was read before a fault is left in it.
+fn decode(text: &[u8], out: &mut [u32]) -> Answer
     requires { ⌜ length (reading jp2 (now text) .cells) ≤ length (now out) ⌝ }
+    ensures { λ r. ⌜ inNumbers r ≡ verdictOf (reading jp2 (now (text .entry))) ⌝ }
     ensures { λ _. ⌜ now (out .exit) ≡ filled (reading jp2 (now (text .entry)) .cells) (now (out .entry)) ⌝ }
 {
     let reached = quick::fill(text, out);
@@ -470,21 +444,44 @@ fn fill(text: &[u8], out: &mut [u32])
                 st = state;
                 at += 1;
             }
-            Move::Bad(_) => {
-                return;
+            Move::Bad(why) => {
+                return Answer::Refused(why, at);
             }
         }
     }
+    finish(at, n, st)
 }
 
-// Reads a text into an output. The whole text is judged before a cell is written.
+// The first n cells go to the front of the output.
+fn copy(cells: &[u32], n: usize, out: &mut [u32])
+    requires { ⌜ n ≤ length (now cells) ⌝ }
+    requires { ⌜ n ≤ length (now out) ⌝ }
+    ensures { λ _. ⌜ now (out .exit) ≡ filled (take n (now (cells .entry))) (now (out .entry)) ⌝ }
+{
+    let mut k: usize = 0;
+    while k < n {
+        out[k] = cells[k];
+        k += 1;
+    }
+}
+
+// A buffer for the cells of any text within the limit.
+fn blank() -> [u32; 65536]
+    ensures { λ r. ⌜ length r ≡ 65536 ⌝ }
+{
+    [0; 65536]
+}
+
+// Reads a text into an output. The whole text is judged before a cell is written there: it is read into a buffer of this call's own, since
+// a second pass costs more than a copy.
 pub fn read(text: &[u8], out: &mut [u32]) -> Answer
     ensures { λ r. ⌜ leaves r (now (out .exit)) ≡ readInto jp2 (now (text .entry)) (now (out .entry)) ⌝ }
 {
     if answer::over_limit(text.len()) {
         return answer::too_long();
     }
-    let found = count(text);
+    let mut cells = blank();
+    let found = decode(text, &mut cells);
     match found {
         Answer::Refused(_, _) => {
             return found;
@@ -493,7 +490,7 @@ pub fn read(text: &[u8], out: &mut [u32]) -> Answer
             if out.len() < n {
                 return Answer::Refused(Refusal::NoRoom, n);
             }
-            fill(text, out);
+            copy(&cells, n, out);
             found
         }
     }

@@ -9,7 +9,6 @@ ghost use lib.ListN.{length, take, drop};
 ghost use lib.Dec.{eqb, leb, ltb};
 ghost use Rattle.answer.specs.Output.{filled};
 ghost use Rattle.reading.specs.Reading.{reading};
-ghost use Rattle.reading.proofs.Laws.{Left};
 ghost use Rattle.reading.proofs.Filling.{Filling};
 ghost use Rattle.jp2.specs.Rule.{graphic, plain, state, cellOf, jp2};
 ghost use Rattle.jp2.specs.Writable.{ascii};
@@ -217,62 +216,6 @@ fn widen(text: &[u8], from: usize, to: usize, out: &mut [u32])
         out[k] = ascii_cell(text[from + k]);
         k += 1;
     }
-}
-
-// Counts the cells of a text.
-pub fn count(text: &[u8]) -> Reached
-    ensures { λ r. ⌜ Left jp2 (now (text .entry)) (r .at) (state (r .g0) (r .g2) plain) (r .n) ⌝ }
-{
-    let mut at: usize = 0;
-    let mut n: usize = 0;
-    let mut g0: u16 = 6;
-    let mut g2: u16 = 0;
-    while at + 4 <= text.len() {
-        let b = text[at];
-        if b == 27 {
-            let x = text[at + 1];
-            if x == 78 {
-                if !is_shifted(g2, text[at + 2]) {
-                    return Reached { at, n, g0, g2 };
-                }
-                n += 1;
-                at += 3;
-            } else {
-                let d = found(x, text[at + 2], text[at + 3]);
-                if d == 0 {
-                    return Reached { at, n, g0, g2 };
-                }
-                g0 = g0_after(g0, d);
-                g2 = g2_after(g2, d);
-                at += (d % 8) as usize;
-            }
-        } else {
-            if is_single(g0) {
-                if 32 <= b {
-                    if 128 <= b {
-                        return Reached { at, n, g0, g2 };
-                    }
-                    n += 1;
-                    at += 1;
-                } else {
-                    if !is_plain(b) {
-                        return Reached { at, n, g0, g2 };
-                    }
-                    g2 = cleared(g2, b, text[at + 1]);
-                    let end = stretch_end(text, at + 1, g0, g2);
-                    n += end - at;
-                    at = end;
-                }
-            } else {
-                if !is_pair(b, text[at + 1]) {
-                    return Reached { at, n, g0, g2 };
-                }
-                n += 1;
-                at += 2;
-            }
-        }
-    }
-    Reached { at, n, g0, g2 }
 }
 
 // A cell of a set of single bytes, of G2 and of a set of pairs.

@@ -2,7 +2,7 @@
 use Prim.Native.Nat.{ℕ, _+_, _<_, _≤_}
 use mathlib.Core.Path.{_≡_, refl, ap}
 use mathlib.Core.Bool.{true, false}
-use mathlib.Core.List.{List}
+use mathlib.Core.List.{List, [], _∷_}
 use native.Mathlib.Omega.{arith}
 use lib.ListN.{length, getD, drop, set}
 use lib.Dec.{ltb}
@@ -15,7 +15,7 @@ use Rattle.answer.specs.declared.Refusal.{Refusal}
 use Rattle.answer.specs.declared.Refusal.the-variants.{NoRoom}
 use Rattle.answer.proofs.Once.{number-pos}
 use Rattle.answer.proofs.Put.{Put, put-start, put-as, put-lt, put-next, put-done}
-use Rattle.reading.specs.Reading.{give, go, bad, Ending, accepted, fault, Rule, Reading, closing, verdictOf, onEnding, readFrom, reading, readInto}
+use Rattle.reading.specs.Reading.{Does, give, go, bad, onRead, Ending, accepted, fault, Rule, Reading, closing, verdictOf, onEnding, readFrom, reading, readInto}
 use Rattle.reading.proofs.Laws.{Kept, SoundEnd, good-reading, read-by, read-end, Left, left-start, left-give, left-go}
 
 -- n cells of a text stand in an output that has room for all
@@ -75,6 +75,9 @@ module _ {S : Type 0} {rule : Rule S} {Sound : S → Type 0} {Good : ℕ → Typ
       known : (reading rule s .ending ≡ accepted) × (n ≡ length (reading rule s .cells))
       known = accepted-by n (reading rule s .ending) (length (reading rule s .cells)) (good-reading kept s .1) (rw e at q)
 
+      pub into-count : n ≡ length (reading rule s .cells)
+      into-count = known .1
+
       pub into-room : n ≤ length out → length (reading rule s .cells) ≤ length out
       into-room r = omega (arith, known .1)
 
@@ -85,3 +88,22 @@ module _ {S : Type 0} {rule : Rule S} {Sound : S → Type 0} {Good : ℕ → Typ
       pub into-filled : {o : List ℕ} → n ≤ length out → o ≡ filled (reading rule s .cells) out → leaves a o ≡ readInto rule s out
       unfolding readInto deliver
       into-filled {o} r f = rw (h, known .0, e, f, ← known .1, le-ltb (length out) n r)
+
+-- a text has no more cells than bytes
+module _ {S : Type 0} (rule : Rule S) where
+  few-does :
+      (m : Does S) (at k : ℕ) (rest : S → Reading) → ((st : S) → length (rest st .cells) ≤ k) → length (onRead m at rest .cells) ≤ k + 1
+  few-does (give v st) at k rest ih = omega (arith, ih st)
+  few-does (go st) at k rest ih = omega (arith, ih st)
+  few-does (bad j) at k rest ih = omega arith
+
+  few-from : (bs : List ℕ) (at : ℕ) (st : S) → length (readFrom rule bs at st .cells) ≤ length bs
+  unfolding readFrom
+  few-from [] at st = omega arith
+  few-from (b ∷ bs) at st =
+      let h = few-does (rule .byte st b) at (length bs) (readFrom rule bs (at + 1)) (few-from bs (at + 1)) in
+      omega (arith, h)
+
+  pub few-cells : (s : List ℕ) → length (reading rule s .cells) ≤ length s
+  unfolding reading
+  few-cells s = few-from s 0 (rule .start)

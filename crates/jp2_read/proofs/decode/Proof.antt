@@ -1,14 +1,16 @@
 use Prim.Native.Nat.{ℕ, _-_, _<_}
+use mathlib.Core.Path.{_∙_}
 use native.Mathlib.Omega.{arith}
 use mathlib.Core.List.{List}
 use lib.ListN.{length}
 use borrow.Author.Needs.{needs}
+use Rattle.reading.proofs.Laws.{left-bad, left-end}
 use Rattle.reading.proofs.Filling.{Filling, filling-index, filling-give, filling-go, filling-bad, filling-end}
 use Rattle.jp2.specs.Rule.{jp2}
 use Rattle.jp2_read.specs.Cursor.{stateOf}
 use Rattle.jp2_read.proofs.Moves.{moved}
-use Rattle.jp2_read.proofs.fill.Statement.{statement}
-use Rattle.jp2_read.proofs.fill.Tie as tie
+use Rattle.jp2_read.proofs.decode.Statement.{statement}
+use Rattle.jp2_read.proofs.decode.Tie as tie
 
 abbrev Inv-loop : tie.InvT-loop
 Inv-loop text out₀ at₀ n₀ st₀ out at n st =
@@ -82,25 +84,32 @@ loop-again-2 c =
     let f = c .before .before .before in
     λ o q. filling-go (f .before .before .before .loop .inv o q) (f .before .before .loop-test .taken) (moved (f .feed .ensures) (c .before .state .given .1))
 
-enum-told : tie.Need-enum-told Inv-loop μ-loop
-enum-told c = search needs
+enum-known-why : tie.Need-enum-known-why Inv-loop μ-loop
+enum-known-why c = search needs
 
 same-length : tie.Need-same-length Inv-loop μ-loop
-same-length c = so (c .before .before .before .before .before) .put .same
+same-length c = so (c .before .before .before .before .before .before) .put .same
 
 returns : tie.Need-returns Inv-loop μ-loop
 returns c =
-    let f = c .before .before in
-    filling-bad (so (f .before .before .before)) (f .before .before .loop-test .taken) (moved (f .feed .ensures) (c .enum-told .given .1))
+    let f = c .before .before .before in
+    let l = so (f .before .before .before) in
+    let m = moved (f .feed .ensures) (c .before .why .given .1) in
+    (left-bad (l .left) (f .before .before .loop-test .taken) m .1, filling-bad l (f .before .before .loop-test .taken) m)
+
+finish-requires : tie.Need-finish-requires Inv-loop μ-loop
+finish-requires c κs = search needs
 
 same-length-2 : tie.Need-same-length-2 Inv-loop μ-loop
-same-length-2 c = so (c .before) .put .same
+same-length-2 c = so (c .before .before) .put .same
 
 returns-2 : tie.Need-returns-2 Inv-loop μ-loop
-returns-2 c = filling-end (so (c .before)) (c .loop-test .left)
+returns-2 c =
+    let l = so (c .before .before) in
+    (c .finish .ensures ∙ left-end (l .left) (c .before .loop-test .left) .1, filling-end l (c .before .loop-test .left))
 
-pub fill-spec : {M : Type 1} → statement M
-fill-spec =
+pub decode-spec : {M : Type 1} → statement M
+decode-spec =
     tie.close
     (tie.spec
     Inv-loop
@@ -121,8 +130,9 @@ fill-spec =
     add-at-2
     loop-less-2
     loop-again-2
-    enum-told
+    enum-known-why
     same-length
     returns
+    finish-requires
     same-length-2
     returns-2)
