@@ -1,25 +1,25 @@
 -- What the bytes of a token do together. Assumes nothing.
 use Prim.Native.Nat.{ℕ, zero, suc, _+_, _-_, _*_, _/_, _%_, _<_, _≤_}
 use mathlib.Core.Path.{_≡_, refl, sym, ap, _∙_}
-use mathlib.Core.Bool.{Bool, true, false, cond, _&&_, _||_, not, and-false, true≢false, false≢true}
+use mathlib.Core.Bool.{Bool, true, false, cond, _&&_, _||_, not, true≢false, false≢true}
 use mathlib.Core.List.{List, [], _∷_, _++_, map}
-use mathlib.Core.Logic.{_⊎_, inl, inr, ⊎-elim}
+use mathlib.Core.Logic.{_⊎_, ⊎-elim}
 use native.Mathlib.Omega.{arith}
 use native.Mathlib.Nat.{add-zero}
 use native.Mathlib.Numerals.{add-one}
-use lib.ListN.{length, getD, take, drop, length-drop, drop-of-length-le}
-use lib.Seq.{drop-cons, drop-drop, drop-at, length-take-le, getD-drop, getD-take}
-use lib.Dec.{leb, ltb, eqb, lit<, lit≤}
-use borrow.Author.Tests.{not-true, eqb-true, eqb-false, eq-eqb, ne-eqb, lt-ltb, le-ltb, le-leb, lt-leb, leb-true, ltb-true, ltb-false}
-use Rattle.answer.proofs.Below.{both, allBelow, below, cond-case}
-use Rattle.reading.specs.Reading.{Does, give, go, bad, Reading, onRead, readFrom, reading}
+use lib.ListN.{length, getD, take, drop, length-drop}
+use lib.Seq.{drop-cons, length-take-le, getD-drop, getD-take}
+use lib.Dec.{leb, ltb, eqb, lit<}
+use borrow.Author.Tests.{not-true, eqb-true, eqb-false, eq-eqb, ne-eqb, le-leb, lt-leb, leb-true, ltb-true, ltb-false}
+use Rattle.answer.proofs.Below.{both, allBelow, below}
+use Rattle.reading.specs.Reading.{give, readFrom}
 use Rattle.reading.proofs.Strides.{Stride, stride-stay, stride-give, stride-go, stride-on, stride-as, stride-to, stride-walk}
 use Rattle.jp2.specs.Table.{designations, noRow, rowAt, sent, begins}
-use Rattle.jp2.specs.Rule.{State, plain, return, first, shifted, escape, state, graphic, cellOf, designated, singleDoes, firstDoes, secondDoes, betweenDoes, shiftedDoes, escapeDoes, byteDoes, endsIn, jp2}
+use Rattle.jp2.specs.Rule.{State, plain, return, shifted, escape, state, graphic, cellOf, singleDoes, betweenDoes, byteDoes, endsIn, jp2}
 use Rattle.jp2.specs.Writable.{ascii}
-use Rattle.jp2.proofs.Sets.{single, differs, graphic-range}
-use Rattle.jp2.proofs.Rows.{phaseOf, byte-between, row-walk}
-use Rattle.jp2.proofs.Round.{byte-single, byte-first, byte-second, byte-n, byte-shifted}
+use Rattle.jp2.proofs.Sets.{single, differs}
+use Rattle.jp2.proofs.Rows.{byte-between, row-walk}
+use Rattle.jp2.proofs.Round.{byte-first, byte-second, byte-n, byte-shifted}
 use Rattle.jp2.specs.declared.Designation.{Designation}
 use Rattle.jp2.proofs.Search.{at-any}
 use Rattle.jp2.proofs.Table.{rows, table-rule, row-size}
@@ -95,13 +95,7 @@ module _ {s : List ℕ} {at g0 g2 : ℕ} (h : at < length s) (m : single g0 ≡ 
   unfolding graphic
   low-stride l k = rw (lt-leb 33 (getD s at 0) (omega arith)) at (single-stride s at g0 g2 h m k)
 
--- by its ranges
-pub ascii-below : (b : ℕ) → b < 14 → ascii b ≡ true
-unfolding ascii
-ascii-below b h =
-    let ne : (j : ℕ) → 14 ≤ j → eqb b j ≡ false = λ j q. ne-eqb b j (λ e. omega arith) in
-    simp (le-leb b 127 (omega arith), ne 14 (lit≤ tt), ne 15 (lit≤ tt), ne 27 (lit≤ tt))
-
+-- SO and SI
 pub ascii-out : (b : ℕ) → 14 ≤ b → b ≤ 15 → ascii b ≡ false
 unfolding ascii
 ascii-out b h k = go-by (eqb b 14) refl
@@ -111,12 +105,6 @@ ascii-out b h k = go-by (eqb b 14) refl
     go-by false e =
         let q : b ≡ 15 = omega (arith, eqb-false b 14 e) in
         rw q
-
-pub ascii-past : (b : ℕ) → 15 < b → b ≤ 127 → ascii b ≡ not (eqb b 27)
-unfolding ascii
-ascii-past b h k =
-    let ne : (j : ℕ) → j ≤ 15 → eqb b j ≡ false = λ j q. ne-eqb b j (λ e. omega arith) in
-    simp (le-leb b 127 k, ne 14 (lit≤ tt), ne 15 (lit≤ tt))
 
 -- a stretch of ASCII with nothing in G2
 cond-same : (t : Bool) (x : ℕ) → cond t x x ≡ x

@@ -1,9 +1,8 @@
-use Prim.Native.Nat.{_+_, _-_, _<_, _≤_}
-use mathlib.Core.Path.{_≡_, refl}
+use Prim.Native.Nat.{_+_, _-_, _≤_}
 use mathlib.Core.List.{_∷_}
 use native.Mathlib.Omega.{arith}
 use native.Mathlib.Numerals.{add-one}
-use lib.ListN.{length, getD, take, drop, drop-of-length-le}
+use lib.ListN.{getD, take, drop, drop-of-length-le}
 use lib.Seq.{length-take-le, drop-cons, getD-take}
 use borrow.Author.Needs.{needs}
 use Rattle.answer.proofs.Put.{Put, put-start, put-as, put-lt, put-next, put-done}

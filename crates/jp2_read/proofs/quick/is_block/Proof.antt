@@ -5,7 +5,6 @@ use native.Mathlib.Omega.{arith}
 use lib.ListN.{getD}
 use borrow.Author.Needs.{needs}
 use Rattle.jp2.specs.Writable.{ascii}
-use Rattle.jp2_read.specs.Quick.{Plains}
 use Rattle.jp2_read.proofs.Tokens.{each-more}
 use Rattle.jp2_read.proofs.quick.is_block.Statement.{statement}
 use Rattle.jp2_read.proofs.quick.is_block.Tie as tie
