@@ -65,7 +65,7 @@ pub fn read(format: Format, text: &[u8], out: &mut [u32]) -> Answer
     ensures { λ r. ⌜ leaves r (now (out .exit)) ≡ readIn format (now (text .entry)) (now (out .entry)) ⌝ }
 {
     match format {
-        Format::Utf7 => utf7_read::read(text, out),
+        Format::Utf7 => utf7_whole::read(text, out),
         Format::Jp2 => jp2_read::read(text, out),
         Format::Mailbox => mailbox_read::read(text, out),
     }
@@ -76,7 +76,7 @@ pub fn reads_as(format: Format, text: &[u8], cells: &[u32]) -> bool
     ensures { λ r. ⌜ r ≡ readsIn format (now (text .entry)) (now (cells .entry)) ⌝ }
 {
     match format {
-        Format::Utf7 => utf7_read::reads_as(text, cells),
+        Format::Utf7 => utf7_whole::reads_as(text, cells),
         Format::Jp2 => jp2_read::reads_as(text, cells),
         Format::Mailbox => mailbox_read::reads_as(text, cells),
     }

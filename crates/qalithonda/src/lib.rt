@@ -35,7 +35,7 @@ fn in_numbers(a: Answer) -> Numbers
 pub extern "C" fn qalithonda_utf7_read(text: &[u8], cells: &mut [u32]) -> Numbers
     ensures { λ r. ⌜ left r (now (cells .exit)) ≡ readInto utf7 (now (text .entry)) (now (cells .entry)) ⌝ }
 {
-    in_numbers(utf7_read::read(text, cells))
+    in_numbers(utf7_whole::read(text, cells))
 }
 
 #[no_mangle]

@@ -15,7 +15,7 @@ fn main() {
         show(Answer::Refused(Refusal::OverLimit, MOST), &cells[..0]);
         return;
     }
-    let found = utf7_read::read(&text[..got], &mut cells);
+    let found = utf7_whole::read(&text[..got], &mut cells);
     let count = answer::place(found);
     match found {
         Answer::Accepted(_) => {

@@ -3,7 +3,7 @@ use Rattle.codec.specs.Kinds.{readingOf, readIn}
 use borrow.Author.Needs.{needs}
 use Rattle.codec.proofs.read.Statement.{statement}
 use Rattle.codec.proofs.read.Tie as tie
-use Rattle.utf7_read.proofs.read.Reads as read-reads′
+use Rattle.utf7_whole.proofs.read.Reads as read-reads′
 
 enum-told : tie.Need-enum-told
 enum-told c = search needs

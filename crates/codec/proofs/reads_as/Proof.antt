@@ -3,7 +3,7 @@ use Rattle.codec.specs.Kinds.{readingOf, readsIn}
 use borrow.Author.Needs.{needs}
 use Rattle.codec.proofs.reads_as.Statement.{statement}
 use Rattle.codec.proofs.reads_as.Tie as tie
-use Rattle.utf7_read.proofs.reads_as.Reads as reads-as-reads′
+use Rattle.utf7_whole.proofs.reads_as.Reads as reads-as-reads′
 
 enum-told : tie.Need-enum-told
 enum-told c = search needs

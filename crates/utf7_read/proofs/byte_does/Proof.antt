@@ -1,0 +1,15 @@
+use borrow.Author.Needs.{needs}
+use Rattle.utf7_read.proofs.byte_does.Statement.{statement}
+use Rattle.utf7_read.proofs.byte_does.Tie as tie
+
+settled-requires : tie.Need-settled-requires
+settled-requires c κs = search needs
+
+feed-requires : tie.Need-feed-requires
+feed-requires c κs = c .settled .ensures .0
+
+returns : tie.Need-returns
+returns c = rw (← c .before .settled .ensures .1) (c .feed .ensures)
+
+pub byte-does-spec : {M : Type 1} → statement M
+byte-does-spec = tie.close (tie.spec settled-requires feed-requires returns)

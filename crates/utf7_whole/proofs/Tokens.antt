@@ -1,0 +1,437 @@
+-- What whole stretches and runs read as, and the bits of runs. Assumes nothing.
+use Prim.Native.Nat.{ℕ, zero, suc, _+_, _-_, _*_, _/_, _%_, _^_, _<_, _≤_}
+use mathlib.Core.Path.{_≡_, refl, sym, ap, _∙_}
+use mathlib.Core.Bool.{Bool, true, false, cond, _&&_, _||_, not}
+use mathlib.Core.List.{List, [], _∷_, _++_, append-assoc, append-nil, map}
+use native.Mathlib.Omega.{arith}
+use native.Mathlib.Nat.{add-zero}
+use native.Mathlib.Numerals.{add-one}
+use lib.ListN.{length, getD, take, drop, set, length-append, length-map, length-drop, take-append-drop, drop-of-length-le}
+use lib.Seq.{slice, slice-cons, slice-empty, length-slice, take-suc, getD-take, getD-drop, drop-cons, drop-drop, drop-append-add, drop-append-le, drop-at, length-take-le, getD-set-same, getD-set-other}
+use lib.Pow.{pow-pos}
+use lib.Dec.{leb, ltb, eqb, lit<}
+use borrow.Author.Tests.{ltb-true, ltb-false, eqb-true, eqb-false, lt-ltb}
+use Rattle.answer.specs.Lists.{Each}
+use Rattle.answer.specs.Output.{filled}
+use Rattle.answer.proofs.Below.{cond-case, allBelow, below, same, same-eq}
+use Rattle.answer.proofs.Put.{Put, put-lt, put-next}
+use Rattle.bits.specs.Bits.{bits, allZero, bitsOf, full, leftOver}
+use Rattle.bits.proofs.Bits.{length-bits, number-bits, bits-append, parted, bits-drop}
+use Rattle.bits.proofs.Groups.{length-bitsOf, length-groups, full-more, full-few}
+use Rattle.base64.specs.Letters.{valueOf, setB, slash}
+use Rattle.reading.specs.Reading.{give, go, bad, Reading, onRead, readFrom, reading}
+use Rattle.reading.proofs.Laws.{Left}
+use Rattle.reading.proofs.Filling.{Filling}
+use Rattle.reading.proofs.Walk.{Walk, stay, gives, goes}
+use Rattle.reading.proofs.Strides.{Stride, left-stride, stride-go, stride-on, stride-as, stride-to, stride-walk}
+use Rattle.utf7.specs.Sets.{alphanumeric, setD, setO, direct}
+use Rattle.utf7.specs.Rule.{Shift, outside, run, mayEnd, endDoes, lowDoes, byteDoes, utf7}
+use Rattle.utf7.specs.Writing.{sign, spell}
+use Rattle.utf7.specs.declared.Style.the-variants.{Body}
+use Rattle.utf7.proofs.Round.{Letters, whole-run, self-walk, close-run, piece-walk}
+use Rattle.utf7_whole.specs.Quick.{Span, Over, Run, Values, bitsIn, unitsIn, past}
+use Rattle.utf7_read.proofs.Moves.{may-end}
+
+-- the tests of bytes, by computing them
+direct-tests : allBelow (λ k. same ((((((leb 32 k && leb k 125) && not (eqb k 43)) && not (eqb k 92)) || eqb k 9) || eqb k 10) || eqb k 13) (direct k)) 256 ≡ true
+unfolding allBelow direct setD setO alphanumeric
+direct-tests = refl
+
+pub direct-test : (b : ℕ) → b < 256 → ((((((leb 32 b && leb b 125) && not (eqb b 43)) && not (eqb b 92)) || eqb b 9) || eqb b 10) || eqb b 13) ≡ direct b
+direct-test b h = sym (same-eq _ _ (below (λ k. same ((((((leb 32 k && leb k 125) && not (eqb k 43)) && not (eqb k 92)) || eqb k 9) || eqb k 10) || eqb k 13) (direct k)) 256 direct-tests b h))
+
+letter-tests : allBelow (λ k. same (((((leb 65 k && leb k 90) || (leb 97 k && leb k 122)) || (leb 48 k && leb k 57)) || eqb k 43) || eqb k 47) (setB slash k)) 256 ≡ true
+unfolding allBelow setB valueOf
+letter-tests = refl
+
+pub letter-test : (b : ℕ) → b < 256 → (((((leb 65 b && leb b 90) || (leb 97 b && leb b 122)) || (leb 48 b && leb b 57)) || eqb b 43) || eqb b 47) ≡ setB slash b
+letter-test b h = sym (same-eq _ _ (below (λ k. same (((((leb 65 k && leb k 90) || (leb 97 k && leb k 122)) || (leb 48 k && leb k 57)) || eqb k 43) || eqb k 47) (setB slash k)) 256 letter-tests b h))
+
+-- the rule of the letters, by the order of their codes
+abbrev pub worth : ℕ → ℕ
+worth b = cond (leb 97 b) (b - 97 + 26) (cond (leb 65 b) (b - 65 + 0) (cond (leb 48 b) (b - 48 + 52) (cond (eqb b 43) 62 63)))
+
+value-tests : allBelow (λ k. not (setB slash k) || eqb (worth k) (valueOf slash k)) 256 ≡ true
+unfolding allBelow setB valueOf
+value-tests = refl
+
+pub value-test : (b : ℕ) → b < 256 → setB slash b ≡ true → worth b ≡ valueOf slash b
+value-test b h e = eqb-true _ _ (rw e at (below (λ k. not (setB slash k) || eqb (worth k) (valueOf slash k)) 256 value-tests b h))
+
+-- bytes of a set side by side: none, one more, and further ones
+module _ {set : ℕ → Bool} {s : List ℕ} where
+  pub span-stay : (at : ℕ) → at ≤ length s → Span set s at at
+  span-stay at h = record { ordered = omega arith; within = h; each = λ i l m. absurd (omega arith) }
+
+  pub span-more : {from to : ℕ} → Span set s from to → to < length s → set (getD s to 0) ≡ true → Span set s from (to + 1)
+  span-more {from} {to} p h e =
+      record { ordered = omega (arith, p .ordered); within = omega arith; each = λ i l m. at i l m (eqb i to) refl }
+    where
+      at : (i : ℕ) → from ≤ i → i < to + 1 → (t : Bool) → eqb i to ≡ t → set (getD s i 0) ≡ true
+      at i l m true q = rw (eqb-true i to q) e
+      at i l m false q = p .each i l (omega (arith, eqb-false i to q))
+
+  pub span-on : {a b c : ℕ} → Span set s a b → Span set s b c → Span set s a c
+  span-on {a} {b} {c} p q =
+      record { ordered = omega (arith, p .ordered, q .ordered); within = q .within; each = λ i l m. at i l m (ltb i b) refl }
+    where
+      at : (i : ℕ) → a ≤ i → i < c → (t : Bool) → ltb i b ≡ t → set (getD s i 0) ≡ true
+      at i l m true e = p .each i l (ltb-true i b e)
+      at i l m false e = q .each i (ltb-false i b e) m
+
+  -- its later part, and all of it as a list
+  pub span-from : {from to : ℕ} (at : ℕ) → Span set s from to → from ≤ at → at ≤ to → Span set s at to
+  span-from at p h k = record { ordered = k; within = p .within; each = λ i l m. p .each i (omega arith) m }
+
+each-by : (P : ℕ → Type 0) (l : List ℕ) → ((i : ℕ) → i < length l → P (getD l i 0)) → Each P l
+each-by P [] f = tt
+each-by P (x ∷ l) f = (f 0 (omega arith), each-by P l (λ i h. f (suc i) (omega arith)))
+
+slice-at : (s : List ℕ) (from to i : ℕ) → from + i < to → getD (slice from to s) i 0 ≡ getD s (from + i) 0
+slice-at s from to i h = getD-drop from (take to s) i 0 ∙ getD-take to s (from + i) 0 h
+
+pub span-each : {set : ℕ → Bool} {s : List ℕ} {from to : ℕ} → Span set s from to → Each (λ b. set b ≡ true) (slice from to s)
+span-each {set} {s} {from} {to} p =
+    each-by (λ b. set b ≡ true) (slice from to s)
+    (λ i h.
+    let k : from + i < to = omega (arith, length-slice from to s (p .within)) in
+    rw (slice-at s from to i k) (p .each (from + i) (omega arith) k))
+
+slice-rest : (s : List ℕ) (from to : ℕ) → from ≤ to → to ≤ length s → drop from s ≡ slice from to s ++ drop to s
+slice-rest s from to h k =
+    ap (drop from) (sym (take-append-drop to s)) ∙ drop-append-le from (take to s) (drop to s) (omega (arith, length-take-le to s k))
+
+at-cons : (s : List ℕ) (at : ℕ) → at < length s → drop at s ≡ getD s at 0 ∷ drop (at + 1) s
+at-cons s at h = rw (add-one at) (drop-cons s at 0 h)
+
+-- bytes that stand for themselves
+direct-walk : (bs : List ℕ) → Each (λ b. direct b ≡ true) bs → Walk utf7 outside bs bs outside
+direct-walk [] h = stay
+direct-walk (b ∷ bs) h = gives (self-walk b (h .0)) (direct-walk bs (h .1))
+
+pub direct-stride : {s : List ℕ} {from to : ℕ} → Span direct s from to → Stride utf7 s from outside to (slice from to s) outside
+direct-stride {s} {from} {to} p =
+    stride-to (stride-walk (drop to s) (direct-walk (slice from to s) (span-each p)) (slice-rest s from to (p .ordered) (p .within)) (omega (arith, p .ordered, p .within)))
+    (omega (arith, length-slice from to s (p .within), p .ordered))
+
+-- the sign by itself
+pub sign-stride : {s : List ℕ} {at : ℕ} → at + 1 < length s → getD s at 0 ≡ 43 → getD s (at + 1) 0 ≡ 45 → Stride utf7 s at outside (at + 2) (43 ∷ []) outside
+unfolding spell
+sign-stride {s} {at} h a b =
+    let q = at-cons s at (omega arith) ∙ ap (λ (r : List ℕ). getD s at 0 ∷ r) (at-cons s (at + 1) h) in
+    let two : at + 1 + 1 ≡ at + 2 = omega arith in
+    stride-walk (drop (at + 2) s) (piece-walk Body tt sign tt) (rw (a, b, two) at q) (omega arith)
+
+-- a byte that is no letter and no '-' is read as outside the run that it ends
+ended : (b : ℕ) (f : List Bool) → setB slash b ≡ false → eqb b 45 ≡ false → mayEnd f ≡ true → byteDoes (run f) b ≡ byteDoes outside b
+unfolding byteDoes lowDoes endDoes
+ended b f o n m = rw (o, m, n)
+
+-- a run: its letters, and what stands behind them
+module _ {s : List ℕ} {at to : ℕ} (sign : getD s at 0 ≡ 43) (r : Run s (at + 1) to) where
+  letters-stride : Stride utf7 s at outside to (unitsIn s (at + 1) to) (run (leftOver 16 (bitsIn s (at + 1) to)))
+  letters-stride =
+      let ls = slice (at + 1) to s in
+      let n : length ls ≡ to - (at + 1) = length-slice (at + 1) to s (omega (arith, r .inside)) in
+      let d : drop at s ≡ 43 ∷ (ls ++ drop to s) =
+      at-cons s at (omega (arith, r .some, r .inside)) ∙ rw (sign, slice-rest s (at + 1) to (omega (arith, r .some)) (omega (arith, r .inside))) in
+      stride-to (stride-walk (drop to s) (whole-run ls (omega (arith, r .some)) (span-each (r .letters))) d (omega (arith, r .some, r .inside)))
+      (omega (arith, r .some))
+
+  ends-at : (t : Bool) → eqb (getD s to 0) 45 ≡ t → Stride utf7 s at outside (cond t (to + 1) to) (unitsIn s (at + 1) to) outside
+  unfolding readFrom
+  ends-at true e =
+      let c : byteDoes (run (leftOver 16 (bitsIn s (at + 1) to))) (getD s to 0) ≡ go outside = rw (eqb-true (getD s to 0) 45 e) (close-run _ (r .ends)) in
+      rw append-nil at (stride-on letters-stride (stride-go (r .inside) c))
+  ends-at false e = stride-as letters-stride (rw (at-cons s to (r .inside), ended (getD s to 0) (leftOver 16 (bitsIn s (at + 1) to)) (r .over) e (r .ends)))
+
+  pub run-stride : Stride utf7 s at outside (past s to) (unitsIn s (at + 1) to) outside
+  run-stride = ends-at (eqb (getD s to 0) 45) refl
+
+pub past-on : (s : List ℕ) (to : ℕ) → to ≤ past s to
+past-on s to = cond-case (λ (k : ℕ). to ≤ k) (eqb (getD s to 0) 45) (λ _. omega arith) (λ _. omega arith)
+
+-- so many cells further on
+pub left-by : {s : List ℕ} {at to n k : ℕ} {cs : List ℕ} → Left utf7 s at outside n → Stride utf7 s at outside to cs outside → length cs ≡ k → Left utf7 s to outside (n + k)
+left-by l a e = rw e at (left-stride a l)
+
+pub filling-within : {s : List ℕ} {at n : ℕ} {out₀ out : List ℕ} → Filling utf7 s at outside n out₀ out → n ≤ length out
+filling-within f = let p = f .put in omega (arith, p .upto, p .room, p .same)
+
+-- filling goes on in another loop, from the output as the first one left it
+module _ {s : List ℕ} {at n : ℕ} {out₀ out : List ℕ} (f : Filling utf7 s at outside n out₀ out) where
+  rest-same : drop n out ≡ drop n out₀
+  rest-same =
+      let p = f .put in
+      ap (drop n) (p .front) ∙ drop-at (take n (reading utf7 s .cells)) (drop n out₀) n (length-take-le n (reading utf7 s .cells) (p .upto))
+
+  pub filling-again : Filling utf7 s at outside n out out
+  filling-again =
+      let p = f .put in
+      record {
+        left = f .left;
+        put = record {
+          room = omega (arith, p .room, p .same);
+          upto = p .upto;
+          left = p .left;
+          front = p .front ∙ ap (λ (r : List ℕ). take n (reading utf7 s .cells) ++ r) (sym rest-same);
+          same = refl;
+        };
+      }
+
+  pub filled-again : filled (reading utf7 s .cells) out ≡ filled (reading utf7 s .cells) out₀
+  filled-again =
+      let cs = reading utf7 s .cells in
+      let k = length cs - n in
+      let e : n + k ≡ length cs = omega (arith, f .put .upto) in
+      let d = sym (drop-drop k n out) ∙ ap (drop k) rest-same ∙ drop-drop k n out₀ in
+      ap (λ (r : List ℕ). cs ++ r) (ap (λ (m : ℕ). drop m out) (sym e) ∙ d ∙ ap (λ (m : ℕ). drop m out₀) e)
+
+-- how many units letters hold
+pub length-units : (s : List ℕ) (from to : ℕ) → to ≤ length s → length (unitsIn s from to) ≡ (to - from) * 6 / 16
+unfolding full
+length-units s from to h =
+    length-groups 16 _ (bitsIn s from to) ∙ simp (length-bitsOf, length-map, length-slice from to s h)
+
+-- bits behind bits, before others
+join : (m n x y : ℕ) (rest : List Bool) → x < 2 ^ m → y < 2 ^ n → bits m x ++ (bits n y ++ rest) ≡ bits (m + n) (x * 2 ^ n + y) ++ rest
+join m n x y rest h k = sym (append-assoc (bits m x) (bits n y) rest) ∙ ap (λ (b : List Bool). b ++ rest) (bits-append m n x y h k)
+
+-- the first unit of bits
+unit-first : (u : ℕ) (rest : List Bool) → u < 2 ^ 16 → full 16 (bits 16 u ++ rest) ≡ u ∷ full 16 rest
+unit-first u rest h = full-more 16 (lit< tt) (bits 16 u) rest (length-bits 16 u) ∙ rw (number-bits 16 u h)
+
+-- the three units of eight letters
+module _ (a b c : ℕ) (rest : List Bool) (ha : a < 64) (hb : b < 64) (hc : c < 64) where
+  abbrev pub one : ℕ
+  one = (a * 64 + b) * 16 + c / 4
+
+  pub first-bits : bits 6 a ++ (bits 6 b ++ (bits 6 c ++ rest)) ≡ bits 16 one ++ (bits 2 (c % 4) ++ rest)
+  first-bits =
+      join 6 6 a b (bits 6 c ++ rest) ha hb
+      ∙ rw (parted 4 2 c hc, append-assoc (bits 4 (c / 4)) (bits 2 (c % 4)) rest)
+      (join 12 4 (a * 64 + b) (c / 4) (bits 2 (c % 4) ++ rest) (omega arith) (omega arith))
+
+module _ (c d e f : ℕ) (rest : List Bool) (hd : d < 64) (he : e < 64) (hf : f < 64) where
+  abbrev pub two : ℕ
+  two = ((c % 4 * 64 + d) * 64 + e) * 4 + f / 16
+
+  pub second-bits : bits 2 (c % 4) ++ (bits 6 d ++ (bits 6 e ++ (bits 6 f ++ rest))) ≡ bits 16 two ++ (bits 4 (f % 16) ++ rest)
+  second-bits =
+      join 2 6 (c % 4) d (bits 6 e ++ (bits 6 f ++ rest)) (omega arith) hd
+      ∙ join 8 6 (c % 4 * 64 + d) e (bits 6 f ++ rest) (omega arith) he
+      ∙ rw (parted 2 4 f hf, append-assoc (bits 2 (f / 16)) (bits 4 (f % 16)) rest)
+      (join 14 2 ((c % 4 * 64 + d) * 64 + e) (f / 16) (bits 4 (f % 16) ++ rest) (omega arith) (omega arith))
+
+module _ (f g h : ℕ) (rest : List Bool) (hg : g < 64) (hh : h < 64) where
+  abbrev pub three : ℕ
+  three = (f % 16 * 64 + g) * 64 + h
+
+  pub third-bits : bits 4 (f % 16) ++ (bits 6 g ++ (bits 6 h ++ rest)) ≡ bits 16 three ++ rest
+  third-bits =
+      join 4 6 (f % 16) g (bits 6 h ++ rest) (omega arith) hg
+      ∙ join 10 6 (f % 16 * 64 + g) h rest (omega arith) hh
+
+-- the value of a letter
+letter-low : (b : ℕ) → setB slash b ≡ true → valueOf slash b < 64
+unfolding setB
+letter-low b h = ltb-true (valueOf slash b) 64 h
+
+-- the units that eight values hold
+abbrev pub firstOf : List ℕ → ℕ
+firstOf xs = (getD xs 0 0 * 64 + getD xs 1 0) * 16 + getD xs 2 0 / 4
+
+abbrev pub secondOf : List ℕ → ℕ
+secondOf xs = ((getD xs 2 0 % 4 * 64 + getD xs 3 0) * 64 + getD xs 4 0) * 4 + getD xs 5 0 / 16
+
+abbrev pub thirdOf : List ℕ → ℕ
+thirdOf xs = (getD xs 5 0 % 16 * 64 + getD xs 6 0) * 64 + getD xs 7 0
+
+-- the values of the first eight letters from one place to another
+pub record Known (s : List ℕ) (at to : ℕ) (xs : List ℕ) : Type 0 where
+  pub so : (k : ℕ) → k < 8 → at + k < to → getD xs k 0 ≡ valueOf slash (getD s (at + k) 0)
+
+pub known : {s : List ℕ} {at to : ℕ} {xs : List ℕ} → Span (setB slash) s at to → Values s at xs → Known s at to xs
+known {at = at} p v = record { so = λ k h l. v .so k h (p .each (at + k) (omega arith) l) }
+
+-- letters from a place on, whose values are known
+module _ {s : List ℕ} {at to : ℕ} (p : Span (setB slash) s at to) {xs : List ℕ} (v : Known s at to xs) where
+  value-at : (k : ℕ) → k < 8 → at + k < to → getD xs k 0 ≡ valueOf slash (getD s (at + k) 0)
+  value-at k h l = v .so k h l
+
+  pub value-low : (k : ℕ) → k < 8 → at + k < to → getD xs k 0 < 64
+  value-low k h l = rw (value-at k h l) (letter-low _ (p .each (at + k) (omega arith) l))
+
+  bits-step : (k j : ℕ) → k + 1 ≡ j → k < 8 → at + k < to → bitsIn s (at + k) to ≡ bits 6 (getD xs k 0) ++ bitsIn s (at + j) to
+  unfolding bitsOf
+  bits-step k j e h l =
+      let q : suc (at + k) ≡ at + j = omega arith in
+      let c : slice (at + k) to s ≡ getD s (at + k) 0 ∷ slice (at + j) to s = rw q at (slice-cons (at + k) to s 0 l (p .within)) in
+      ap (λ (r : List ℕ). bitsOf 6 (map (valueOf slash) r)) c ∙ ap (λ (v : ℕ). bits 6 v ++ bitsIn s (at + j) to) (sym (value-at k h l))
+
+  bits-start : at < to → bitsIn s at to ≡ bits 6 (getD xs 0 0) ++ bitsIn s (at + 1) to
+  bits-start l =
+      let z : at + 0 ≡ at = omega arith in
+      rw z at (bits-step 0 1 refl (lit< tt) (omega arith))
+
+  abbrev x : ℕ → ℕ
+  x k = getD xs k 0
+
+  module _ (h : at + 3 ≤ to) where
+    after-one : unitsIn s at to ≡ firstOf xs ∷ full 16 (bits 2 (x 2 % 4) ++ bitsIn s (at + 3) to)
+    after-one =
+        let a = value-low 0 (lit< tt) (omega arith) in
+        let b = value-low 1 (lit< tt) (omega arith) in
+        let c = value-low 2 (lit< tt) (omega arith) in
+        rw (bits-start (omega arith), bits-step 1 2 refl (lit< tt) (omega arith), bits-step 2 3 refl (lit< tt) (omega arith), first-bits (x 0) (x 1) (x 2) (bitsIn s (at + 3) to) a b c)
+        (unit-first (firstOf xs) _ (omega arith))
+
+    pub one-unit : to < at + 6 → unitsIn s at to ≡ firstOf xs ∷ []
+    one-unit k =
+        let f : full 16 (bits 2 (x 2 % 4) ++ bitsIn s (at + 3) to) ≡ [] =
+        full-few 16 (lit< tt) _ (simp (length-append, length-bits, length-bitsOf, length-map, length-slice (at + 3) to s (p .within)) (omega arith)) in
+        after-one ∙ rw f
+
+    module _ (h6 : at + 6 ≤ to) where
+      after-two : unitsIn s at to ≡ firstOf xs ∷ secondOf xs ∷ full 16 (bits 4 (x 5 % 16) ++ bitsIn s (at + 6) to)
+      after-two =
+          let d = value-low 3 (lit< tt) (omega arith) in
+          let e = value-low 4 (lit< tt) (omega arith) in
+          let f = value-low 5 (lit< tt) (omega arith) in
+          let q : full 16 (bits 2 (x 2 % 4) ++ bitsIn s (at + 3) to) ≡ secondOf xs ∷ full 16 (bits 4 (x 5 % 16) ++ bitsIn s (at + 6) to) =
+          rw (bits-step 3 4 refl (lit< tt) (omega arith), bits-step 4 5 refl (lit< tt) (omega arith), bits-step 5 6 refl (lit< tt) (omega arith), second-bits (x 2) (x 3) (x 4) (x 5) (bitsIn s (at + 6) to) d e f)
+          (unit-first (secondOf xs) _ (omega arith)) in
+          after-one ∙ rw q
+
+      pub two-units : to < at + 8 → unitsIn s at to ≡ firstOf xs ∷ secondOf xs ∷ []
+      two-units k =
+          let f : full 16 (bits 4 (x 5 % 16) ++ bitsIn s (at + 6) to) ≡ [] =
+          full-few 16 (lit< tt) _ (simp (length-append, length-bits, length-bitsOf, length-map, length-slice (at + 6) to s (p .within)) (omega arith)) in
+          after-two ∙ rw f
+
+      pub three-units : at + 8 ≤ to → unitsIn s at to ≡ firstOf xs ∷ secondOf xs ∷ thirdOf xs ∷ unitsIn s (at + 8) to
+      three-units h8 =
+          let g = value-low 6 (lit< tt) (omega arith) in
+          let h = value-low 7 (lit< tt) (omega arith) in
+          let q : full 16 (bits 4 (x 5 % 16) ++ bitsIn s (at + 6) to) ≡ thirdOf xs ∷ unitsIn s (at + 8) to =
+          rw (bits-step 6 7 refl (lit< tt) (omega arith), bits-step 7 8 refl (lit< tt) (omega arith), third-bits (x 5) (x 6) (x 7) (bitsIn s (at + 8) to) g h)
+          (unit-first (thirdOf xs) _ (omega arith)) in
+          after-two ∙ rw q
+
+-- three letters, by the values of each
+pub three-known :
+    (s : List ℕ) (from a b c : ℕ) → a ≡ valueOf slash (getD s from 0) → b ≡ valueOf slash (getD s (from + 1) 0) → c ≡ valueOf slash (getD s (from + 2) 0) →
+    Known s from (from + 3) (a ∷ b ∷ c ∷ [])
+three-known s from a b c ea eb ec = record { so = at }
+  where
+    at : (k : ℕ) → k < 8 → from + k < from + 3 → getD (a ∷ b ∷ c ∷ []) k 0 ≡ valueOf slash (getD s (from + k) 0)
+    at zero h l = rw (add-zero from) ea
+    at (suc zero) h l = eb
+    at (suc (suc zero)) h l = ec
+    at (suc (suc (suc k))) h l = absurd (omega arith)
+
+pub no-unit : {s : List ℕ} {at to : ℕ} → Span (setB slash) s at to → to < at + 3 → unitsIn s at to ≡ []
+no-unit {s} {at} {to} p k = full-few 16 (lit< tt) _ (simp (length-bitsOf, length-map, length-slice at to s (p .within)) (omega arith))
+
+-- the bits of so many letters that make no unit, counted from the last letter's first
+left-none : (l q : ℕ) → l ≡ 8 * q → 0 < l → l * 6 / 16 * 16 ≡ (l - 1) * 6 + 6
+left-none l q e p = rw e (omega (arith, e))
+
+left-two : (l q : ℕ) → l ≡ 8 * q + 3 → l * 6 / 16 * 16 ≡ (l - 1) * 6 + 4
+left-two l q e = rw e (omega arith)
+
+left-four : (l q : ℕ) → l ≡ 8 * q + 6 → l * 6 / 16 * 16 ≡ (l - 1) * 6 + 2
+left-four l q e = rw e (omega arith)
+
+-- the bits that letters leave over: those of the last one
+bits-snoc : (ls : List ℕ) (b : ℕ) → bitsOf 6 (map (valueOf slash) (ls ++ b ∷ [])) ≡ bitsOf 6 (map (valueOf slash) ls) ++ bits 6 (valueOf slash b)
+unfolding bitsOf
+bits-snoc [] b = append-nil (bits 6 (valueOf slash b))
+bits-snoc (l ∷ ls) b =
+    rw (bits-snoc ls b) (sym (append-assoc (bits 6 (valueOf slash l)) (bitsOf 6 (map (valueOf slash) ls)) (bits 6 (valueOf slash b))))
+
+module _ {s : List ℕ} {from to : ℕ} (p : Span (setB slash) s from to) (some : from < to) where
+  abbrev final : ℕ
+  final = valueOf slash (getD s (to - 1) 0)
+
+  slice-snoc : slice from to s ≡ slice from (to - 1) s ++ getD s (to - 1) 0 ∷ []
+  slice-snoc =
+      let e : suc (to - 1) ≡ to = omega arith in
+      let w = p .within in
+      let t : take to s ≡ take (to - 1) s ++ (getD s (to - 1) 0 ∷ []) = rw e at (take-suc s (to - 1) 0 (omega arith)) in
+      ap (drop from) t ∙ drop-append-le from (take (to - 1) s) (getD s (to - 1) 0 ∷ []) (omega (arith, length-take-le (to - 1) s (omega arith)))
+
+  left-last : (m : ℕ) → (to - from) * 6 / 16 * 16 ≡ (to - from - 1) * 6 + m → leftOver 16 (bitsIn s from to) ≡ drop m (bits 6 final)
+  unfolding leftOver
+  left-last m e =
+      let w = p .within in
+      let f = bitsIn s from (to - 1) in
+      let l : length (bitsIn s from to) ≡ (to - from) * 6 = simp (length-bitsOf, length-map, length-slice from to s w) in
+      let c : to - 1 - from ≡ to - from - 1 = omega arith in
+      let k : length f ≡ (to - from - 1) * 6 = simp (length-bitsOf, length-map, length-slice from (to - 1) s (omega arith), c) in
+      let b : bitsIn s from to ≡ f ++ bits 6 final = rw slice-snoc (bits-snoc (slice from (to - 1) s) (getD s (to - 1) 0)) in
+      rw (l, e, ← k, b) (drop-append-add f (bits 6 final) m)
+
+  -- a run may end: by how many letters stand behind the last eight, and by the last
+  pub ends-even : (to - from) % 8 ≡ 0 → mayEnd (leftOver 16 (bitsIn s from to)) ≡ true
+  unfolding mayEnd allZero bits
+  ends-even h = rw (left-last 6 (left-none (to - from) ((to - from) / 8) (omega arith) (omega arith)))
+
+  ends-by : (m n : ℕ) → m + n ≡ 6 → n < 6 → (to - from) * 6 / 16 * 16 ≡ (to - from - 1) * 6 + m → final % 2 ^ n ≡ 0 → mayEnd (leftOver 16 (bitsIn s from to)) ≡ true
+  ends-by m n e k l z =
+      let f : final < 2 ^ (m + n) = rw e (letter-low _ (p .each (to - 1) (omega arith) (omega arith))) in
+      let b : drop m (bits 6 final) ≡ bits n 0 = rw (e, z) at (bits-drop m n final f) in
+      rw (left-last m l, b) (may-end n 0 (pow-pos n) ∙ rw (lt-ltb n 6 k))
+
+  pub ends-three : (to - from) % 8 ≡ 3 → final % 4 ≡ 0 → mayEnd (leftOver 16 (bitsIn s from to)) ≡ true
+  ends-three h z = ends-by 4 2 refl (lit< tt) (left-two (to - from) ((to - from) / 8) (omega arith)) z
+
+  pub ends-six : (to - from) % 8 ≡ 6 → final % 16 ≡ 0 → mayEnd (leftOver 16 (bitsIn s from to)) ≡ true
+  ends-six h z = ends-by 2 4 refl (lit< tt) (left-four (to - from) ((to - from) / 8) (omega arith)) z
+
+-- three letters, and a byte that is none
+pub three-run :
+    (s : List ℕ) (from : ℕ) → from + 3 < length s → setB slash (getD s from 0) ≡ true → setB slash (getD s (from + 1) 0) ≡ true →
+    setB slash (getD s (from + 2) 0) ≡ true → setB slash (getD s (from + 3) 0) ≡ false → valueOf slash (getD s (from + 2) 0) % 4 ≡ 0 → Run s from (from + 3)
+three-run s from h a b c o z =
+    let two : from + 1 + 1 ≡ from + 2 = omega arith in
+    let three : from + 2 + 1 ≡ from + 3 = omega arith in
+    let last : from + 3 - 1 ≡ from + 2 = omega arith in
+    let p = span-more (span-more (span-stay {set = setB slash} {s = s} from (omega arith)) (omega arith) a) (omega arith) b in
+    let q : Span (setB slash) s from (from + 3) = rw three at (span-more (rw two at p) (omega arith) c) in
+    record {
+      some = omega arith;
+      letters = q;
+      inside = h;
+      over = o;
+      ends = ends-three q (omega arith) (omega arith) (rw last z);
+    }
+
+-- one more element of an array
+pub set-more :
+    (xs : List ℕ) (k v : ℕ) (Q : ℕ → ℕ → Type 0) → k < length xs → ((j : ℕ) → j < k → Q j (getD xs j 0)) → Q k v →
+    (j : ℕ) → j < k + 1 → Q j (getD (set xs k v) j 0)
+set-more xs k v Q h f g j l = at (eqb j k) refl
+  where
+    at : (t : Bool) → eqb j k ≡ t → Q j (getD (set xs k v) j 0)
+    at true e = rw (eqb-true j k e, getD-set-same xs k v 0 h) g
+    at false e = rw (getD-set-other xs k j v 0 (eqb-false j k e)) (f j (omega (arith, eqb-false j k e)))
+
+-- units put one behind another
+module _ {text out₀ out r : List ℕ} {n a b : ℕ} (p : Put text out₀ out n (a ∷ b ∷ r)) where
+  pub put-twice : Put text out₀ (set (set out n a) (n + 1) b) (n + 2) r
+  put-twice =
+      let q : n + 1 + 1 ≡ n + 2 = omega arith in
+      rw q at (put-next (put-next p))
+
+  pub put-lt-two : n + 1 < length (set out n a)
+  put-lt-two = put-lt (put-next p)
+
+module _ {text out₀ out r : List ℕ} {n a b c : ℕ} (p : Put text out₀ out n (a ∷ b ∷ c ∷ r)) where
+  pub put-thrice : Put text out₀ (set (set (set out n a) (n + 1) b) (n + 2) c) (n + 3) r
+  put-thrice =
+      let q : n + 2 + 1 ≡ n + 3 = omega arith in
+      rw q at (put-next (put-twice p))
+
+  pub put-lt-three : n + 2 < length (set (set out n a) (n + 1) b)
+  put-lt-three = put-lt (put-twice p)

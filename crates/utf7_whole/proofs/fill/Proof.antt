@@ -1,0 +1,122 @@
+use Prim.Native.Nat.{_-_, _<_}
+use mathlib.Core.Path.{_∙_}
+use native.Mathlib.Omega.{arith}
+use lib.ListN.{length}
+use borrow.Author.Needs.{needs}
+use Rattle.reading.proofs.Filling.{Filling, filling-index, filling-give, filling-go, filling-bad, filling-end}
+use Rattle.utf7.specs.Rule.{utf7}
+use Rattle.utf7_read.specs.Cursor.{shiftOf}
+use Rattle.utf7_read.proofs.Moves.{moved}
+use Rattle.utf7_whole.proofs.Tokens.{filling-again, filled-again}
+use Rattle.utf7_whole.proofs.fill.Statement.{statement}
+use Rattle.utf7_whole.proofs.fill.Tie as tie
+
+abbrev Inv-loop : tie.InvT-loop
+Inv-loop text out₀ at₀ n₀ st₀ out at n st = Filling utf7 text at (shiftOf st) n out₀ out
+
+abbrev μ-loop : tie.MeasureT-loop
+μ-loop text out₀ at₀ n₀ st₀ out at n st = length text - at
+
+fill-requires : tie.Need-fill-requires Inv-loop μ-loop
+fill-requires c κs = c .before .before .before .pre
+
+loop-holds : tie.Need-loop-holds Inv-loop μ-loop
+loop-holds c = filling-again (c .before .before .fill .ensures)
+
+shared-slice-read-byte-does : tie.Need-shared-slice-read-byte-does Inv-loop μ-loop
+shared-slice-read-byte-does c = search needs
+
+byte-does-requires : tie.Need-byte-does-requires Inv-loop μ-loop
+byte-does-requires c κs = search needs
+
+enum-known-value : tie.Need-enum-known-value Inv-loop μ-loop
+enum-known-value c = search needs
+
+-- the next cell has a place
+index : (c : tie.After-known-told Inv-loop μ-loop) → let l = c .before .before .before .before .before .before .loop in l .n < length (l .out)
+index c =
+    let f = c .before .before .before in
+    let i = f .before .before in
+    filling-index (i .before .loop .inv) (i .loop-test .taken) (moved (f .byte-does .ensures) (c .before .value .given .1) .0)
+
+mul-out : tie.Need-mul-out Inv-loop μ-loop
+mul-out c = omega (arith, index c)
+
+slice-write-out : tie.Need-slice-write-out Inv-loop μ-loop
+slice-write-out c = index c
+
+add-n : tie.Need-add-n Inv-loop μ-loop
+add-n c = search needs
+
+add-at : tie.Need-add-at Inv-loop μ-loop
+add-at c = search needs
+
+loop-less : tie.Need-loop-less Inv-loop μ-loop
+loop-less c = search needs
+
+loop-again : tie.Need-loop-again Inv-loop μ-loop
+loop-again c =
+    let f = c .before .before .before in
+    let i = f .before .before in
+    filling-give (i .before .loop .inv) (i .loop-test .taken) (moved (f .byte-does .ensures) (c .before .value .given .1) .0)
+
+enum-known-state : tie.Need-enum-known-state Inv-loop μ-loop
+enum-known-state c = search needs
+
+add-at-2 : tie.Need-add-at-2 Inv-loop μ-loop
+add-at-2 c = search needs
+
+loop-less-2 : tie.Need-loop-less-2 Inv-loop μ-loop
+loop-less-2 c = search needs
+
+loop-again-2 : tie.Need-loop-again-2 Inv-loop μ-loop
+loop-again-2 c =
+    let f = c .before .before .before in
+    let i = f .before .before in
+    filling-go (i .before .loop .inv) (i .loop-test .taken) (moved (f .byte-does .ensures) (c .before .state .given .1) .0)
+
+enum-told : tie.Need-enum-told Inv-loop μ-loop
+enum-told c = search needs
+
+same-length : tie.Need-same-length Inv-loop μ-loop
+same-length c = search needs
+
+returns : tie.Need-returns Inv-loop μ-loop
+returns c =
+    let f = c .before .before in
+    let i = f .before .before in
+    filling-bad (i .before .loop .inv) (i .loop-test .taken) (moved (f .byte-does .ensures) (c .enum-told .given .1) .0)
+    ∙ filled-again (i .before .before .before .before .fill .ensures)
+
+same-length-2 : tie.Need-same-length-2 Inv-loop μ-loop
+same-length-2 c = search needs
+
+returns-2 : tie.Need-returns-2 Inv-loop μ-loop
+returns-2 c = filling-end (c .before .loop .inv) (c .loop-test .left) ∙ filled-again (c .before .before .before .before .fill .ensures)
+
+pub fill-spec : {M : Type 1} → statement M
+fill-spec =
+    tie.close
+    (tie.spec
+    Inv-loop
+    μ-loop
+    fill-requires
+    loop-holds
+    shared-slice-read-byte-does
+    byte-does-requires
+    enum-known-value
+    mul-out
+    slice-write-out
+    add-n
+    add-at
+    loop-less
+    loop-again
+    enum-known-state
+    add-at-2
+    loop-less-2
+    loop-again-2
+    enum-told
+    same-length
+    returns
+    same-length-2
+    returns-2)
