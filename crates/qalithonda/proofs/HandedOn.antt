@@ -6,8 +6,9 @@ use Rattle.answer.specs.Answer.{Verdict, inNumbers}
 use Rattle.answer.specs.Output.{Outcome, leaves}
 use Rattle.answer.specs.declared.Answer.{Answer}
 use Rattle.jp2.specs.Tally.{Counts}
-use Rattle.qalithonda.specs.Numbers.{verdictIn, left, counted}
-use Rattle.qalithonda.specs.declared.Numbers.{Numbers}
+use Rattle.host_numbers.specs.Numbers.{verdictIn}
+use Rattle.qalithonda.specs.Numbers.{left, counted}
+use Rattle.host_numbers.specs.declared.Numbers.{Numbers}
 
 pub handed-on : (r : Numbers) (a : Answer) {out : List ℕ} {x : Outcome} → verdictIn r ≡ inNumbers a → leaves a out ≡ x → left r out ≡ x
 handed-on r a {out = out} e q = ap (λ (v : Verdict). record { verdict = v; out = out }) e ∙ q

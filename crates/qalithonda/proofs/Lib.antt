@@ -1,3 +1,2 @@
 pub mod HandedOn
 pub mod OnPages
-pub mod OnSteps

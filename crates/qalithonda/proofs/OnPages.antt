@@ -13,9 +13,9 @@ use Rattle.ledger.specs.Page.{State, stateOf, Outcome, leaves, keeps}
 use Rattle.ledger.specs.Calls.{over}
 use Rattle.ledger.specs.declared.Edited.{Edited}
 use Rattle.ledger.specs.declared.Page.{Page}
-use Rattle.qalithonda.specs.Numbers.{verdictIn}
+use Rattle.host_numbers.specs.Numbers.{verdictIn}
 use Rattle.qalithonda.specs.Pages.{kindOf, kindNumber, pageIn, hostPage, HostOutcome, hosted, noKind, onPage, finds, findsSaved}
-use Rattle.qalithonda.specs.declared.Numbers.{Numbers}
+use Rattle.host_numbers.specs.declared.Numbers.{Numbers}
 use Rattle.qalithonda.specs.declared.pages.HostPage.{HostPage}
 use Rattle.qalithonda.specs.declared.pages.HostEdited.{HostEdited}
 

@@ -1,13 +1,10 @@
--- The answer that crosses to C, and what a call leaves.
+-- What a call leaves, with the answer that crosses to C.
 use Prim.Native.Nat.{ℕ}
 use mathlib.Core.List.{List}
-use Rattle.answer.specs.Answer.{Verdict, numbered}
 use Rattle.answer.specs.Output.{Outcome}
 use Rattle.jp2.specs.Tally.{Counts}
-use Rattle.qalithonda.specs.declared.Numbers.{Numbers}
-
-abbrev pub verdictIn : Numbers → Verdict
-verdictIn r = numbered (r .number) (r .place)
+use Rattle.host_numbers.specs.Numbers.{verdictIn}
+use Rattle.host_numbers.specs.declared.Numbers.{Numbers}
 
 abbrev pub left : Numbers → List ℕ → Outcome
 left r out = record { verdict = verdictIn r; out = out }

@@ -9,8 +9,8 @@ use Rattle.codec.specs.declared.Kind.the-variants.{Utf7Header, Utf7Body, Jp2}
 use Rattle.ledger.specs.Page.{State, stateOf, Outcome}
 use Rattle.ledger.specs.Calls.{over}
 use Rattle.ledger.specs.declared.Page.{Page}
-use Rattle.qalithonda.specs.Numbers.{verdictIn}
-use Rattle.qalithonda.specs.declared.Numbers.{Numbers}
+use Rattle.host_numbers.specs.Numbers.{verdictIn}
+use Rattle.host_numbers.specs.declared.Numbers.{Numbers}
 use Rattle.qalithonda.specs.declared.pages.HostPage.{HostPage}
 use Rattle.qalithonda.specs.declared.pages.HostEdited.{HostEdited}
 

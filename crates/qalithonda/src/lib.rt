@@ -2,10 +2,10 @@
 pub mod pages;
 pub mod steps;
 
-use answer::Answer;
+use host_numbers::Numbers;
+use host_numbers::in_numbers;
 use utf7::Style;
 ghost use mathlib.Core.Path.{_≡_};
-ghost use Rattle.answer.specs.Answer.{inNumbers};
 ghost use Rattle.reading.specs.Reading.{readInto};
 ghost use Rattle.utf7.specs.Rule.{utf7};
 ghost use Rattle.utf7.specs.Writing.{writeInto};
@@ -14,22 +14,7 @@ ghost use Rattle.mailbox.specs.Rule.{mailbox};
 ghost use Rattle.jp2.specs.Rule.{jp2};
 ghost use Rattle.jp2.specs.Writing as jp2-writing;
 ghost use Rattle.jp2.specs.Tally.{tallyOf};
-ghost use Rattle.qalithonda.specs.Numbers.{verdictIn, left, counted};
-
-// An answer: its number, and its count or place.
-#[repr(C)]
-pub struct Numbers {
-    pub number: u32,
-    pub place: usize,
-}
-
-fn in_numbers(a: Answer) -> Numbers
-    ensures { λ r. ⌜ verdictIn r ≡ inNumbers a ⌝ }
-{
-    let number = answer::number(a);
-    let place = answer::place(a);
-    Numbers { number, place }
-}
+ghost use Rattle.qalithonda.specs.Numbers.{left, counted};
 
 #[no_mangle]
 pub extern "C" fn qalithonda_utf7_read(text: &[u8], cells: &mut [u32]) -> Numbers

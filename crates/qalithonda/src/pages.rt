@@ -1,9 +1,9 @@
 // The page for hosts: its five calls, with the kind as a number.
-use crate::Numbers;
-use crate::in_numbers;
 use answer::Answer;
 use answer::Refusal;
 use codec::Kind;
+use host_numbers::Numbers;
+use host_numbers::in_numbers;
 use ledger::Edited;
 use ledger::Page;
 ghost use mathlib.Core.Path.{_≡_};
@@ -13,7 +13,7 @@ ghost use mathlib.Core.List.{[]};
 ghost use Rattle.answer.specs.Answer.{inNumbers, numbered, limit, tooLong};
 ghost use Rattle.ledger.specs.Calls.{openOf, replaceOf, undoOf, redoOf, saveOf};
 ghost use Rattle.codec.specs.declared.Kind.the-variants.{Utf7Header, Utf7Body, Jp2};
-ghost use Rattle.qalithonda.specs.Numbers.{verdictIn};
+ghost use Rattle.host_numbers.specs.Numbers.{verdictIn};
 ghost use Rattle.qalithonda.specs.Pages.{kindOf, kindNumber, pageIn, hostPage, hosted, onPage, finds, findsSaved};
 
 // A page: its kind (0 UTF-7 header, 1 UTF-7 body, 2 JP-2) and its lengths.

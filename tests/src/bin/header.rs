@@ -14,7 +14,7 @@ use header::item::{self, Item};
 use header::{c, layout, rattle};
 
 const HEADER: &str = "include/qalithonda.h";
-const SOURCES: &str = "crates/qalithonda/src";
+const SOURCES: [&str; 3] = ["crates/qalithonda/src", "crates/host_numbers/src", "crates/host_steps/src"];
 const ANSWER: &str = "crates/answer/src/lib.rt";
 
 /// A check: its name, and what it found, good or bad.
@@ -28,12 +28,19 @@ fn declared() -> Result<Vec<Item>, String> {
     c::items(&text_of(Path::new(HEADER))?).map_err(|problem| format!("{HEADER}: {problem}"))
 }
 
+/// The Rattle files of a crate.
+fn sources(folder: &str) -> Result<Vec<PathBuf>, String> {
+    let entries = fs::read_dir(folder).map_err(|error| format!("cannot list {folder}: {error}"))?;
+    let files = entries.flatten().map(|entry| entry.path());
+    Ok(files.filter(|path| path.extension().is_some_and(|end| end == "rt")).collect())
+}
+
 /// The items of the library's source, of all its files.
 fn exported() -> Result<Vec<Item>, String> {
-    let folder = fs::read_dir(SOURCES).map_err(|error| format!("cannot list {SOURCES}: {error}"))?;
-    let mut files: Vec<PathBuf> = folder.flatten().map(|entry| entry.path()).collect();
-    files.retain(|path| path.extension().is_some_and(|end| end == "rt"));
-    files.push(PathBuf::from(ANSWER));
+    let mut files = vec![PathBuf::from(ANSWER)];
+    for folder in SOURCES {
+        files.extend(sources(folder)?);
+    }
     files.sort();
     let mut found = Vec::new();
     for path in files {

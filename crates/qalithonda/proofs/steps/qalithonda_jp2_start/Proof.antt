@@ -1,17 +1,12 @@
-use mathlib.Core.Path.{ap, _∙_}
-use Rattle.qalithonda.specs.Steps.{jp2Out}
 use borrow.Author.Needs.{needs}
 use Rattle.qalithonda.proofs.steps.qalithonda_jp2_start.Statement.{statement}
 use Rattle.qalithonda.proofs.steps.qalithonda_jp2_start.Tie as tie
 
-start-requires : tie.Need-start-requires
-start-requires c κs = search needs
-
-jp2-cursor-out-requires : tie.Need-jp2-cursor-out-requires
-jp2-cursor-out-requires c κs = search needs
+jp2-start-requires : tie.Need-jp2-start-requires
+jp2-start-requires c κs = search needs
 
 returns : tie.Need-returns
-returns c = c .jp2-cursor-out .ensures ∙ ap jp2Out (c .before .start .ensures)
+returns c = c .jp2-start .ensures
 
 pub qalithonda-jp2-start-spec : {M : Type 1} → statement M
-qalithonda-jp2-start-spec = tie.close (tie.spec start-requires jp2-cursor-out-requires returns)
+qalithonda-jp2-start-spec = tie.close (tie.spec jp2-start-requires returns)

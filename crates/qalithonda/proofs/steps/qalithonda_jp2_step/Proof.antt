@@ -1,46 +1,12 @@
-use Rattle.qalithonda.specs.Steps.{jp2Out}
-use Rattle.qalithonda.proofs.OnSteps.{cell-on, final-on}
 use borrow.Author.Needs.{needs}
 use Rattle.qalithonda.proofs.steps.qalithonda_jp2_step.Statement.{statement}
 use Rattle.qalithonda.proofs.steps.qalithonda_jp2_step.Tie as tie
 
-jp2-cursor-in-requires : tie.Need-jp2-cursor-in-requires
-jp2-cursor-in-requires c κs = search needs
-
-step-requires : tie.Need-step-requires
-step-requires c κs = search needs
-
-enum-known-found : tie.Need-enum-known-found
-enum-known-found c = search needs
-
-jp2-cursor-out-requires : tie.Need-jp2-cursor-out-requires
-jp2-cursor-out-requires c κs = search needs
-
-enum-known-found-2 : tie.Need-enum-known-found-2
-enum-known-found-2 c = search needs
-
-in-numbers-requires : tie.Need-in-numbers-requires
-in-numbers-requires c κs = search needs
+jp2-step-requires : tie.Need-jp2-step-requires
+jp2-step-requires c κs = search needs
 
 returns : tie.Need-returns
-returns c =
-    let s = c .before .before .before .before .before in
-    cell-on jp2Out _ _ _ _ (c .jp2-cursor-out .ensures) (rw (c .before .before .before .found .given .1, s .before .jp2-cursor-in .ensures) at (s .step .ensures))
-
-returns-2 : tie.Need-returns-2
-returns-2 c =
-    let s = c .before .before .before .before in
-    final-on jp2Out _ _ _ (c .in-numbers .ensures) (rw (c .before .before .found2 .given .1, s .before .jp2-cursor-in .ensures) at (s .step .ensures))
+returns c = c .jp2-step .ensures
 
 pub qalithonda-jp2-step-spec : {M : Type 1} → statement M
-qalithonda-jp2-step-spec =
-    tie.close
-    (tie.spec
-    jp2-cursor-in-requires
-    step-requires
-    enum-known-found
-    jp2-cursor-out-requires
-    enum-known-found-2
-    in-numbers-requires
-    returns
-    returns-2)
+qalithonda-jp2-step-spec = tie.close (tie.spec jp2-step-requires returns)

@@ -1,17 +1,12 @@
-use mathlib.Core.Path.{ap, _∙_}
-use Rattle.qalithonda.specs.Steps.{mailboxOut}
 use borrow.Author.Needs.{needs}
 use Rattle.qalithonda.proofs.steps.qalithonda_mailbox_start.Statement.{statement}
 use Rattle.qalithonda.proofs.steps.qalithonda_mailbox_start.Tie as tie
 
-start-requires : tie.Need-start-requires
-start-requires c κs = search needs
-
-mailbox-cursor-out-requires : tie.Need-mailbox-cursor-out-requires
-mailbox-cursor-out-requires c κs = search needs
+mailbox-start-requires : tie.Need-mailbox-start-requires
+mailbox-start-requires c κs = search needs
 
 returns : tie.Need-returns
-returns c = c .mailbox-cursor-out .ensures ∙ ap mailboxOut (c .before .start .ensures)
+returns c = c .mailbox-start .ensures
 
 pub qalithonda-mailbox-start-spec : {M : Type 1} → statement M
-qalithonda-mailbox-start-spec = tie.close (tie.spec start-requires mailbox-cursor-out-requires returns)
+qalithonda-mailbox-start-spec = tie.close (tie.spec mailbox-start-requires returns)

@@ -1,17 +1,12 @@
-use mathlib.Core.Path.{ap, _∙_}
-use Rattle.qalithonda.specs.Steps.{utf7Out}
 use borrow.Author.Needs.{needs}
 use Rattle.qalithonda.proofs.steps.qalithonda_utf7_start.Statement.{statement}
 use Rattle.qalithonda.proofs.steps.qalithonda_utf7_start.Tie as tie
 
-start-requires : tie.Need-start-requires
-start-requires c κs = search needs
-
-utf7-cursor-out-requires : tie.Need-utf7-cursor-out-requires
-utf7-cursor-out-requires c κs = search needs
+utf7-start-requires : tie.Need-utf7-start-requires
+utf7-start-requires c κs = search needs
 
 returns : tie.Need-returns
-returns c = c .utf7-cursor-out .ensures ∙ ap utf7Out (c .before .start .ensures)
+returns c = c .utf7-start .ensures
 
 pub qalithonda-utf7-start-spec : {M : Type 1} → statement M
-qalithonda-utf7-start-spec = tie.close (tie.spec start-requires utf7-cursor-out-requires returns)
+qalithonda-utf7-start-spec = tie.close (tie.spec utf7-start-requires returns)
