@@ -1,7 +1,7 @@
-use Rattle.qalithonda.specs.Pages.{kindNumber}
+use Rattle.host_pages.specs.Pages.{kindNumber}
 use borrow.Author.Needs.{needs}
-use Rattle.qalithonda.proofs.pages.kind_number.Statement.{statement}
-use Rattle.qalithonda.proofs.pages.kind_number.Tie as tie
+use Rattle.host_pages.proofs.kind_number.Statement.{statement}
+use Rattle.host_pages.proofs.kind_number.Tie as tie
 
 enum-told : tie.Need-enum-told
 enum-told c = search needs

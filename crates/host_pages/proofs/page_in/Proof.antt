@@ -1,6 +1,6 @@
 use borrow.Author.Needs.{needs}
-use Rattle.qalithonda.proofs.pages.page_in.Statement.{statement}
-use Rattle.qalithonda.proofs.pages.page_in.Tie as tie
+use Rattle.host_pages.proofs.page_in.Statement.{statement}
+use Rattle.host_pages.proofs.page_in.Tie as tie
 
 kind-of-requires : tie.Need-kind-of-requires
 kind-of-requires c κs = search needs

@@ -1,7 +1,7 @@
 use borrow.Author.Tests.{ne-eqb}
-use Rattle.qalithonda.specs.Pages.{kindOf}
-use Rattle.qalithonda.proofs.pages.kind_of.Statement.{statement}
-use Rattle.qalithonda.proofs.pages.kind_of.Tie as tie
+use Rattle.host_pages.specs.Pages.{kindOf}
+use Rattle.host_pages.proofs.kind_of.Statement.{statement}
+use Rattle.host_pages.proofs.kind_of.Tie as tie
 
 returns : tie.Need-returns
 unfolding kindOf

@@ -14,10 +14,10 @@ use Rattle.ledger.specs.Calls.{over}
 use Rattle.ledger.specs.declared.Edited.{Edited}
 use Rattle.ledger.specs.declared.Page.{Page}
 use Rattle.host_numbers.specs.Numbers.{verdictIn}
-use Rattle.qalithonda.specs.Pages.{kindOf, kindNumber, pageIn, hostPage, HostOutcome, hosted, noKind, onPage, finds, findsSaved}
+use Rattle.host_pages.specs.Pages.{kindOf, kindNumber, pageIn, hostPage, HostOutcome, hosted, noKind, onPage, finds, findsSaved}
 use Rattle.host_numbers.specs.declared.Numbers.{Numbers}
-use Rattle.qalithonda.specs.declared.pages.HostPage.{HostPage}
-use Rattle.qalithonda.specs.declared.pages.HostEdited.{HostEdited}
+use Rattle.host_pages.specs.declared.HostPage.{HostPage}
+use Rattle.host_pages.specs.declared.HostEdited.{HostEdited}
 
 -- a page that is given back
 pub edited-on :

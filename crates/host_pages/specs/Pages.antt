@@ -11,8 +11,8 @@ use Rattle.ledger.specs.Calls.{over}
 use Rattle.ledger.specs.declared.Page.{Page}
 use Rattle.host_numbers.specs.Numbers.{verdictIn}
 use Rattle.host_numbers.specs.declared.Numbers.{Numbers}
-use Rattle.qalithonda.specs.declared.pages.HostPage.{HostPage}
-use Rattle.qalithonda.specs.declared.pages.HostEdited.{HostEdited}
+use Rattle.host_pages.specs.declared.HostPage.{HostPage}
+use Rattle.host_pages.specs.declared.HostEdited.{HostEdited}
 
 unfoldable pub kindOf : ℕ → Kind
 kindOf n = cond (eqb n 0) Utf7Header (cond (eqb n 1) Utf7Body Jp2)

@@ -1,6 +1,6 @@
 use borrow.Author.Needs.{needs}
-use Rattle.qalithonda.proofs.pages.edited.Statement.{statement}
-use Rattle.qalithonda.proofs.pages.edited.Tie as tie
+use Rattle.host_pages.proofs.edited.Statement.{statement}
+use Rattle.host_pages.proofs.edited.Tie as tie
 
 in-numbers-requires : tie.Need-in-numbers-requires
 in-numbers-requires c κs = search needs

@@ -1,8 +1,8 @@
 use mathlib.Core.Path.{_∙_}
 use mathlib.Core.Path.{_∙_}
 use borrow.Author.Needs.{needs}
-use Rattle.qalithonda.proofs.pages.no_kind.Statement.{statement}
-use Rattle.qalithonda.proofs.pages.no_kind.Tie as tie
+use Rattle.host_pages.proofs.no_kind.Statement.{statement}
+use Rattle.host_pages.proofs.no_kind.Tie as tie
 
 over-limit-requires : tie.Need-over-limit-requires
 over-limit-requires c κs = search needs
