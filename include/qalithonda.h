@@ -112,7 +112,8 @@ qalithonda_numbers qalithonda_utf7_body_write(const uint32_t *cells, size_t cell
 /* ---- JP-2 ---- */
 
 /*
- * Reads a text to cells. A text of n bytes has at most n cells.
+ * Reads a text to cells. A text of n bytes has at most n cells. The call needs some 260 KiB of
+ * stack.
  * Accepted: the count of cells, which are in `cells`.
  * Refused: 16 (text); 1, 3, 5, 6, 7, 8; 9 (cells).
  */
@@ -295,6 +296,7 @@ typedef struct {
 
 /*
  * Open a page on the bytes of a letter as they arrived. Keep these bytes for `save`.
+ * qalithonda_jp2_open needs some 260 KiB of stack.
  * Accepted: the count of cells.
  * Refused: 16 (arrived, text, history); the faults of reading: 1, 2, 3, 4 in UTF-7, and
  * 1, 3, 5, 6, 7, 8 in JP-2; 9 (text).

@@ -15,7 +15,7 @@ fn main() {
         show(Answer::Refused(Refusal::OverLimit, MOST), &cells[..0]);
         return;
     }
-    let found = jp2_read::read(&text[..got], &mut cells);
+    let found = jp2_whole::read(&text[..got], &mut cells);
     let count = answer::place(found);
     match found {
         Answer::Accepted(_) => {

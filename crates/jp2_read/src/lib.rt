@@ -1,23 +1,19 @@
-// Reading ISO-2022-JP-2: a byte, a cell, and a whole text at a time.
-mod quick;
-
+// Reading ISO-2022-JP-2: a byte and a cell at a time.
 use answer::Answer;
 use answer::Refusal;
 use reading::Marked;
 ghost use mathlib.Core.Path.{_≡_};
 ghost use mathlib.Core.Bool.{cond, _&&_};
 ghost use mathlib.Core.List.{[], _∷_};
-ghost use Prim.Native.Nat.{_<_, _≤_};
-ghost use lib.ListN.{length, take};
+ghost use Prim.Native.Nat.{_<_};
+ghost use lib.ListN.{length};
 ghost use lib.Dec.{eqb};
 ghost use Rattle.answer.specs.Answer.{inNumbers};
-ghost use Rattle.answer.specs.Output.{leaves, filled};
-ghost use Rattle.reading.specs.Reading.{closing, verdictOf, reading, readInto};
+ghost use Rattle.reading.specs.Reading.{closing};
 ghost use Rattle.reading.specs.Spans.{Takes};
 ghost use Rattle.reading.specs.Stepping.{atStart};
-ghost use Rattle.reading.specs.Matching.{readsAs};
 ghost use Rattle.jp2.specs.Table.{rowAt, isList};
-ghost use Rattle.jp2.specs.Rule.{state, plain, return, graphic, designated, inPhase, endPhase, jp2, singleDoes, firstDoes, secondDoes, betweenDoes, shiftedDoes, escapeDoes, byteDoes, endsIn};
+ghost use Rattle.jp2.specs.Rule.{plain, return, graphic, designated, inPhase, endPhase, jp2, singleDoes, firstDoes, secondDoes, betweenDoes, shiftedDoes, escapeDoes, byteDoes, endsIn};
 ghost use Rattle.jp2.specs.Spans.{phaseSpan};
 ghost use Rattle.jp2_read.specs.Cursor.{phaseOf, stateOf, inEscape, stateFor, doesOf, cursorOf, least, told, stepOf};
 
@@ -295,7 +291,7 @@ fn low(st: State, b: u8) -> Move
 }
 
 // What a byte does in a state.
-fn feed(st: State, b: u8) -> Move
+pub fn feed(st: State, b: u8) -> Move
     ensures { λ r. ⌜ doesOf r ≡ byteDoes (stateOf st) b ⌝ }
 {
     if b < 128 {
@@ -315,7 +311,7 @@ fn finish_plain(size: usize, handed: usize, g0: u16) -> Answer
 }
 
 // The answer of a text of some size that ends in a state, after some cells.
-fn finish(size: usize, handed: usize, st: State) -> Answer
+pub fn finish(size: usize, handed: usize, st: State) -> Answer
     ensures { λ r. ⌜ inNumbers r ≡ closing (endsIn size (stateOf st)) handed ⌝ }
 {
     let phase = st.phase;
@@ -356,23 +352,12 @@ fn width(st: State) -> usize
 }
 
 // The state at the start of a text.
-fn begin() -> State
+pub fn begin() -> State
     ensures { λ r. ⌜ r ≡ stateFor (jp2 .start) ⌝ }
 {
     State {
         g0: 6,
         g2: 0,
-        phase: Phase::Plain,
-    }
-}
-
-// The state where a loop over tokens stopped.
-fn standing(r: quick::Reached) -> State
-    ensures { λ st. ⌜ stateOf st ≡ state (r .g0) (r .g2) plain ⌝ }
-{
-    State {
-        g0: r.g0,
-        g2: r.g2,
         phase: Phase::Plain,
     }
 }
@@ -420,113 +405,4 @@ pub fn step(text: &[u8], c: Cursor) -> Stepped
         }
     }
     Stepped::Final(finish(text.len(), handed, st))
-}
-
-// Reads a text into a buffer that has room for every cell. What was read before a fault is left in it.
-fn decode(text: &[u8], out: &mut [u32]) -> Answer
-    requires { ⌜ length (reading jp2 (now text) .cells) ≤ length (now out) ⌝ }
-    ensures { λ r. ⌜ inNumbers r ≡ verdictOf (reading jp2 (now (text .entry))) ⌝ }
-    ensures { λ _. ⌜ now (out .exit) ≡ filled (reading jp2 (now (text .entry)) .cells) (now (out .entry)) ⌝ }
-{
-    let reached = quick::fill(text, out);
-    let mut at = reached.at;
-    let mut n = reached.n;
-    let mut st = standing(reached);
-    while at < text.len() {
-        match feed(st, text[at]) {
-            Move::Give(value, state) => {
-                out[n] = value;
-                st = state;
-                n += 1;
-                at += 1;
-            }
-            Move::Go(state) => {
-                st = state;
-                at += 1;
-            }
-            Move::Bad(why) => {
-                return Answer::Refused(why, at);
-            }
-        }
-    }
-    finish(at, n, st)
-}
-
-// The first n cells go to the front of the output.
-fn copy(cells: &[u32], n: usize, out: &mut [u32])
-    requires { ⌜ n ≤ length (now cells) ⌝ }
-    requires { ⌜ n ≤ length (now out) ⌝ }
-    ensures { λ _. ⌜ now (out .exit) ≡ filled (take n (now (cells .entry))) (now (out .entry)) ⌝ }
-{
-    let mut k: usize = 0;
-    while k < n {
-        out[k] = cells[k];
-        k += 1;
-    }
-}
-
-// A buffer for the cells of any text within the limit.
-fn blank() -> [u32; 65536]
-    ensures { λ r. ⌜ length r ≡ 65536 ⌝ }
-{
-    [0; 65536]
-}
-
-// Reads a text into an output. The whole text is judged before a cell is written there: it is read into a buffer of this call's own, since
-// a second pass costs more than a copy.
-pub fn read(text: &[u8], out: &mut [u32]) -> Answer
-    ensures { λ r. ⌜ leaves r (now (out .exit)) ≡ readInto jp2 (now (text .entry)) (now (out .entry)) ⌝ }
-{
-    if answer::over_limit(text.len()) {
-        return answer::too_long();
-    }
-    let mut cells = blank();
-    let found = decode(text, &mut cells);
-    match found {
-        Answer::Refused(_, _) => {
-            return found;
-        }
-        Answer::Accepted(n) => {
-            if out.len() < n {
-                return Answer::Refused(Refusal::NoRoom, n);
-            }
-            copy(&cells, n, out);
-            found
-        }
-    }
-}
-
-// The text is accepted and reads as the cells. Nothing is lent to be written.
-pub fn reads_as(text: &[u8], cells: &[u32]) -> bool
-    ensures { λ r. ⌜ r ≡ readsAs jp2 (now (text .entry)) (now (cells .entry)) ⌝ }
-{
-    let mut at: usize = 0;
-    let mut n: usize = 0;
-    let mut st = begin();
-    while at < text.len() {
-        match feed(st, text[at]) {
-            Move::Give(value, state) => {
-                if cells.len() <= n {
-                    return false;
-                }
-                if cells[n] != value {
-                    return false;
-                }
-                st = state;
-                n += 1;
-                at += 1;
-            }
-            Move::Go(state) => {
-                st = state;
-                at += 1;
-            }
-            Move::Bad(_) => {
-                return false;
-            }
-        }
-    }
-    match finish(at, n, st) {
-        Answer::Accepted(_) => n == cells.len(),
-        Answer::Refused(_, _) => false,
-    }
 }

@@ -55,7 +55,7 @@ pub extern "C" fn qalithonda_mailbox_write(cells: &[u32], out: &mut [u8]) -> Num
 pub extern "C" fn qalithonda_jp2_read(text: &[u8], cells: &mut [u32]) -> Numbers
     ensures { λ r. ⌜ left r (now (cells .exit)) ≡ readInto jp2 (now (text .entry)) (now (cells .entry)) ⌝ }
 {
-    in_numbers(jp2_read::read(text, cells))
+    in_numbers(jp2_whole::read(text, cells))
 }
 
 #[no_mangle]

@@ -1,0 +1,342 @@
+-- What the bytes of a token do together. Assumes nothing.
+use Prim.Native.Nat.{ℕ, zero, suc, _+_, _-_, _*_, _/_, _%_, _<_, _≤_}
+use mathlib.Core.Path.{_≡_, refl, sym, ap, _∙_}
+use mathlib.Core.Bool.{Bool, true, false, cond, _&&_, _||_, not, true≢false, false≢true}
+use mathlib.Core.List.{List, [], _∷_, _++_, map}
+use mathlib.Core.Logic.{_⊎_, ⊎-elim}
+use native.Mathlib.Omega.{arith}
+use native.Mathlib.Nat.{add-zero}
+use native.Mathlib.Numerals.{add-one}
+use lib.ListN.{length, getD, take, drop, length-drop}
+use lib.Seq.{drop-cons, length-take-le, getD-drop, getD-take}
+use lib.Dec.{leb, ltb, eqb, lit<}
+use borrow.Author.Tests.{not-true, eqb-true, eqb-false, eq-eqb, ne-eqb, le-leb, lt-leb, leb-true, ltb-true, ltb-false}
+use Rattle.answer.proofs.Below.{both, allBelow, below}
+use Rattle.reading.specs.Reading.{give, readFrom}
+use Rattle.reading.proofs.Strides.{Stride, stride-stay, stride-give, stride-go, stride-on, stride-as, stride-to, stride-walk}
+use Rattle.jp2.specs.Table.{designations, noRow, rowAt, sent, begins}
+use Rattle.jp2.specs.Rule.{State, plain, return, shifted, escape, state, graphic, cellOf, singleDoes, betweenDoes, byteDoes, endsIn, jp2}
+use Rattle.jp2.specs.Writable.{ascii}
+use Rattle.jp2.proofs.Sets.{single, differs}
+use Rattle.jp2.proofs.Rows.{byte-between, row-walk}
+use Rattle.jp2.proofs.Round.{byte-first, byte-second, byte-n, byte-shifted}
+use Rattle.jp2.specs.declared.Designation.{Designation}
+use Rattle.jp2.proofs.Search.{at-any}
+use Rattle.jp2.proofs.Table.{rows, table-rule, row-size}
+use Rattle.jp2_whole.specs.Quick.{codeOf, Sends, Designates, Found, Plains, Stretch}
+
+-- the state between cells
+abbrev pub at-rest : ℕ → ℕ → State
+at-rest g0 g2 = state g0 g2 plain
+
+-- after a CR: as between cells, with G2 cleared if LF follows
+return-does : (g0 g2 b : ℕ) → single g0 ≡ true → byteDoes (state g0 g2 return) b ≡ byteDoes (state g0 (cond (eqb b 10) 0 g2) plain) b
+unfolding byteDoes betweenDoes singleDoes
+return-does g0 g2 b h = go-by (eqb b 10) refl
+  where
+    go-by : (t : Bool) → eqb b 10 ≡ t → byteDoes (state g0 g2 return) b ≡ byteDoes (state g0 (cond (eqb b 10) 0 g2) plain) b
+    go-by true e = rw (eqb-true b 10 e, h)
+    go-by false e = rw (e, h)
+
+return-list :
+    (bs : List ℕ) (at g0 g2 : ℕ) → single g0 ≡ true →
+    readFrom jp2 bs at (state g0 g2 return) ≡ readFrom jp2 bs at (state g0 (cond (eqb (getD bs 0 0) 10) 0 g2) plain)
+unfolding readFrom endsIn
+return-list [] at g0 g2 h = refl
+return-list (b ∷ bs) at g0 g2 h = rw (return-does g0 g2 b h)
+
+return-reads :
+    (s : List ℕ) (at g0 g2 : ℕ) → single g0 ≡ true →
+    readFrom jp2 (drop at s) at (state g0 g2 return) ≡ readFrom jp2 (drop at s) at (state g0 (cond (eqb (getD s at 0) 10) 0 g2) plain)
+return-reads s at g0 g2 h = rw (getD-drop, add-zero) at (return-list (drop at s) at g0 g2 h)
+
+-- a byte of a set of single bytes
+byte-one :
+    (g0 g2 b : ℕ) → single g0 ≡ true → ascii b ≡ true →
+    byteDoes (at-rest g0 g2) b ≡ give (cellOf (cond (graphic b) g0 6) b) (state g0 g2 (cond (eqb b 13) return plain))
+unfolding betweenDoes singleDoes ascii
+byte-one g0 g2 b s h =
+    byte-between g0 g2 false b (omega (arith, leb-true b 127 (both (leb b 127) _ h .0)))
+    ∙ simp (differs ascii b 27 h refl, s, differs ascii b 14 h refl, differs ascii b 15 h refl)
+
+-- a cell of a set of single bytes
+module _ (s : List ℕ) (at g0 g2 : ℕ) (h : at < length s) where
+  abbrev b : ℕ
+  b = getD s at 0
+
+  abbrev Single : Type 0
+  Single = Stride jp2 s at (at-rest g0 g2) (at + 1) (cellOf (cond (graphic b) g0 6) b ∷ []) (at-rest g0 (cond (eqb b 13 && eqb (getD s (at + 1) 0) 10) 0 g2))
+
+  pub single-stride : single g0 ≡ true → ascii b ≡ true → Single
+  single-stride m k = go-by (eqb b 13) refl
+    where
+      go-by : (t : Bool) → eqb b 13 ≡ t → Single
+      go-by true e = rw e (stride-as (stride-give h (rw e at (byte-one g0 g2 b m k))) (return-reads s (at + 1) g0 g2 m))
+      go-by false e = rw e (stride-give h (rw e at (byte-one g0 g2 b m k)))
+
+-- a printing byte, and a control byte
+ascii-high : (b : ℕ) → 32 ≤ b → b < 128 → (ascii b ≡ true) × (eqb b 13 ≡ false)
+unfolding ascii
+ascii-high b h k =
+    let ne : (j : ℕ) → j < 32 → eqb b j ≡ false = λ j q. ne-eqb b j (λ e. omega arith) in
+    (simp (le-leb b 127 (omega arith), ne 14 (lit< tt), ne 15 (lit< tt), ne 27 (lit< tt)), ne 13 (lit< tt))
+
+module _ {s : List ℕ} {at g0 g2 : ℕ} (h : at < length s) (m : single g0 ≡ true) where
+  pub high-stride :
+      32 ≤ getD s at 0 → getD s at 0 < 128 →
+      Stride jp2 s at (at-rest g0 g2) (at + 1) (cellOf (cond (graphic (getD s at 0)) g0 6) (getD s at 0) ∷ []) (at-rest g0 g2)
+  high-stride l k =
+      let q = ascii-high (getD s at 0) l k in
+      rw (q .1) at (single-stride s at g0 g2 h m (q .0))
+
+  pub low-stride :
+      getD s at 0 < 32 → ascii (getD s at 0) ≡ true →
+      Stride jp2 s at (at-rest g0 g2) (at + 1) (cellOf 6 (getD s at 0) ∷ []) (at-rest g0 (cond (eqb (getD s at 0) 13 && eqb (getD s (at + 1) 0) 10) 0 g2))
+  unfolding graphic
+  low-stride l k = rw (lt-leb 33 (getD s at 0) (omega arith)) at (single-stride s at g0 g2 h m k)
+
+-- SO and SI
+pub ascii-out : (b : ℕ) → 14 ≤ b → b ≤ 15 → ascii b ≡ false
+unfolding ascii
+ascii-out b h k = go-by (eqb b 14) refl
+  where
+    go-by : (t : Bool) → eqb b 14 ≡ t → ascii b ≡ false
+    go-by true e = rw (eqb-true b 14 e)
+    go-by false e =
+        let q : b ≡ 15 = omega (arith, eqb-false b 14 e) in
+        rw q
+
+-- a stretch of ASCII with nothing in G2
+cond-same : (t : Bool) (x : ℕ) → cond t x x ≡ x
+cond-same true x = refl
+cond-same false x = refl
+
+plain-one :
+    (s : List ℕ) (at : ℕ) → at < length s → ascii (getD s at 0) ≡ true →
+    Stride jp2 s at (at-rest 6 0) (at + 1) (cellOf 6 (getD s at 0) ∷ []) (at-rest 6 0)
+plain-one s at h k =
+    rw (cond-same (graphic (getD s at 0)) 6, cond-same (eqb (getD s at 0) 13 && eqb (getD s (at + 1) 0) 10) 0) at (single-stride s at 6 0 h refl k)
+
+-- the cells of the bytes from a place to another
+abbrev pub cellsOf : List ℕ → ℕ → ℕ → List ℕ
+cellsOf s from to = map (cellOf 6) (take (to - from) (drop from s))
+
+plains-from :
+    (k : ℕ) (s : List ℕ) (from : ℕ) → from + k ≤ length s → ((i : ℕ) → from ≤ i → i < from + k → ascii (getD s i 0) ≡ true) →
+    Stride jp2 s from (at-rest 6 0) (from + k) (map (cellOf 6) (take k (drop from s))) (at-rest 6 0)
+plains-from zero s from h e = stride-to (stride-stay (omega arith)) (omega arith)
+plains-from (suc k) s from h e =
+    let q : from < length s = omega arith in
+    rw (drop-cons s from 0 q, ← add-one from)
+    (stride-to
+    (stride-on (plain-one s from q (e from (omega arith) (omega arith)))
+    (plains-from k s (from + 1) (omega arith) (λ i a b. e i (omega arith) (omega arith))))
+    (omega arith))
+
+pub plains-stride : {s : List ℕ} {from to : ℕ} → Plains s from to → Stride jp2 s from (at-rest 6 0) to (cellsOf s from to) (at-rest 6 0)
+plains-stride {s} {from} {to} p =
+    let z : from + (to - from) ≡ to = omega (arith, p .ordered) in
+    rw z at (plains-from (to - from) s from (omega (arith, p .within, p .ordered)) (λ i a b. p .each i a (omega (arith, p .ordered))))
+
+-- a pair
+module _ {s : List ℕ} {at g0 g2 : ℕ} (h : at + 1 < length s) where
+  pub pair-stride :
+      single g0 ≡ false → (graphic (getD s at 0) && graphic (getD s (at + 1) 0)) ≡ true →
+      Stride jp2 s at (at-rest g0 g2) (at + 2) (cellOf g0 (getD s at 0 * 256 + getD s (at + 1) 0) ∷ []) (at-rest g0 g2)
+  pair-stride m k =
+      let q = both (graphic (getD s at 0)) _ k in
+      let o = neither-set (eqb g0 6) (eqb g0 14) m in
+      stride-to
+      (stride-on (stride-go (omega arith) (byte-first g0 g2 (getD s at 0) (q .0) false (o .0) (o .1)))
+      (stride-give h (byte-second g0 g2 (getD s (at + 1) 0) (q .1) (getD s at 0))))
+      (omega arith)
+    where
+      neither-set : (a b : Bool) → (a || b) ≡ false → (a ≡ false) × (b ≡ false)
+      neither-set true b e = absurd (true≢false e)
+      neither-set false b e = (refl, e)
+
+-- ESC N and a byte
+module _ {s : List ℕ} {at g0 g2 : ℕ} (h : at + 2 < length s) where
+  pub shift-stride :
+      getD s at 0 ≡ 27 → getD s (at + 1) 0 ≡ 78 → (not (eqb g2 0) && (leb 32 (getD s (at + 2) 0) && ltb (getD s (at + 2) 0) 128)) ≡ true →
+      Stride jp2 s at (at-rest g0 g2) (at + 3) (cellOf g2 (getD s (at + 2) 0) ∷ []) (at-rest g0 g2)
+  unfolding betweenDoes
+  shift-stride e n k =
+      let x = getD s (at + 2) 0 in
+      let w = both (not (eqb g2 0)) _ k in
+      let q = both (leb 32 x) _ (w .1) in
+      let a : at + 1 + 1 ≡ at + 2 = omega arith in
+      let one : Stride jp2 s at (at-rest g0 g2) (at + 1) [] (state g0 g2 (escape (27 ∷ []))) =
+      stride-go (omega arith) (rw e (byte-between g0 g2 false 27 (lit< tt))) in
+      let two : Stride jp2 s (at + 1) (state g0 g2 (escape (27 ∷ []))) (at + 1 + 1) [] (state g0 g2 shifted) =
+      stride-go (omega arith) (rw n (byte-n g0 g2 (not-true (eqb g2 0) (w .0)))) in
+      let three : Stride jp2 s (at + 2) (state g0 g2 shifted) (at + 2 + 1) (cellOf g2 x ∷ []) (at-rest g0 g2) =
+      stride-give h (byte-shifted g0 g2 x (leb-true 32 x (q .0)) (omega (arith, ltb-true x 128 (q .1)))) in
+      stride-to (stride-on one (stride-on (stride-to two a) three)) (omega arith)
+
+-- a designation: ESC and three bytes that start with what a row sends
+begins-front : (l m r : List ℕ) → begins l m ≡ true → m ++ r ≡ l ++ drop (length l) (m ++ r)
+unfolding begins
+begins-front [] m r e = refl
+begins-front (a ∷ l) [] r e = absurd (false≢true e)
+begins-front (a ∷ l) (b ∷ m) r e =
+    let q = guard (eqb a b) (begins l m) e in
+    rw (eqb-true a b (q .0)) (ap (λ (z : List ℕ). b ∷ z) (begins-front l m r (q .1)))
+  where
+    guard : (s t : Bool) → cond s t false ≡ true → (s ≡ true) × (t ≡ true)
+    guard true t e = (refl, e)
+    guard false t e = absurd (false≢true e)
+
+-- the code of a row says its length, where it goes, and its number
+abbrev decoded : ℕ → Bool
+decoded i =
+    eqb (codeOf (rowAt i) % 8) (length (sent (rowAt i)))
+    && (eqb (codeOf (rowAt i) / 8 % 8) (rowAt i .to) && eqb (codeOf (rowAt i) / 64) (rowAt i .number))
+
+code-says : (i : ℕ) → i < 9 → (codeOf (rowAt i) % 8 ≡ length (sent (rowAt i))) × ((codeOf (rowAt i) / 8 % 8 ≡ rowAt i .to) × (codeOf (rowAt i) / 64 ≡ rowAt i .number))
+unfolding allBelow designations
+code-says i h =
+    let q = both (eqb (codeOf (rowAt i) % 8) (length (sent (rowAt i)))) _ (below decoded 9 refl i h) in
+    let r = both (eqb (codeOf (rowAt i) / 8 % 8) (rowAt i .to)) _ (q .1) in
+    (eqb-true _ _ (q .0), (eqb-true _ _ (r .0), eqb-true _ _ (r .1)))
+
+four-bytes :
+    (s : List ℕ) (at : ℕ) → at + 4 ≤ length s →
+    drop at s ≡ (getD s at 0 ∷ getD s (at + 1) 0 ∷ getD s (at + 2) 0 ∷ getD s (at + 3) 0 ∷ []) ++ drop (at + 4) s
+four-bytes s at h =
+    let one : (i j : ℕ) → i + 1 ≡ j → j ≤ length s → drop i s ≡ getD s i 0 ∷ drop j s =
+    λ i j e k. rw (← e, add-one i) (drop-cons s i 0 (omega arith)) in
+    one at (at + 1) refl (omega arith)
+    ∙ ap (λ (z : List ℕ). getD s at 0 ∷ z)
+    (one (at + 1) (at + 2) (omega arith) (omega arith)
+    ∙ ap (λ (z : List ℕ). getD s (at + 1) 0 ∷ z)
+    (one (at + 2) (at + 3) (omega arith) (omega arith)
+    ∙ ap (λ (z : List ℕ). getD s (at + 2) 0 ∷ z) (one (at + 3) (at + 4) (omega arith) (omega arith))))
+
+-- the sets after a row, by its code
+abbrev pub toG2 : ℕ → Bool
+toG2 r = eqb (r / 8 % 8) 2
+
+after-row : (t : Bool) (g0 g2 n : ℕ) → cond t (at-rest g0 n) (at-rest n g2) ≡ at-rest (cond t g0 n) (cond t n g2)
+after-row true g0 g2 n = refl
+after-row false g0 g2 n = refl
+
+-- the numbers are small
+small-number : (i : ℕ) → i < 9 → codeOf (rowAt i) / 64 % 65536 ≡ codeOf (rowAt i) / 64
+unfolding allBelow designations
+small-number i h = eqb-true _ _ (below (λ i. eqb (codeOf (rowAt i) / 64 % 65536) (codeOf (rowAt i) / 64)) 9 refl i h)
+
+pub code-length : {a b c r : ℕ} → Designates a b c r → (3 ≤ r % 8) × (r % 8 ≤ 4)
+code-length d =
+    let q = code-says (d .row) (d .known) .0 in
+    let z = row-size (d .known) refl in
+    let t = table-rule (d .row) (d .known) in
+    rw (d .code, q, z) (t .least, t .most)
+
+pub designation-stride :
+    {s : List ℕ} {at r : ℕ} (g0 g2 : ℕ) → at + 4 ≤ length s → getD s at 0 ≡ 27 → Designates (getD s (at + 1) 0) (getD s (at + 2) 0) (getD s (at + 3) 0) r →
+    Stride jp2 s at (at-rest g0 g2) (at + r % 8) [] (at-rest (cond (toG2 r) g0 (r / 64 % 65536)) (cond (toG2 r) (r / 64 % 65536) g2))
+designation-stride {s} {at} {r} g0 g2 h e d =
+    let q = code-says (d .row) (d .known) in
+    let f = rw e at (four-bytes s at h) ∙ begins-front (sent (rowAt (d .row))) _ (drop (at + 4) s) (d .bytes) in
+    rw (← after-row (toG2 r) g0 g2 (r / 64 % 65536), d .code, small-number (d .row) (d .known), q .0, q .1 .0, q .1 .1)
+    (stride-walk _ (row-walk g0 g2 (d .row) (d .known) false) f (omega arith))
+
+-- a row of the whole table
+pub row-of : {t : List Designation} {i : ℕ} (e : Designation) → t ≡ designations → i < 9 → getD t i e ≡ rowAt i
+row-of {t} {i} e q h = rw q (at-any designations i e noRow (rw rows h))
+
+-- the search: a row that passes stands there
+abbrev shape : ℕ → ℕ → Bool
+shape c i =
+    leb (getD (rowAt i .escape) 1 0) 255
+    && (leb (getD (rowAt i .escape) 2 0) 255
+    && (cond (eqb (rowAt i .length) 3) (begins (sent (rowAt i)) (27 ∷ getD (rowAt i .escape) 1 0 ∷ getD (rowAt i .escape) 2 0 ∷ c ∷ [])) true
+    && begins (sent (rowAt i)) (27 ∷ getD (rowAt i .escape) 1 0 ∷ getD (rowAt i .escape) 2 0 ∷ getD (rowAt i .escape) 3 0 ∷ [])))
+
+shaped : (c i : ℕ) → i < 9 → shape c i ≡ true
+unfolding allBelow designations begins
+shaped c i h = below (shape c) 9 refl i h
+
+pub row-sent : {a b c i : ℕ} → i < 9 → a < 256 → b < 256 → Sends (rowAt i) (a * 256 + b) c → begins (sent (rowAt i)) (27 ∷ a ∷ b ∷ c ∷ []) ≡ true
+row-sent {a} {b} {c} {i} h ha hb w =
+    let e1 = getD (rowAt i .escape) 1 0 in
+    let e2 = getD (rowAt i .escape) 2 0 in
+    let p = both (leb e1 255) _ (shaped c i h) in
+    let q = both (leb e2 255) _ (p .1) in
+    let t = both (cond (eqb (rowAt i .length) 3) (begins (sent (rowAt i)) (27 ∷ e1 ∷ e2 ∷ c ∷ [])) true) _ (q .1) in
+    let k1 : e1 ≤ 255 = leb-true e1 255 (p .0) in
+    let k2 : e2 ≤ 255 = leb-true e2 255 (q .0) in
+    let x : e1 ≡ a = omega (arith, w .pair) in
+    let y : e2 ≡ b = omega (arith, w .pair) in
+    rw (← x, ← y)
+    (⊎-elim
+    (λ (z : rowAt i .length ≡ 3). rw (eq-eqb (rowAt i .length) 3 z) at (t .0))
+    (λ (z : getD (rowAt i .escape) 3 0 ≡ c). rw z at (t .1))
+    (w .last))
+
+pub plains-stay : {s : List ℕ} {from : ℕ} → from ≤ length s → Plains s from from
+plains-stay h = record { ordered = omega arith; within = h; each = λ i a b. absurd (omega arith) }
+
+pub plains-on : {s : List ℕ} {from at to : ℕ} → Plains s from at → Plains s at to → Plains s from to
+plains-on {s} {from} {at} {to} p q =
+    record {
+      ordered = omega (arith, p .ordered, q .ordered);
+      within = q .within;
+      each = λ i a b. by-side i a b (ltb i at) refl;
+    }
+  where
+    by-side : (i : ℕ) → from ≤ i → i < to → (t : Bool) → ltb i at ≡ t → ascii (getD s i 0) ≡ true
+    by-side i a b true e = p .each i a (ltb-true i at e)
+    by-side i a b false e = q .each i (ltb-false i at e) b
+
+-- the cells of a stretch, one by one
+getD-map : (l : List ℕ) (k : ℕ) → k < length l → getD (map (cellOf 6) l) k 0 ≡ cellOf 6 (getD l k 0)
+getD-map [] k h = absurd (omega arith)
+getD-map (x ∷ l) zero h = refl
+getD-map (x ∷ l) (suc k) h = getD-map l k (omega arith)
+
+length-cells : (l : List ℕ) → length (map (cellOf 6) l) ≡ length l
+length-cells [] = refl
+length-cells (x ∷ l) = ap suc (length-cells l)
+
+module _ (s : List ℕ) (from to : ℕ) (h : to ≤ length s) where
+  part : length (take (to - from) (drop from s)) ≡ to - from
+  part = length-take-le (to - from) (drop from s) (omega (arith, length-drop from s))
+
+  pub cells-length : length (cellsOf s from to) ≡ to - from
+  cells-length = length-cells (take (to - from) (drop from s)) ∙ part
+
+  pub cells-at : (k : ℕ) → k < to - from → drop k (cellsOf s from to) ≡ cellOf 6 (getD s (from + k) 0) ∷ drop (k + 1) (cellsOf s from to)
+  cells-at k q =
+      rw (drop-cons (cellsOf s from to) k 0 (omega (arith, cells-length)), add-one k, getD-map (take (to - from) (drop from s)) k (omega (arith, part)), getD-take (to - from) (drop from s) k 0 q, getD-drop from s k 0)
+
+-- one byte more of a block
+pub each-more :
+    (s : List ℕ) (at k : ℕ) {ok t : Bool} → (ok ≡ true → (i : ℕ) → at ≤ i → i < at + k → ascii (getD s i 0) ≡ true) → (ok && t) ≡ true →
+    t ≡ ascii (getD s (at + k) 0) → (i : ℕ) → at ≤ i → i < at + (k + 1) → ascii (getD s i 0) ≡ true
+each-more s at k {ok} {t} f e q i l m = by-side (ltb i (at + k)) refl (both ok t e)
+  where
+    by-side : (u : Bool) → ltb i (at + k) ≡ u → (ok ≡ true) × (t ≡ true) → ascii (getD s i 0) ≡ true
+    by-side true z w = f (w .0) i l (ltb-true i (at + k) z)
+    by-side false z w =
+        let y : i ≡ at + k = omega (arith, ltb-false i (at + k) z) in
+        rw y (sym q ∙ w .1)
+
+-- a stretch that was looked for
+pub stretch-stride : {s : List ℕ} {from g0 g2 to : ℕ} → from ≤ length s → Stretch s from g0 g2 to → Stride jp2 s from (at-rest g0 g2) to (cellsOf s from to) (at-rest g0 g2)
+stretch-stride {s} {from} {g0} {g2} {to} h w =
+    ⊎-elim
+    (λ (e : to ≡ from). rw e (let z : from - from ≡ 0 = omega arith in rw z (stride-stay h)))
+    (λ (p : (g0 ≡ 6) × ((g2 ≡ 0) × Plains s from to)). rw (p .0, p .1 .0) (plains-stride (p .1 .1)))
+    w
+
+pub stretch-bounds : {s : List ℕ} {from g0 g2 to : ℕ} → from ≤ length s → Stretch s from g0 g2 to → (from ≤ to) × (to ≤ length s)
+stretch-bounds {s} {from} {g0} {g2} {to} h w =
+    ⊎-elim
+    (λ (e : to ≡ from). (omega arith, omega arith))
+    (λ (p : (g0 ≡ 6) × ((g2 ≡ 0) × Plains s from to)). (p .1 .1 .ordered, p .1 .1 .within))
+    w
+
+pub designates : {a b c r : ℕ} → Found a b c r → (r ≡ 0 → ⊥) → Designates a b c r
+designates w h = ⊎-elim (λ e. absurd (h e)) (λ d. d) w

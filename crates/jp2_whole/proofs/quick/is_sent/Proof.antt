@@ -1,0 +1,46 @@
+use mathlib.Core.Path.{sym, _∙_}
+use mathlib.Core.Logic.{inl, inr}
+use borrow.Author.Needs.{needs}
+use borrow.Author.Tests.{eqb-true}
+use Rattle.answer.proofs.Below as below
+use Rattle.jp2.proofs.Sets as sets
+use Rattle.jp2_whole.proofs.quick.is_sent.Statement.{statement}
+use Rattle.jp2_whole.proofs.quick.is_sent.Tie as tie
+
+array-read-joined : tie.Need-array-read-joined
+array-read-joined c = search needs
+
+array-read-joined-2 : tie.Need-array-read-joined-2
+array-read-joined-2 c = search needs
+
+joined-requires : tie.Need-joined-requires
+joined-requires c κs = search needs
+
+array-read-either : tie.Need-array-read-either
+array-read-either c = search needs
+
+either-requires : tie.Need-either-requires
+either-requires c κs = search needs
+
+both-requires : tie.Need-both-requires
+both-requires c κs = search needs
+
+returns : tie.Need-returns
+returns c = λ e.
+    let w = below.both _ _ (sym (c .both .ensures) ∙ e) in
+    record {
+      pair = sym (c .before .before .before .joined .ensures) ∙ eqb-true _ _ (w .0);
+      last = sets.either _ _ (sym (c .before .either .ensures) ∙ w .1) (λ z. inl (eqb-true _ _ z)) (λ z. inr (eqb-true _ _ z));
+    }
+
+pub is-sent-spec : {M : Type 1} → statement M
+is-sent-spec =
+    tie.close
+    (tie.spec
+    array-read-joined
+    array-read-joined-2
+    joined-requires
+    array-read-either
+    either-requires
+    both-requires
+    returns)

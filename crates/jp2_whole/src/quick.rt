@@ -1,0 +1,305 @@
+// Whole texts, a token at a time: the loops of this file go over what most texts are made of, and stop at anything else and before the last
+// bytes. The loops that go byte by byte, which name every fault, read on from there.
+use jp2::Designation;
+ghost use mathlib.Core.Path.{_≡_};
+ghost use mathlib.Core.Bool.{true, cond, _&&_, _||_, not};
+ghost use mathlib.Core.List.{List, map};
+ghost use Prim.Native.Nat.{_<_, _≤_, _+_, _-_, _*_, _/_, _%_};
+ghost use lib.ListN.{length, take, drop};
+ghost use lib.Dec.{eqb, leb, ltb};
+ghost use Rattle.answer.specs.Output.{filled};
+ghost use Rattle.reading.specs.Reading.{reading};
+ghost use Rattle.reading.proofs.Filling.{Filling};
+ghost use Rattle.jp2.specs.Rule.{graphic, plain, state, cellOf, jp2};
+ghost use Rattle.jp2.specs.Writable.{ascii};
+ghost use Rattle.jp2_whole.specs.Quick.{codeOf, Sends, Found, Plains, Stretch};
+
+// Where a loop stopped: between cells, after n of them.
+pub struct Reached {
+    pub at: usize,
+    pub n: usize,
+    pub g0: u16,
+    pub g2: u16,
+}
+
+// Two bytes in one number, so that they are compared at once.
+fn joined(a: u8, b: u8) -> u32
+    ensures { λ r. ⌜ r ≡ a * 256 + b ⌝ }
+{
+    (a as u32) * 256 + (b as u32)
+}
+
+fn both(s: bool, t: bool) -> bool
+    ensures { λ r. ⌜ r ≡ (s && t) ⌝ }
+{
+    if s {
+        return t;
+    }
+    false
+}
+
+fn either(s: bool, t: bool) -> bool
+    ensures { λ r. ⌜ r ≡ (s || t) ⌝ }
+{
+    if s {
+        return true;
+    }
+    t
+}
+
+// What a row sends after ESC starts with two bytes, and is no longer or goes on with c. Every test is made, for a choice without a branch.
+fn is_sent(d: Designation, two: u32, c: u8) -> bool
+    ensures { λ r. ⌜ (r ≡ true → Sends d two c) ⌝ }
+{
+    let escape = d.escape;
+    let front = joined(escape[1], escape[2]);
+    both(front == two, either(d.length == 3, escape[3] == c))
+}
+
+// A row in one number, so that the search takes one choice a row: the set's number, where it goes, and the length.
+fn code(d: Designation) -> u32
+    requires { ⌜ d .length ≤ 4 ⌝ }
+    ensures { λ r. ⌜ r ≡ codeOf d ⌝ }
+{
+    ((d.number as u32) * 8 + (d.to as u32)) * 8 + (d.length as u32)
+}
+
+fn chosen(t: bool, a: u32, b: u32) -> u32
+    ensures { λ r. ⌜ r ≡ cond t a b ⌝ }
+{
+    if t {
+        return a;
+    }
+    b
+}
+
+// The row of the table that is sent as ESC and the first of these bytes, or 0.
+fn found(a: u8, b: u8, c: u8) -> u32
+    ensures { λ r. ⌜ Found a b c r ⌝ }
+{
+    let two = joined(a, b);
+    let table = jp2::all_rows();
+    let mut r: u32 = 0;
+    for i in 0..9 {
+        let d = table[i];
+        let v = code(d);
+        r = chosen(is_sent(d, two, c), v, r);
+    }
+    r
+}
+
+// G0 and G2 after a row, by its number.
+fn g0_after(g0: u16, d: u32) -> u16
+    ensures { λ r. ⌜ r ≡ cond (eqb (d / 8 % 8) 2) g0 (d / 64 % 65536) ⌝ }
+{
+    if d / 8 % 8 == 2 {
+        return g0;
+    }
+    (d / 64 % 65536) as u16
+}
+
+fn g2_after(g2: u16, d: u32) -> u16
+    ensures { λ r. ⌜ r ≡ cond (eqb (d / 8 % 8) 2) (d / 64 % 65536) g2 ⌝ }
+{
+    if d / 8 % 8 == 2 {
+        return (d / 64 % 65536) as u16;
+    }
+    g2
+}
+
+// A set of single bytes.
+fn is_single(g0: u16) -> bool
+    ensures { λ r. ⌜ r ≡ (eqb g0 6 || eqb g0 14) ⌝ }
+{
+    if g0 == 6 {
+        return true;
+    }
+    g0 == 14
+}
+
+fn is_pair(a: u8, b: u8) -> bool
+    ensures { λ r. ⌜ r ≡ (graphic a && graphic b) ⌝ }
+{
+    if jp2::is_graphic(a as u32) {
+        return jp2::is_graphic(b as u32);
+    }
+    false
+}
+
+// A byte that is a cell of the set in G2, after ESC N.
+fn is_shifted(g2: u16, b: u8) -> bool
+    ensures { λ r. ⌜ r ≡ (not (eqb g2 0) && (leb 32 b && ltb b 128)) ⌝ }
+{
+    if g2 == 0 {
+        return false;
+    }
+    if b < 32 {
+        return false;
+    }
+    b < 128
+}
+
+// A byte that is a cell wherever ASCII is in G0.
+fn is_plain(b: u8) -> bool
+    ensures { λ r. ⌜ r ≡ ascii b ⌝ }
+{
+    if 127 < b {
+        return false;
+    }
+    if b / 2 == 7 {
+        return false;
+    }
+    b != 27
+}
+
+// G2 after a control byte, by the byte that follows.
+fn cleared(g2: u16, b: u8, next: u8) -> u16
+    ensures { λ r. ⌜ r ≡ cond (eqb b 13 && eqb next 10) 0 g2 ⌝ }
+{
+    if b == 13 {
+        if next == 10 {
+            return 0;
+        }
+    }
+    g2
+}
+
+// Sixteen such bytes.
+fn is_block(text: &[u8], at: usize) -> bool
+    requires { ⌜ at + 16 ≤ length (now text) ⌝ }
+    ensures { λ r. ⌜ (r ≡ true → Plains (now (text .entry)) at (at + 16)) ⌝ }
+{
+    let mut ok = true;
+    for k in 0..16 {
+        ok = both(ok, is_plain(text[at + k]));
+    }
+    ok
+}
+
+// The end of a stretch of blocks of such bytes, with ASCII in G0 and nothing in G2.
+fn stretch_end(text: &[u8], from: usize, g0: u16, g2: u16) -> usize
+    requires { ⌜ from ≤ length (now text) ⌝ }
+    ensures { λ r. ⌜ Stretch (now (text .entry)) from g0 g2 r ⌝ }
+{
+    let mut at = from;
+    if g0 != 6 {
+        return at;
+    }
+    if g2 != 0 {
+        return at;
+    }
+    while at + 16 <= text.len() {
+        if !is_block(text, at) {
+            return at;
+        }
+        at += 16;
+    }
+    at
+}
+
+fn ascii_cell(b: u8) -> u32
+    ensures { λ r. ⌜ r ≡ cellOf 6 b ⌝ }
+{
+    393216 + (b as u32)
+}
+
+// The cells of a stretch go to the front of an output.
+fn widen(text: &[u8], from: usize, to: usize, out: &mut [u32])
+    requires { ⌜ from ≤ to ⌝ }
+    requires { ⌜ to ≤ length (now text) ⌝ }
+    requires { ⌜ to - from ≤ length (now out) ⌝ }
+    ensures { λ _. ⌜ now (out .exit) ≡ filled (map (cellOf 6) (take (to - from) (drop from (now (text .entry))))) (now (out .entry)) ⌝ }
+{
+    let size = to - from;
+    let mut k: usize = 0;
+    while k < size {
+        out[k] = ascii_cell(text[from + k]);
+        k += 1;
+    }
+}
+
+// A cell of a set of single bytes, of G2 and of a set of pairs.
+fn single_cell(g0: u16, b: u8) -> u32
+    ensures { λ r. ⌜ r ≡ cellOf (cond (graphic b) g0 6) b ⌝ }
+{
+    if jp2::is_graphic(b as u32) {
+        return (g0 as u32) * 65536 + (b as u32);
+    }
+    393216 + (b as u32)
+}
+
+fn shifted_cell(g2: u16, b: u8) -> u32
+    ensures { λ r. ⌜ r ≡ cellOf g2 b ⌝ }
+{
+    (g2 as u32) * 65536 + (b as u32)
+}
+
+fn pair_cell(g0: u16, a: u8, b: u8) -> u32
+    ensures { λ r. ⌜ r ≡ cellOf g0 (a * 256 + b) ⌝ }
+{
+    (g0 as u32) * 65536 + ((a as u32) * 256 + (b as u32))
+}
+
+// Puts the cells of a text into an output that has room for all.
+pub fn fill(text: &[u8], out: &mut [u32]) -> Reached
+    requires { ⌜ length (reading jp2 (now text) .cells) ≤ length (now out) ⌝ }
+    ensures { λ r. ⌜ Filling jp2 (now (text .entry)) (r .at) (state (r .g0) (r .g2) plain) (r .n) (now (out .entry)) (now (out .exit)) ⌝ }
+{
+    let mut at: usize = 0;
+    let mut n: usize = 0;
+    let mut g0: u16 = 6;
+    let mut g2: u16 = 0;
+    while at + 4 <= text.len() {
+        let b = text[at];
+        if b == 27 {
+            let x = text[at + 1];
+            if x == 78 {
+                if !is_shifted(g2, text[at + 2]) {
+                    return Reached { at, n, g0, g2 };
+                }
+                out[n] = shifted_cell(g2, text[at + 2]);
+                n += 1;
+                at += 3;
+            } else {
+                let d = found(x, text[at + 2], text[at + 3]);
+                if d == 0 {
+                    return Reached { at, n, g0, g2 };
+                }
+                g0 = g0_after(g0, d);
+                g2 = g2_after(g2, d);
+                at += (d % 8) as usize;
+            }
+        } else {
+            if is_single(g0) {
+                if 32 <= b {
+                    if 128 <= b {
+                        return Reached { at, n, g0, g2 };
+                    }
+                    out[n] = single_cell(g0, b);
+                    n += 1;
+                    at += 1;
+                } else {
+                    if !is_plain(b) {
+                        return Reached { at, n, g0, g2 };
+                    }
+                    g2 = cleared(g2, b, text[at + 1]);
+                    out[n] = ascii_cell(b);
+                    n += 1;
+                    at += 1;
+                    let end = stretch_end(text, at, g0, g2);
+                    widen(text, at, end, &mut out[n..]);
+                    n += end - at;
+                    at = end;
+                }
+            } else {
+                if !is_pair(b, text[at + 1]) {
+                    return Reached { at, n, g0, g2 };
+                }
+                out[n] = pair_cell(g0, b, text[at + 1]);
+                n += 1;
+                at += 2;
+            }
+        }
+    }
+    Reached { at, n, g0, g2 }
+}
