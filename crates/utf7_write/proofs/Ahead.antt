@@ -1,13 +1,13 @@
 -- Blocks of elements: what is found of each, one after another. Assumes nothing.
-use Prim.Native.Nat.{ℕ, zero, suc, _+_, _<_, _≤_}
+use Prim.Native.Nat.{ℕ, zero, suc, _+_, _-_, _<_, _≤_}
 use mathlib.Core.Path.{_≡_, refl, sym, ap, _∙_}
 use mathlib.Core.Bool.{Bool, true, false, false≢true}
 use mathlib.Core.List.{List}
 use mathlib.Core.Logic.{_⊎_, ⊎-elim}
 use native.Mathlib.Omega.{arith}
 use lib.ListN.{getD}
-use lib.Dec.{eqb}
-use borrow.Author.Tests.{eqb-true, eqb-false}
+use lib.Dec.{ltb, eqb}
+use borrow.Author.Tests.{ltb-true, ltb-false, eqb-true, eqb-false}
 use Rattle.utf7_write.specs.Ahead.{Ahead}
 
 module _ (P : ℕ → Type 0) (us : List ℕ) (i : ℕ) where
@@ -26,6 +26,17 @@ module _ (P : ℕ → Type 0) (us : List ℕ) (i : ℕ) where
       {A B : Type 0} {t t' : Bool} (k : ℕ) → (t ≡ true → Ahead P us i k) → (A → t' ≡ false) → (B → (t' ≡ t) × P (getD us (i + k) 0)) → A ⊎ B →
       t' ≡ true → Ahead P us i (k + 1)
   flag-more k a f g s e = ⊎-elim (λ p. absurd (false≢true (sym (f p) ∙ e))) (λ q. ahead-more k (a (sym (g q .0) ∙ e)) (g q .1)) s
+
+-- what lies ahead, and behind that
+pub ahead-join : (P : ℕ → Type 0) (us : List ℕ) (i m n : ℕ) → Ahead P us i m → Ahead P us (i + m) n → Ahead P us i (m + n)
+ahead-join P us i m n a b k h = told (ltb k m) refl
+  where
+    told : (t : Bool) → ltb k m ≡ t → P (getD us (i + k) 0)
+    told true e = a k (ltb-true k m e)
+    told false e =
+        let g = ltb-false k m e in
+        let q : i + m + (k - m) ≡ i + k = omega arith in
+        rw q at (b (k - m) (omega arith))
 
 -- what lies further ahead
 pub ahead-next : (P : ℕ → Type 0) (us : List ℕ) (i n : ℕ) → Ahead P us i (suc n) → Ahead P us (i + 1) n

@@ -1,23 +1,25 @@
 -- Bytes told apart by choices, and blocks of units that are written as themselves. Assumes nothing.
-use Prim.Native.Nat.{ℕ, zero, suc, _+_, _<_, _≤_}
+use Prim.Native.Nat.{ℕ, zero, suc, _+_, _-_, _/_, _%_, _^_, _<_, _≤_, max}
 use mathlib.Core.Path.{_≡_, refl, sym, ap, _∙_}
-use mathlib.Core.Bool.{Bool, true, false, cond, false≢true}
+use mathlib.Core.Bool.{Bool, true, false, cond, _&&_, _||_, not}
 use mathlib.Core.List.{List, _∷_, _++_}
 use native.Mathlib.Omega.{arith}
 use native.Mathlib.Nat.{add-zero, zero-add}
 use native.Mathlib.Numerals.{add-one}
-use lib.ListN.{length, getD, take, drop, set, length-set}
-use lib.Seq.{drop-cons, getD-set-same, getD-set-other}
-use lib.Dec.{ltb, eqb}
-use borrow.Author.Tests.{eqb-true, eqb-false}
-use Rattle.answer.proofs.Below.{allBelow, below}
+use lib.ListN.{length, getD, take, drop, set, length-drop}
+use lib.Seq.{paste, paste-suc, length-paste, length-take-le, drop-cons, getD-take, getD-drop, getD-set-same, getD-set-other, ext-getD}
+use lib.Dec.{ltb, leb, eqb}
+use borrow.Author.Tests.{ltb-true, ltb-false, lt-ltb, le-ltb, eqb-true, eqb-false}
+use Rattle.answer.proofs.Below.{allBelow, below, same, same-eq}
 use Rattle.base64.specs.Letters.{within}
 use Rattle.utf7.specs.Sets.{alphanumeric, setD, setO, direct, own}
 use Rattle.utf7.specs.Writing.{pieces, spell, spellAll, writing}
 use Rattle.utf7.specs.declared.Style.{Style}
 use Rattle.utf7.specs.declared.Style.the-variants.{Header, Body, Name}
-use Rattle.utf7_write.specs.Ahead.{Ahead, Own, ownBit, narrow, Narrowed}
-use Rattle.utf7_write.proofs.Ahead.{ahead-more, ahead-next}
+use Rattle.utf7.proofs.Sets.{own-byte}
+use Rattle.utf7_write.specs.Ahead.{Ahead, Own, ownBit, OwnFrom, narrow, Narrowed}
+use Rattle.utf7_write.proofs.Ahead.{ahead-next}
+use Rattle.utf7_write.proofs.Stretches.{own-high}
 
 -- a choice, and what each style's choices come to, computed at every byte
 abbrev orWithin : ℕ → ℕ → ℕ → ℕ → ℕ
@@ -45,37 +47,101 @@ pub name-bit : (b : ℕ) → b < 256 → name b ≡ ownBit Name b
 unfolding own direct setD setO alphanumeric allBelow
 name-bit b h = eqb-true (name b) (ownBit Name b) (below (λ k. eqb (name k) (ownBit Name k)) 256 refl b h)
 
--- a bit is at most 1, and 1 only for what is written as itself
-pub bit-own : (style : Style) (u : ℕ) → (ownBit style u ≤ 1) × (ownBit style u ≡ 1 → Own style u)
-bit-own style u = told (own style u)
-  where
-    told : (t : Bool) → (cond {A = ℕ} t 1 0 ≤ 1) × (cond {A = ℕ} t 1 0 ≡ 1 → t ≡ true)
-    told true = (omega arith, λ _. refl)
-    told false = (omega arith, λ e. absurd (omega arith))
+-- the tests of body style, and the sets of all, computed too
+pub direct-own : (b : ℕ) → b < 256 → ((((((leb 32 b && leb b 125) && not (eqb b 43)) && not (eqb b 92)) || eqb b 9) || eqb b 10) || eqb b 13) ≡ own Body b
+unfolding own direct setD setO alphanumeric allBelow
+direct-own b h =
+    sym (same-eq _ _ (below (λ k. same ((((((leb 32 k && leb k 125) && not (eqb k 43)) && not (eqb k 92)) || eqb k 9) || eqb k 10) || eqb k 13) (own Body k)) 256 refl b h))
 
--- what is written as itself once it is narrow is so before: 0 is not
+abbrev pub ownBits : Style → ℕ → ℕ → Bool
+ownBits style from set = allBelow (λ k. eqb (set / 2 ^ k % 2) (ownBit style (from + k))) 64
+
+pub own-from : (style : Style) (from set : ℕ) → ownBits style from set ≡ true → OwnFrom style from set
+own-from style from set t k h = eqb-true (set / 2 ^ k % 2) (ownBit style (from + k)) (below (λ k. eqb (set / 2 ^ k % 2) (ownBit style (from + k))) 64 t k h)
+
+-- a cell is written as itself just when it is so once it is narrow: 0 is not, nor is a cell that is not narrow
 zero-other : (style : Style) → own style 0 ≡ false
 unfolding own direct setD setO alphanumeric
 zero-other Header = refl
 zero-other Body = refl
 zero-other Name = refl
 
-pub own-narrow : (style : Style) (u : ℕ) → Own style (narrow u) → Own style u
-own-narrow style u = told (ltb u 128)
+pub own-narrow : (style : Style) (u : ℕ) → own style (narrow u) ≡ own style u
+own-narrow style u = told (ltb u 128) refl
   where
-    told : (t : Bool) → own style (cond t u 0) ≡ true → own style u ≡ true
-    told true e = e
-    told false e = absurd (false≢true (sym (zero-other style) ∙ e))
+    told : (t : Bool) → ltb u 128 ≡ t → own style (cond t u 0) ≡ own style u
+    told true e = refl
+    told false e = zero-other style ∙ sym (own-high style u (ltb-false u 128 e))
 
--- sixteen bits that come to sixteen
-pub count-more :
-    (style : Style) (bs : List ℕ) (k count bit : ℕ) → bit ≡ ownBit style (getD bs k 0) → count ≤ k → (count ≡ k → Ahead (Own style) bs 0 k) →
-    (count + bit ≤ k + 1) × (count + bit ≡ k + 1 → Ahead (Own style) bs 0 (k + 1))
-count-more style bs k count bit e h a =
-    let b = bit-own style (getD bs k 0) in (
-      omega (arith, b .0),
-      λ q. ahead-more (Own style) bs 0 k (a (omega (arith, b .0))) (rw (zero-add k) (b .1 (sym e ∙ omega (arith, b .0)))),
-    )
+-- the sets tell what is written as itself
+module _ (style : Style) (low high set u : ℕ) (l : OwnFrom style 0 low) (g : OwnFrom style 64 high) (a : u ≤ 63 → set ≡ low) (b : 63 < u → set ≡ high) where
+  bit-told : (t : Bool) → eqb (cond {A = ℕ} t 1 0) 1 ≡ t
+  bit-told true = refl
+  bit-told false = refl
+
+  of-half : (t : Bool) → ltb 63 u ≡ t → u < 128 → eqb (set / 2 ^ (u % 64) % 2) 1 ≡ own style u
+  of-half true e h =
+      let k = ltb-true 63 u e in
+      let x : u % 64 ≡ u - 64 = omega arith in
+      let y : 64 + (u - 64) ≡ u = omega arith in
+      rw (b k, x, g (u - 64) (omega arith), y) (bit-told (own style u))
+  of-half false e h =
+      let k = ltb-false 63 u e in
+      let x : u % 64 ≡ u = omega arith in
+      rw (a k, x, l u (omega arith), zero-add u) (bit-told (own style u))
+
+  of-sets : (t : Bool) → ltb u 128 ≡ t → (t && eqb (set / 2 ^ (u % 64) % 2) 1) ≡ own style u
+  of-sets true e = of-half (ltb 63 u) refl (ltb-true u 128 e)
+  of-sets false e = sym (own-high style u (ltb-false u 128 e))
+
+  pub sets-own : (ltb u 128 && eqb (set / 2 ^ (u % 64) % 2) 1) ≡ own style u
+  sets-own = of-sets (ltb u 128) refl
+
+-- a block's bytes, of which the first k are written as themselves: so are the cells, and they are the bytes
+module _ (style : Style) (us : List ℕ) (i : ℕ) (bs : List ℕ) (n : ℕ) where
+  pub own-cells : Narrowed us i bs n → (k : ℕ) → k ≤ n → Ahead (Own style) bs 0 k → Ahead (Own style) us i k
+  own-cells w k q a m h = sym (own-narrow style (getD us (i + m) 0)) ∙ rw (zero-add m, w m (omega arith)) at (a m h)
+
+  pub same-cells :
+      i + n ≤ length us → length bs ≡ n → Narrowed us i bs n → (k : ℕ) → k ≤ n → Ahead (Own style) bs 0 k → take k bs ≡ take k (drop i us)
+  same-cells h l w k q a =
+      let e : length (take k bs) ≡ k = length-take-le k bs (omega arith) in
+      ext-getD 0 (take k bs) (take k (drop i us)) (e ∙ sym (length-take-le k (drop i us) (omega (arith, length-drop i us))))
+      (λ m z.
+      let y : m < k = omega arith in
+      let u = getD us (i + m) 0 in
+      getD-take k bs m 0 y ∙ w m (omega arith)
+      ∙ rw (lt-ltb u 128 (own-byte style u (own-cells w k q a m y)), getD-take k (drop i us) m 0 y, getD-drop i us m 0))
+
+-- the greatest weight of the bytes passed that are not written as themselves: that of the first of them
+abbrev pub Weighed : Style → List ℕ → ℕ → ℕ → Type 0
+Weighed style bs k m =
+    (m ≤ 16) × ((j : ℕ) → j < k → j + m < 16 → Own style (getD bs j 0)) × (0 < m → (16 < k + m) × (own style (getD bs (16 - m) 0) ≡ false))
+
+module _ (style : Style) (bs : List ℕ) (k m : ℕ) (h : k < 16) (g : Weighed style bs k m) {bit w m' : ℕ} where
+  pub weighed-more : bit ≡ ownBit style (getD bs k 0) → w ≡ cond (eqb bit 1) 0 (16 - k) → m' ≡ max m w → Weighed style bs (k + 1) m'
+  weighed-more p e f = told (own style (getD bs k 0)) refl
+    where
+      here : (j : ℕ) → j < k + 1 → j + m < 16 → own style (getD bs k 0) ≡ true → (t : Bool) → eqb j k ≡ t → Own style (getD bs j 0)
+      here j a c o true q = rw (eqb-true j k q) o
+      here j a c o false q = g .1 j (omega (arith, eqb-false j k q)) c
+
+      first : (t : Bool) → eqb m 0 ≡ t → own style (getD bs k 0) ≡ false → w ≡ 16 - k → Weighed style bs (k + 1) m'
+      first true q o x =
+          let z = eqb-true m 0 q in
+          let y : 16 - m' ≡ k = omega arith in
+          (omega arith, λ j a c. g .1 j (omega arith) (omega arith), λ _. (omega arith, rw y o))
+      first false q o x =
+          let s = g .2 (omega (arith, eqb-false m 0 q)) in
+          let y : m' ≡ m = omega arith in
+          rw y (g .0, λ j a c. g .1 j (omega arith) c, λ _. (omega arith, s .1))
+
+      told : (t : Bool) → own style (getD bs k 0) ≡ t → Weighed style bs (k + 1) m'
+      told true o =
+          let x : w ≡ 0 = e ∙ rw (p, o) in
+          let y : m' ≡ m = omega arith in
+          rw y (g .0, λ j a c. here j a c o (eqb j k) refl, λ v. (omega (arith, g .2 v .0), g .2 v .1))
+      told false o = first (eqb m 0) refl o (e ∙ rw (p, o))
 
 -- one element more of a block that is made narrow
 pub narrowed-more :
@@ -85,6 +151,14 @@ narrowed-more us i bs k x h n e m l = told (eqb m k) refl
     told : (t : Bool) → eqb m k ≡ t → getD (set bs k x) m 0 ≡ narrow (getD us (i + m) 0)
     told true q = rw (eqb-true m k q) (getD-set-same bs k x 0 h ∙ e)
     told false q = getD-set-other bs k m x 0 (eqb-false m k q) ∙ n m (omega (arith, eqb-false m k q))
+
+-- bytes stored one after another
+module _ (out₀ bs : List ℕ) (at n k : ℕ) {out : List ℕ} (l : length bs ≡ n) (h : at + n ≤ length out₀) (e : out ≡ paste out₀ at bs k) where
+  pub pasted-length : k ≤ n → length out ≡ length out₀
+  pasted-length q = ap length e ∙ length-paste out₀ at bs k (omega arith) (omega arith)
+
+  pub pasted-more : k < n → set out (at + k) (getD bs k 0) ≡ paste out₀ at bs (k + 1)
+  pasted-more q = rw (e, add-one) (paste-suc out₀ at bs k 0 (omega arith) (omega arith))
 
 -- a block of units that are written as themselves
 pub write-block :

@@ -6,3 +6,4 @@ pub mod Values
 pub mod Blocks
 pub mod Several
 pub mod Runs
+pub mod Begun

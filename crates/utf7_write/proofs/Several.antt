@@ -6,7 +6,7 @@ use native.Mathlib.Omega.{arith}
 use native.Mathlib.Nat.{add-zero}
 use native.Mathlib.Numerals.{add-one}
 use lib.ListN.{length, getD, take, drop, set, length-append, take-append-drop}
-use lib.Seq.{sets, sets-eq, length-sets, paste, length-take-le, take-at, drop-at, drop-cons, getD-at}
+use lib.Seq.{sets, sets-eq, length-sets, paste, take-paste, drop-paste, take-add, drop-drop, length-take-le, take-at, drop-at, drop-cons, getD-at}
 use Rattle.answer.proofs.Put.{Put, put-as, put-next, put-end, put-done}
 
 pub put-several :
@@ -31,6 +31,16 @@ module _ {text out₀ out : List ℕ} {at : ℕ} (s r : List ℕ) (n : ℕ) (h :
   put-block =
       let e : sets out at (take n s) ≡ paste out at s n = rw block-length at (sets-eq (take n s) out at (rw block-length block-room)) in
       rw e at block-put
+
+-- a copy, and a copy of what comes next behind it
+pub paste-paste :
+    (d : List ℕ) (at : ℕ) (s : List ℕ) (n m : ℕ) (bs : List ℕ) {out : List ℕ} {to : ℕ} → out ≡ paste d at s n → to ≡ at + n →
+    at + n + m ≤ length d → n + m ≤ length s → take m bs ≡ take m (drop n s) → paste out to bs m ≡ paste d at s (n + m)
+paste-paste d at s n m bs o t h k e =
+    let a = take-paste d at s n (omega arith) (omega arith) in
+    let b = sym (drop-drop m (at + n) (paste d at s n)) ∙ ap (drop m) (drop-paste d at s n (omega arith) (omega arith)) ∙ drop-drop m (at + n) d in
+    let q : at + n + m ≡ at + (n + m) = omega arith in
+    rw (o, t, a, b, e, append-assoc (take at d) (take n s) (take m (drop n s)), ← take-add n m s, q)
 
 -- a text behind what stands before a place: where it begins, and once it is put
 module _ (out vs : List ℕ) (from : ℕ) (h : from + length vs ≤ length out) where

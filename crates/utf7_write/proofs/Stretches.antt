@@ -123,11 +123,25 @@ module _ (style : Style) (us : List ℕ) (i : ℕ) where
         }
 
 -- a block of units of 128 or more
-high-other : (style : Style) (u : ℕ) → High u → other style u ≡ true
+pub own-high : (style : Style) (u : ℕ) → High u → own style u ≡ false
+own-high style u h = bool-false (own style u) (λ e. omega (arith, own-byte style u e))
+
+pub not-own-other : (style : Style) (u : ℕ) → own style u ≡ false → (u ≡ signOf style → ⊥) → other style u ≡ true
 unfolding other
-high-other style u h =
-    let o : own style u ≡ false = bool-false (own style u) (λ e. omega (arith, own-byte style u e)) in
-    rw (o, ne-eqb u (signOf style) (λ e. omega (arith, sign-byte style)))
+not-own-other style u o n = rw (o, ne-eqb u (signOf style) n)
+
+high-other : (style : Style) (u : ℕ) → High u → other style u ≡ true
+high-other style u h = not-own-other style u (own-high style u h) (λ e. omega (arith, sign-byte style))
+
+-- a run of one unit: the next is written as itself
+pub one-alone :
+    (style : Style) (us : List ℕ) (i : ℕ) → i + 1 < length us → other style (getD us i 0) ≡ true → own style (getD us (i + 1) 0) ≡ true →
+    Stretched style us i (i + 1)
+unfolding other
+one-alone style us i h e o =
+    let k : i < length us = omega arith in
+    stretched style us i k (i + 1) e
+    (omega (arith, stretch-more style us i k e, stretch-here style us (i + 1) h (rw o)))
 
 pub stretch-block :
     (style : Style) (us : List ℕ) (n i : ℕ) → i + n ≤ length us → Ahead High us i n →

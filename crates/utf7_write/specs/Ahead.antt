@@ -1,5 +1,5 @@
 -- What holds of each of several elements, one after another: what the writer's private functions find out of a block.
-use Prim.Native.Nat.{ℕ, _+_, _<_}
+use Prim.Native.Nat.{ℕ, _+_, _/_, _%_, _^_, _<_}
 use mathlib.Core.Path.{_≡_}
 use mathlib.Core.Bool.{true, cond}
 use mathlib.Core.List.{List}
@@ -22,6 +22,10 @@ Own style u = own style u ≡ true
 
 abbrev pub ownBit : Style → ℕ → ℕ
 ownBit style u = cond (own style u) 1 0
+
+-- a bit for each of 64 codes: whether the style writes it as itself
+abbrev pub OwnFrom : Style → ℕ → ℕ → Type 0
+OwnFrom style from set = (k : ℕ) → k < 64 → set / 2 ^ k % 2 ≡ ownBit style (from + k)
 
 -- a cell below 128 as a byte, and 0 for any other
 abbrev pub narrow : ℕ → ℕ

@@ -1,3 +1,4 @@
 pub mod Stretch
 pub mod Ahead
 pub mod Values
+pub mod Begun

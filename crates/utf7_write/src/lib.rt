@@ -3,21 +3,24 @@ use answer::Answer;
 use answer::Refusal;
 use utf7::Style;
 ghost use mathlib.Core.Path.{_≡_};
-ghost use Prim.Native.Nat.{_+_, _-_, _<_, _≤_, _^_};
-ghost use mathlib.Core.Bool.{true, cond};
-ghost use mathlib.Core.List.{map};
-ghost use lib.ListN.{length, take, drop};
+ghost use Prim.Native.Nat.{_+_, _-_, _<_, _≤_, _^_, max};
+ghost use mathlib.Core.Bool.{true, false, cond};
+ghost use mathlib.Core.List.{[], _∷_, map};
+ghost use lib.ListN.{length, getD, take, drop};
+ghost use lib.Dec.{eqb};
 ghost use lib.Seq.{sets, paste};
 ghost use Rattle.answer.specs.Answer.{limit};
 ghost use Rattle.answer.specs.Lists.{Each};
 ghost use Rattle.answer.specs.Output.{leaves, filled};
 ghost use Rattle.bits.specs.Bits.{bitsOf};
 ghost use Rattle.base64.specs.Letters.{within, letterOf};
+ghost use Rattle.utf7.specs.Sets.{own};
 ghost use Rattle.utf7.specs.declared.Style.the-variants.{Header, Body, Name};
 ghost use Rattle.utf7.specs.Writing.{IsUnit, spell, stretch, writing, firstOver, writeInto};
 ghost use Rattle.utf7_write.specs.Stretch.{other, stretchLength};
 ghost use Rattle.utf7_write.specs.Values.{values, fourOf};
-ghost use Rattle.utf7_write.specs.Ahead.{Ahead, High, Own, ownBit, narrow, Narrowed};
+ghost use Rattle.utf7_write.specs.Ahead.{Ahead, High, Own, ownBit, OwnFrom, narrow, Narrowed};
+ghost use Rattle.utf7_write.specs.Begun.{Begun};
 
 // The unit belongs to a run.
 fn is_other(style: Style, u: u32) -> bool
@@ -255,40 +258,219 @@ fn bytes_ahead(cells: &[u32], i: usize) -> [u8; 16]
     bytes
 }
 
-// Whether the style writes all of sixteen bytes as themselves.
-fn all_own(style: Style, bytes: [u8; 16]) -> bool
-    ensures { λ r. ⌜ (r ≡ true → Ahead (Own style) bytes 0 16) ⌝ }
+// The greater of two weights.
+fn most(a: u8, b: u8) -> u8
+    ensures { λ r. ⌜ r ≡ max a b ⌝ }
 {
-    let mut count: u8 = 0;
+    if a < b {
+        return b;
+    }
+    a
+}
+
+// The weight of a byte that is not written as itself; one that is has none.
+fn weight(own: u8, w: u8) -> u8
+    ensures { λ r. ⌜ r ≡ cond (eqb own 1) 0 w ⌝ }
+{
+    if own == 1 {
+        return 0;
+    }
+    w
+}
+
+// How many of sixteen bytes the style writes as themselves before one that it does not: the first of those weighs most.
+fn own_in(style: Style, bytes: [u8; 16]) -> usize
+    ensures { λ r. ⌜ (r ≤ 16) × Ahead (Own style) bytes 0 r × (r < 16 → own style (getD bytes r 0) ≡ false) ⌝ }
+{
+    let mut m: u8 = 0;
     for k in 0..16 {
-        count += own_byte(style, bytes[k]);
+        m = most(m, weight(own_byte(style, bytes[k]), 16 - k as u8));
     }
-    count == 16
+    16 - m as usize
 }
 
-// Whether the sixteen cells from a place on are all written as themselves. It is asked at every sixteenth cell only.
-fn own_ahead(style: Style, cells: &[u32], i: usize) -> bool
-    requires { ⌜ i ≤ length (now cells) ⌝ }
-    ensures { λ r. ⌜ (r ≡ true → (i + 16 ≤ length (now (cells .entry))) × Ahead (Own style) (now (cells .entry)) i 16) ⌝ }
+// Sixteen bytes go to the output at once.
+fn put_block(bytes: [u8; 16], out: &mut [u8], at: usize)
+    requires { ⌜ at + 16 ≤ length (now out) ⌝ }
+    ensures { λ _. ⌜ now (out .exit) ≡ paste (now (out .entry)) at bytes 16 ⌝ }
 {
-    if i % 16 != 0 {
-        return false;
-    }
-    if cells.len() - i < 16 {
-        return false;
-    }
-    all_own(style, bytes_ahead(cells, i))
-}
-
-// Sixteen cells go to the output as bytes. All are read before one is stored, so that the block is copied at once.
-fn copy_block(style: Style, cells: &[u32], i: usize, out: &mut [u8], at: usize)
-    requires { ⌜ (i + 16 ≤ length (now cells)) × Ahead (Own style) (now cells) i 16 × (at + 16 ≤ length (now out)) ⌝ }
-    ensures { λ _. ⌜ now (out .exit) ≡ paste (now (out .entry)) at (drop i (now (cells .entry))) 16 ⌝ }
-{
-    let bytes = bytes_ahead(cells, i);
     for k in 0..16 {
         out[at + k] = bytes[k];
     }
+}
+
+// The same of twice as many, for long stretches.
+fn long_ahead(cells: &[u32], i: usize) -> [u8; 32]
+    requires { ⌜ i + 32 ≤ length (now cells) ⌝ }
+    ensures { λ r. ⌜ Narrowed (now (cells .entry)) i r 32 ⌝ }
+{
+    let mut bytes = [0u8; 32];
+    for k in 0..32 {
+        bytes[k] = byte_of(cells[i + k]);
+    }
+    bytes
+}
+
+// Whether body style writes a byte as itself. The tests are eager, so that they compile to no branch.
+fn is_direct(b: u8) -> bool
+    ensures { λ r. ⌜ r ≡ own Body b ⌝ }
+{
+    (32 <= b) & (b <= 125) & (b != b'+') & (b != b'\\') | (b == 9) | (b == 10) | (b == 13)
+}
+
+fn all_direct(bytes: [u8; 32]) -> bool
+    ensures { λ r. ⌜ (r ≡ true → Ahead (Own Body) bytes 0 32) ⌝ }
+{
+    let mut direct = true;
+    for k in 0..32 {
+        direct = direct & is_direct(bytes[k]);
+    }
+    direct
+}
+
+fn put_long(bytes: [u8; 32], out: &mut [u8], at: usize)
+    requires { ⌜ at + 32 ≤ length (now out) ⌝ }
+    ensures { λ _. ⌜ now (out .exit) ≡ paste (now (out .entry)) at bytes 32 ⌝ }
+{
+    for k in 0..32 {
+        out[at + k] = bytes[k];
+    }
+}
+
+// Copies blocks of cells that body style writes as themselves; the place of the first cell that is not copied.
+fn copy_blocks(cells: &[u32], from: usize, out: &mut [u8], to: usize) -> usize
+    requires { ⌜ (from ≤ length (now cells)) × (to + (length (now cells) - from) ≤ length (now out)) ⌝ }
+    ensures { λ r. ⌜ (from ≤ r) × (r ≤ length (now (cells .entry))) × Ahead (Own Body) (now (cells .entry)) from (r - from)
+        × (now (out .exit) ≡ paste (now (out .entry)) to (drop from (now (cells .entry))) (r - from)) ⌝ }
+{
+    let mut i = from;
+    let mut at = to;
+    while 32 <= cells.len() - i {
+        let bytes = long_ahead(cells, i);
+        if !all_direct(bytes) {
+            return i;
+        }
+        put_long(bytes, out, at);
+        i += 32;
+        at += 32;
+    }
+    i
+}
+
+// The codes below 64 that the style writes as themselves, a bit for each.
+fn low_set(style: Style) -> u64
+    ensures { λ r. ⌜ OwnFrom style 0 r ⌝ }
+{
+    match style {
+        Style::Header => 0x87fff38100002600,
+        Style::Body => 0xfffff7ff00002600,
+        Style::Name => 0xffffffbf00000000,
+    }
+}
+
+// The next 64 codes.
+fn high_set(style: Style) -> u64
+    ensures { λ r. ⌜ OwnFrom style 64 r ⌝ }
+{
+    match style {
+        Style::Header => 0x7fffffe07fffffe,
+        Style::Body => 0x3fffffffefffffff,
+        Style::Name => 0x7fffffffffffffff,
+    }
+}
+
+// Whether a unit is in a style's two sets.
+fn in_sets(low: u64, high: u64, u: u32) -> bool
+    ensures { λ r. ⌜ ((style : Style) → OwnFrom style 0 low → OwnFrom style 64 high → r ≡ own style u) ⌝ }
+{
+    let mut set = low;
+    if 63 < u {
+        set = high;
+    }
+    (u < 128) & ((set >> (u % 64)) % 2 == 1)
+}
+
+// The run of one unit: the sign, three letters, '-'.
+fn write_one(style: Style, u: u32, out: &mut [u8])
+    requires { ⌜ IsUnit u × (length (spell style (stretch (u ∷ []))) ≤ length (now out)) ⌝ }
+    ensures { λ _. ⌜ now (out .exit) ≡ filled (spell style (stretch (u ∷ []))) (now (out .entry)) ⌝ }
+{
+    let last = utf7::last_of(style);
+    let a = base64::letter_of(last, u / 1024);
+    let b = base64::letter_of(last, u / 16 % 64);
+    let c = base64::letter_of(last, u % 16 * 4);
+    out[0] = utf7::sign_of(style) as u8;
+    out[1] = a;
+    out[2] = b;
+    out[3] = c;
+    out[4] = 45;
+}
+
+// Whether what the style writes as itself comes in stretches that are long enough for long blocks.
+fn is_long(style: Style) -> bool
+    ensures { λ r. ⌜ (r ≡ true → style ≡ Body) ⌝ }
+{
+    match style {
+        Style::Header => false,
+        Style::Body => true,
+        Style::Name => false,
+    }
+}
+
+// Where the quick loop stopped: the cells written, and the bytes that stand.
+struct Reached {
+    i: usize,
+    at: usize,
+}
+
+// Writes by blocks while more than sixteen cells are left. A block is stored whole before it is known how many of its bytes stand: each cell that
+// is left takes a byte at least, so that all the others are written over.
+fn write_blocks(style: Style, cells: &[u32], out: &mut [u8]) -> Reached
+    requires { ⌜ Each IsUnit (now cells) × (length (writing style (now cells)) ≤ length (now out)) ⌝ }
+    ensures { λ r. ⌜ Begun style (now (cells .entry)) (now (out .entry)) (now (out .exit)) (r .i) (r .at) ⌝ }
+{
+    let sign = utf7::sign_of(style);
+    let low = low_set(style);
+    let high = high_set(style);
+    let long = is_long(style);
+    let mut i: usize = 0;
+    let mut at: usize = 0;
+    while 17 <= cells.len() - i {
+        let bytes = bytes_ahead(cells, i);
+        put_block(bytes, out, at);
+        let k = own_in(style, bytes);
+        if k == 16 {
+            at += 16;
+            i += 16;
+            if long {
+                let j = copy_blocks(cells, i, out, at);
+                at += j - i;
+                i = j;
+            }
+        } else {
+            at += k;
+            i += k;
+            let u = cells[i];
+            if u == sign {
+                out[at] = sign as u8;
+                out[at + 1] = 45;
+                at += 2;
+                i += 1;
+            } else {
+                if in_sets(low, high, cells[i + 1]) {
+                    write_one(style, u, &mut out[at..]);
+                    at += 5;
+                    i += 1;
+                } else {
+                    let j = stretch_end(style, cells, i);
+                    let n = write_run(style, &cells[i..j], &mut out[at..]);
+                    at += n;
+                    i = j;
+                }
+            }
+        }
+    }
+    Reached { i, at }
 }
 
 // The writing of units goes to the front of the output; its length.
@@ -298,49 +480,42 @@ fn write_all(style: Style, cells: &[u32], out: &mut [u8]) -> usize
         × (now (out .exit) ≡ filled (writing style (now (cells .entry))) (now (out .entry))) ⌝ }
 {
     let sign = utf7::sign_of(style);
-    let mut i: usize = 0;
-    let mut at: usize = 0;
+    let r = write_blocks(style, cells, out);
+    let mut i: usize = r.i;
+    let mut at: usize = r.at;
     while i < cells.len() {
-        if own_ahead(style, cells, i) {
-            copy_block(style, cells, i, out, at);
-            at += 16;
-            i += 16;
+        let u = cells[i];
+        if is_other(style, u) {
+            let j = stretch_end(style, cells, i);
+            let n = write_run(style, &cells[i..j], &mut out[at..]);
+            at += n;
+            i = j;
         } else {
-            let u = cells[i];
-            if is_other(style, u) {
-                let j = stretch_end(style, cells, i);
-                let n = write_run(style, &cells[i..j], &mut out[at..]);
-                at += n;
-                i = j;
+            if u == sign {
+                out[at] = sign as u8;
+                out[at + 1] = 45;
+                at += 2;
+                i += 1;
             } else {
-                if u == sign {
-                    out[at] = sign as u8;
-                    out[at + 1] = 45;
-                    at += 2;
-                    i += 1;
-                } else {
-                    out[at] = u as u8;
-                    at += 1;
-                    i += 1;
-                }
+                out[at] = u as u8;
+                at += 1;
+                i += 1;
             }
         }
     }
     at
 }
 
-// Whether the sixteen cells from a place on are units.
+// Whether the 32 cells from a place on are units: joined by their bits, none is above the limit.
 fn units_ahead(cells: &[u32], i: usize) -> bool
-    requires { ⌜ i + 16 ≤ length (now cells) ⌝ }
-    ensures { λ r. ⌜ (r ≡ true → Ahead IsUnit (now (cells .entry)) i 16) ⌝ }
+    requires { ⌜ i + 32 ≤ length (now cells) ⌝ }
+    ensures { λ r. ⌜ (r ≡ true → Ahead IsUnit (now (cells .entry)) i 32) ⌝ }
 {
-    let mut units = true;
-    for k in 0..16 {
-        if 65535 < cells[i + k] {
-            units = false;
-        }
+    let mut all: u32 = 0;
+    for k in 0..32 {
+        all = all | cells[i + k];
     }
-    units
+    all <= 65535
 }
 
 // The index of the first cell that is no unit, or the length.
@@ -348,11 +523,11 @@ pub fn first_over(cells: &[u32]) -> usize
     ensures { λ r. ⌜ r ≡ firstOver (now (cells .entry)) ⌝ }
 {
     let mut i: usize = 0;
-    while 16 <= cells.len() - i {
+    while 32 <= cells.len() - i {
         if !units_ahead(cells, i) {
             return first_over_from(cells, i);
         }
-        i += 16;
+        i += 32;
     }
     first_over_from(cells, i)
 }

@@ -1,0 +1,134 @@
+use Prim.Native.Nat.{_+_, _-_, _≤_}
+use mathlib.Core.Path.{_≡_, refl, sym, ap, _∙_}
+use native.Mathlib.Omega.{arith}
+use lib.ListN.{length, take, drop, length-drop}
+use lib.Seq.{paste, paste-zero, length-paste, drop-drop}
+use borrow.Author.Tests.{not-false}
+use Rattle.utf7.specs.declared.Style.the-variants.{Body}
+use Rattle.utf7_write.specs.Ahead.{Ahead, Own}
+use Rattle.utf7_write.proofs.Ahead.{ahead-join}
+use Rattle.utf7_write.proofs.Blocks.{own-cells, same-cells}
+use Rattle.utf7_write.proofs.Several.{paste-paste}
+use borrow.Author.Needs.{needs}
+use Rattle.utf7_write.proofs.copy_blocks.Statement.{statement}
+use Rattle.utf7_write.proofs.copy_blocks.Tie as tie
+
+abbrev Inv-loop : tie.InvT-loop
+Inv-loop cells from out₀ to i₀ at₀ out i at =
+    (from ≤ i) × (i ≤ length cells) × (at ≡ to + (i - from)) × Ahead (Own Body) cells from (i - from)
+    × (out ≡ paste out₀ to (drop from cells) (i - from))
+
+abbrev μ-loop : tie.MeasureT-loop
+μ-loop cells from out₀ to i₀ at₀ out i at = length cells - i
+
+abbrev start : tie.At-loop Inv-loop μ-loop → tie.Start Inv-loop μ-loop
+start l = l .before .before .before
+
+same : (l : tie.At-loop Inv-loop μ-loop) → length (l .loop .out) ≡ length (start l .args .out .now)
+same l =
+    let a = start l .args in
+    ap length (l .loop .inv .4)
+    ∙ length-paste (a .out .now) (a .to) (drop (a .from) (a .cells .now)) (l .loop .i - a .from) (omega arith) (omega (arith, length-drop (a .from) (a .cells .now)))
+
+-- a block that is copied
+abbrev loop-of : tie.Else1 Inv-loop μ-loop → tie.At-loop Inv-loop μ-loop
+loop-of e = e .before .before .before .before
+
+inside : (e : tie.Else1 Inv-loop μ-loop) → loop-of e .loop .i + 32 ≤ length (start (loop-of e) .args .cells .now)
+inside e = omega (arith, e .before .before .before .loop-test .taken)
+
+whole : (e : tie.Else1 Inv-loop μ-loop) → length (e .before .before .long-ahead .result) ≡ 32
+whole e = omega (arith, e .before .before .long-ahead .ok)
+
+block :
+    (e : tie.Else1 Inv-loop μ-loop) → let l = loop-of e in let us = start l .args .cells .now in
+    Ahead (Own Body) us (l .loop .i) 32 × (take 32 (e .before .before .long-ahead .result) ≡ take 32 (drop (l .loop .i) us))
+block e =
+    let l = loop-of e in
+    let us = start l .args .cells .now in
+    let g = e .before .before .long-ahead in
+    let a = e .before .all-direct .ensures (not-false _ (e .if1 .left)) in (
+      own-cells Body us (l .loop .i) (g .result) 32 (g .ensures) 32 (omega arith) a,
+      same-cells Body us (l .loop .i) (g .result) 32 (inside e) (whole e) (g .ensures) 32 (omega arith) a,
+    )
+
+loop-holds : tie.Need-loop-holds Inv-loop μ-loop
+loop-holds c =
+    let a = c .before .before .args in
+    let n : a .from - a .from ≡ 0 = omega arith in
+    (omega arith, omega arith, omega arith, rw n (λ m h. absurd (omega arith)), rw n (paste-zero (a .out .now) (a .to) (drop (a .from) (a .cells .now))))
+
+sub-loop : tie.Need-sub-loop Inv-loop μ-loop
+sub-loop c = search needs
+
+long-ahead-requires : tie.Need-long-ahead-requires Inv-loop μ-loop
+long-ahead-requires c κs = search needs
+
+all-direct-requires : tie.Need-all-direct-requires Inv-loop μ-loop
+all-direct-requires c κs = search needs
+
+same-length : tie.Need-same-length Inv-loop μ-loop
+same-length c = same (c .before .before .before .before)
+
+returns : tie.Need-returns Inv-loop μ-loop
+returns c = search needs
+
+put-long-requires : tie.Need-put-long-requires Inv-loop μ-loop
+put-long-requires c κs =
+    let h = same (loop-of (c .before)) in
+    let i = inside (c .before) in
+    omega arith
+
+add-i : tie.Need-add-i Inv-loop μ-loop
+add-i c = search needs
+
+add-at : tie.Need-add-at Inv-loop μ-loop
+add-at c = search needs
+
+loop-less : tie.Need-loop-less Inv-loop μ-loop
+loop-less c = search needs
+
+loop-again : tie.Need-loop-again Inv-loop μ-loop
+loop-again c =
+    let w = c .before .before in
+    let e = w .before .before in
+    let l = loop-of e in
+    let a = start l .args in
+    let us = a .cells .now in
+    let n = l .loop .i - a .from in
+    let k : l .loop .i + 32 - a .from ≡ n + 32 = omega arith in
+    let j : a .from + n ≡ l .loop .i = omega arith in
+    let i = inside e in (
+      omega arith,
+      i,
+      omega arith,
+      rw k (ahead-join (Own Body) us (a .from) n 32 (l .loop .inv .3) (rw j (block e .0))),
+      rw k
+          (w .put-long .ensures ∙ paste-paste (a .out .now) (a .to) (drop (a .from) us) n 32 (e .before .before .long-ahead .result) (l .loop .inv .4) (l .loop .inv .2) (omega arith) (omega (arith, length-drop (a .from) us)) (block e .1 ∙ rw (drop-drop n (a .from) us, j))),
+    )
+
+same-length-2 : tie.Need-same-length-2 Inv-loop μ-loop
+same-length-2 c = same (c .before)
+
+returns-2 : tie.Need-returns-2 Inv-loop μ-loop
+returns-2 c = search needs
+
+pub copy-blocks-spec : {M : Type 1} → statement M
+copy-blocks-spec =
+    tie.close
+    (tie.spec
+    Inv-loop
+    μ-loop
+    loop-holds
+    sub-loop
+    long-ahead-requires
+    all-direct-requires
+    same-length
+    returns
+    put-long-requires
+    add-i
+    add-at
+    loop-less
+    loop-again
+    same-length-2
+    returns-2)
