@@ -1,12 +1,12 @@
 -- A run as it is written: the sign, the values of its letters, the letters, '-'. Assumes nothing.
-use Prim.Native.Nat.{ℕ, suc, _+_, _-_, _*_, _/_, _%_, _<_, _≤_}
-use mathlib.Core.Path.{_≡_, refl, sym, ap, _∙_}
+use Prim.Native.Nat.{ℕ, _+_, _*_, _/_, _%_, _<_, _≤_}
+use mathlib.Core.Path.{_≡_, refl, sym, _∙_}
 use mathlib.Core.List.{List, [], _∷_, _++_, map}
 use native.Mathlib.Omega.{arith}
-use lib.ListN.{length, getD, take, drop, set, length-append, length-map, length-set}
-use lib.Seq.{sets, sets-eq, length-sets}
+use lib.ListN.{length, take, drop, set, length-append, length-map, length-set}
+use lib.Seq.{sets, sets-eq}
 use Rattle.answer.specs.Output.{filled}
-use Rattle.answer.proofs.Put.{Put, put-as, put-next, put-end, put-done}
+use Rattle.answer.proofs.Put.{Put, put-next, put-done}
 use Rattle.bits.specs.Bits.{bitsOf}
 use Rattle.base64.specs.Letters.{letterOf}
 use Rattle.utf7.specs.Sets.{signOf, lastOf}

@@ -24,7 +24,7 @@ module _ {text out₀ out : List ℕ} {at : ℕ} (s r : List ℕ) (n : ℕ) (h :
   block-put : Put text out₀ (sets out at (take n s)) (at + n) r
   block-put = rw block-length at (put-several (take n s) r out at p)
 
-  pub block-room : at + n ≤ length out
+  block-room : at + n ≤ length out
   block-room = omega (arith, block-put .upto, p .room, p .same)
 
   pub put-block : Put text out₀ (paste out at s n) (at + n) r

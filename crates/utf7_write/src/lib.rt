@@ -290,16 +290,16 @@ fn own_in(style: Style, bytes: [u8; 16]) -> usize
 }
 
 // Sixteen bytes go to the output at once.
-fn put_block(bytes: [u8; 16], out: &mut [u8], at: usize)
+fn put_block(block: [u8; 16], out: &mut [u8], at: usize)
     requires { ⌜ at + 16 ≤ length (now out) ⌝ }
-    ensures { λ _. ⌜ now (out .exit) ≡ paste (now (out .entry)) at bytes 16 ⌝ }
+    ensures { λ _. ⌜ now (out .exit) ≡ paste (now (out .entry)) at block 16 ⌝ }
 {
     for k in 0..16 {
-        out[at + k] = bytes[k];
+        out[at + k] = block[k];
     }
 }
 
-// The same of twice as many, for long stretches.
+// The 32 cells from a place on as bytes.
 fn long_ahead(cells: &[u32], i: usize) -> [u8; 32]
     requires { ⌜ i + 32 ≤ length (now cells) ⌝ }
     ensures { λ r. ⌜ Narrowed (now (cells .entry)) i r 32 ⌝ }
@@ -318,6 +318,7 @@ fn is_direct(b: u8) -> bool
     (32 <= b) & (b <= 125) & (b != b'+') & (b != b'\\') | (b == 9) | (b == 10) | (b == 13)
 }
 
+// Whether it writes all of 32 bytes as themselves.
 fn all_direct(bytes: [u8; 32]) -> bool
     ensures { λ r. ⌜ (r ≡ true → Ahead (Own Body) bytes 0 32) ⌝ }
 {
@@ -328,6 +329,7 @@ fn all_direct(bytes: [u8; 32]) -> bool
     direct
 }
 
+// 32 bytes go to the output at once.
 fn put_long(bytes: [u8; 32], out: &mut [u8], at: usize)
     requires { ⌜ at + 32 ≤ length (now out) ⌝ }
     ensures { λ _. ⌜ now (out .exit) ≡ paste (now (out .entry)) at bytes 32 ⌝ }
@@ -337,24 +339,24 @@ fn put_long(bytes: [u8; 32], out: &mut [u8], at: usize)
     }
 }
 
-// Copies blocks of cells that body style writes as themselves; the place of the first cell that is not copied.
+// Copies blocks of 32 cells that body style writes as themselves; the place of the first cell that is not copied.
 fn copy_blocks(cells: &[u32], from: usize, out: &mut [u8], to: usize) -> usize
     requires { ⌜ (from ≤ length (now cells)) × (to + (length (now cells) - from) ≤ length (now out)) ⌝ }
     ensures { λ r. ⌜ (from ≤ r) × (r ≤ length (now (cells .entry))) × Ahead (Own Body) (now (cells .entry)) from (r - from)
         × (now (out .exit) ≡ paste (now (out .entry)) to (drop from (now (cells .entry))) (r - from)) ⌝ }
 {
-    let mut i = from;
+    let mut j = from;
     let mut at = to;
-    while 32 <= cells.len() - i {
-        let bytes = long_ahead(cells, i);
+    while 32 <= cells.len() - j {
+        let bytes = long_ahead(cells, j);
         if !all_direct(bytes) {
-            return i;
+            return j;
         }
         put_long(bytes, out, at);
-        i += 32;
+        j += 32;
         at += 32;
     }
-    i
+    j
 }
 
 // The codes below 64 that the style writes as themselves, a bit for each.
@@ -399,14 +401,15 @@ fn write_one(style: Style, u: u32, out: &mut [u8])
     let a = base64::letter_of(last, u / 1024);
     let b = base64::letter_of(last, u / 16 % 64);
     let c = base64::letter_of(last, u % 16 * 4);
-    out[0] = utf7::sign_of(style) as u8;
+    let s = utf7::sign_of(style) as u8;
+    out[0] = s;
     out[1] = a;
     out[2] = b;
     out[3] = c;
     out[4] = 45;
 }
 
-// Whether what the style writes as itself comes in stretches that are long enough for long blocks.
+// Whether the style has long stretches of units that are written as themselves, for which blocks of 32 pay.
 fn is_long(style: Style) -> bool
     ensures { λ r. ⌜ (r ≡ true → style ≡ Body) ⌝ }
 {
@@ -434,43 +437,43 @@ fn write_blocks(style: Style, cells: &[u32], out: &mut [u8]) -> Reached
     let high = high_set(style);
     let long = is_long(style);
     let mut i: usize = 0;
-    let mut at: usize = 0;
+    let mut to: usize = 0;
     while 17 <= cells.len() - i {
         let bytes = bytes_ahead(cells, i);
-        put_block(bytes, out, at);
+        put_block(bytes, out, to);
         let k = own_in(style, bytes);
         if k == 16 {
-            at += 16;
+            to += 16;
             i += 16;
             if long {
-                let j = copy_blocks(cells, i, out, at);
-                at += j - i;
+                let j = copy_blocks(cells, i, out, to);
+                to += j - i;
                 i = j;
             }
         } else {
-            at += k;
+            to += k;
             i += k;
             let u = cells[i];
             if u == sign {
-                out[at] = sign as u8;
-                out[at + 1] = 45;
-                at += 2;
+                out[to] = sign as u8;
+                out[to + 1] = 45;
+                to += 2;
                 i += 1;
             } else {
                 if in_sets(low, high, cells[i + 1]) {
-                    write_one(style, u, &mut out[at..]);
-                    at += 5;
+                    write_one(style, u, &mut out[to..]);
+                    to += 5;
                     i += 1;
                 } else {
                     let j = stretch_end(style, cells, i);
-                    let n = write_run(style, &cells[i..j], &mut out[at..]);
-                    at += n;
+                    let n = write_run(style, &cells[i..j], &mut out[to..]);
+                    to += n;
                     i = j;
                 }
             }
         }
     }
-    Reached { i, at }
+    Reached { i, at: to }
 }
 
 // The writing of units goes to the front of the output; its length.

@@ -1,5 +1,5 @@
 use Prim.Native.Nat.{_+_, _-_, _≤_}
-use mathlib.Core.Path.{_≡_, refl, sym, ap, _∙_}
+use mathlib.Core.Path.{_≡_, ap, _∙_}
 use native.Mathlib.Omega.{arith}
 use lib.ListN.{length, take, drop, length-drop}
 use lib.Seq.{paste, paste-zero, length-paste, drop-drop}
@@ -14,12 +14,12 @@ use Rattle.utf7_write.proofs.copy_blocks.Statement.{statement}
 use Rattle.utf7_write.proofs.copy_blocks.Tie as tie
 
 abbrev Inv-loop : tie.InvT-loop
-Inv-loop cells from out₀ to i₀ at₀ out i at =
-    (from ≤ i) × (i ≤ length cells) × (at ≡ to + (i - from)) × Ahead (Own Body) cells from (i - from)
-    × (out ≡ paste out₀ to (drop from cells) (i - from))
+Inv-loop cells from out₀ to j₀ at₀ out j at =
+    (from ≤ j) × (j ≤ length cells) × (at ≡ to + (j - from)) × Ahead (Own Body) cells from (j - from)
+    × (out ≡ paste out₀ to (drop from cells) (j - from))
 
 abbrev μ-loop : tie.MeasureT-loop
-μ-loop cells from out₀ to i₀ at₀ out i at = length cells - i
+μ-loop cells from out₀ to j₀ at₀ out j at = length cells - j
 
 abbrev start : tie.At-loop Inv-loop μ-loop → tie.Start Inv-loop μ-loop
 start l = l .before .before .before
@@ -28,13 +28,13 @@ same : (l : tie.At-loop Inv-loop μ-loop) → length (l .loop .out) ≡ length (
 same l =
     let a = start l .args in
     ap length (l .loop .inv .4)
-    ∙ length-paste (a .out .now) (a .to) (drop (a .from) (a .cells .now)) (l .loop .i - a .from) (omega arith) (omega (arith, length-drop (a .from) (a .cells .now)))
+    ∙ length-paste (a .out .now) (a .to) (drop (a .from) (a .cells .now)) (l .loop .j - a .from) (omega arith) (omega (arith, length-drop (a .from) (a .cells .now)))
 
 -- a block that is copied
 abbrev loop-of : tie.Else1 Inv-loop μ-loop → tie.At-loop Inv-loop μ-loop
 loop-of e = e .before .before .before .before
 
-inside : (e : tie.Else1 Inv-loop μ-loop) → loop-of e .loop .i + 32 ≤ length (start (loop-of e) .args .cells .now)
+inside : (e : tie.Else1 Inv-loop μ-loop) → loop-of e .loop .j + 32 ≤ length (start (loop-of e) .args .cells .now)
 inside e = omega (arith, e .before .before .before .loop-test .taken)
 
 whole : (e : tie.Else1 Inv-loop μ-loop) → length (e .before .before .long-ahead .result) ≡ 32
@@ -42,14 +42,14 @@ whole e = omega (arith, e .before .before .long-ahead .ok)
 
 block :
     (e : tie.Else1 Inv-loop μ-loop) → let l = loop-of e in let us = start l .args .cells .now in
-    Ahead (Own Body) us (l .loop .i) 32 × (take 32 (e .before .before .long-ahead .result) ≡ take 32 (drop (l .loop .i) us))
+    Ahead (Own Body) us (l .loop .j) 32 × (take 32 (e .before .before .long-ahead .result) ≡ take 32 (drop (l .loop .j) us))
 block e =
     let l = loop-of e in
     let us = start l .args .cells .now in
     let g = e .before .before .long-ahead in
     let a = e .before .all-direct .ensures (not-false _ (e .if1 .left)) in (
-      own-cells Body us (l .loop .i) (g .result) 32 (g .ensures) 32 (omega arith) a,
-      same-cells Body us (l .loop .i) (g .result) 32 (inside e) (whole e) (g .ensures) 32 (omega arith) a,
+      own-cells Body us (l .loop .j) (g .result) 32 (g .ensures) 32 (omega arith) a,
+      same-cells Body us (l .loop .j) (g .result) 32 (inside e) (whole e) (g .ensures) 32 (omega arith) a,
     )
 
 loop-holds : tie.Need-loop-holds Inv-loop μ-loop
@@ -79,8 +79,8 @@ put-long-requires c κs =
     let i = inside (c .before) in
     omega arith
 
-add-i : tie.Need-add-i Inv-loop μ-loop
-add-i c = search needs
+add-j : tie.Need-add-j Inv-loop μ-loop
+add-j c = search needs
 
 add-at : tie.Need-add-at Inv-loop μ-loop
 add-at c = search needs
@@ -95,9 +95,9 @@ loop-again c =
     let l = loop-of e in
     let a = start l .args in
     let us = a .cells .now in
-    let n = l .loop .i - a .from in
-    let k : l .loop .i + 32 - a .from ≡ n + 32 = omega arith in
-    let j : a .from + n ≡ l .loop .i = omega arith in
+    let n = l .loop .j - a .from in
+    let k : l .loop .j + 32 - a .from ≡ n + 32 = omega arith in
+    let j : a .from + n ≡ l .loop .j = omega arith in
     let i = inside e in (
       omega arith,
       i,
@@ -126,7 +126,7 @@ copy-blocks-spec =
     same-length
     returns
     put-long-requires
-    add-i
+    add-j
     add-at
     loop-less
     loop-again

@@ -9,10 +9,10 @@ use Rattle.utf7_write.proofs.put_block.Statement.{statement}
 use Rattle.utf7_write.proofs.put_block.Tie as tie
 
 abbrev Inv-loop : tie.InvT-loop
-Inv-loop out₀ at bytes k₀ out k = (out ≡ paste out₀ at bytes k) × (k ≤ 16)
+Inv-loop out₀ at block k₀ out k = (out ≡ paste out₀ at block k) × (k ≤ 16)
 
 abbrev μ-loop : tie.MeasureT-loop
-μ-loop out₀ at bytes k₀ out k = 16 - k
+μ-loop out₀ at block k₀ out k = 16 - k
 
 whole : (s : tie.Start Inv-loop μ-loop) → length (s .args .t1) ≡ 16
 whole s = omega (arith, s .good)

@@ -1,5 +1,4 @@
 use borrow.Author.Tests.{eq-eqb, ne-eqb}
-use borrow.Author.Needs.{needs}
 use Rattle.utf7_write.proofs.weight.Statement.{statement}
 use Rattle.utf7_write.proofs.weight.Tie as tie
 

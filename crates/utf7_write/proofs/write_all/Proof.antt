@@ -2,7 +2,7 @@ use Prim.Native.Nat.{ℕ, _+_, _-_, _<_}
 use mathlib.Core.Path.{sym, _∙_}
 use mathlib.Core.List.{List}
 use native.Mathlib.Omega.{arith}
-use lib.ListN.{length, getD, take, drop, set, length-set}
+use lib.ListN.{length, drop, set, length-set}
 use Rattle.answer.proofs.Below.{each-take, each-drop}
 use Rattle.utf7.proofs.Sets.{sign-byte}
 use Rattle.utf7.specs.Writing.{IsUnit}

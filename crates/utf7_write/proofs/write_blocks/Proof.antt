@@ -3,7 +3,7 @@ use mathlib.Core.Path.{_≡_, sym, ap, _∙_}
 use mathlib.Core.Bool.{true, false}
 use mathlib.Core.List.{List}
 use native.Mathlib.Omega.{arith}
-use lib.ListN.{length, getD, take, drop, set, length-set}
+use lib.ListN.{length, getD, drop, set, length-set}
 use Rattle.answer.proofs.Below.{each-at, each-take, each-drop}
 use Rattle.utf7.specs.Sets.{own}
 use Rattle.utf7.specs.Writing.{IsUnit}
@@ -19,10 +19,10 @@ use Rattle.utf7_write.proofs.write_blocks.Statement.{statement}
 use Rattle.utf7_write.proofs.write_blocks.Tie as tie
 
 abbrev Inv-loop : tie.InvT-loop
-Inv-loop style cells out₀ sign low high long i₀ at₀ out i at = Begun style cells out₀ out i at
+Inv-loop style cells out₀ sign low high long i₀ to₀ out i to = Begun style cells out₀ out i to
 
 abbrev μ-loop : tie.MeasureT-loop
-μ-loop style cells out₀ sign low high long i₀ at₀ out i at = length cells - i
+μ-loop style cells out₀ sign low high long i₀ to₀ out i to = length cells - i
 
 abbrev start : tie.At-loop Inv-loop μ-loop → tie.Start Inv-loop μ-loop
 start l = l .before .before .before .before .before .before .before
@@ -42,7 +42,7 @@ more : (c : tie.After-own-in Inv-loop μ-loop) → loop-of c .loop .i + 17 ≤ l
 more c = omega (arith, c .before .before .before .before .before .before .loop-test .taken)
 
 stands :
-    (c : tie.After-own-in Inv-loop μ-loop) (k : ℕ) → k ≤ c .own-in .result → let l = loop-of c in On l (stored c) (l .loop .i + k) (l .loop .at + k)
+    (c : tie.After-own-in Inv-loop μ-loop) (k : ℕ) → k ≤ c .own-in .result → let l = loop-of c in On l (stored c) (l .loop .i + k) (l .loop .to + k)
 stands c k h =
     let p = c .before .before .before in
     let g = p .before .before .bytes-ahead in
@@ -51,16 +51,16 @@ stands c k h =
     begun-block (loop-of c .loop .inv) 16 (g .result) (omega arith) (omega (arith, g .ok)) (g .ensures) k (omega (arith, o .0)) (λ m q. o .1 m (omega arith)) (p .put-block .ensures)
 
 block :
-    (c : tie.After-own-in Inv-loop μ-loop) → let l = loop-of c in On l (stored c) (l .loop .i + c .own-in .result) (l .loop .at + c .own-in .result)
+    (c : tie.After-own-in Inv-loop μ-loop) → let l = loop-of c in On l (stored c) (l .loop .i + c .own-in .result) (l .loop .to + c .own-in .result)
 block c = stands c (c .own-in .result) (omega arith)
 
-sixteen : (t : tie.Then1 Inv-loop μ-loop) → let l = loop-of (t .before) in On l (stored (t .before)) (l .loop .i + 16) (l .loop .at + 16)
+sixteen : (t : tie.Then1 Inv-loop μ-loop) → let l = loop-of (t .before) in On l (stored (t .before)) (l .loop .i + 16) (l .loop .to + 16)
 sixteen t = stands (t .before) 16 (omega (arith, t .if1 .taken))
 
 -- more blocks
 copied :
     (c : tie.After-copy-blocks Inv-loop μ-loop) → let t = c .before .before .before in let l = loop-of (t .before) in
-    On l (c .copy-blocks .last .1 .1 .0) (c .copy-blocks .result) (l .loop .at + 16 + (c .copy-blocks .result - (l .loop .i + 16)))
+    On l (c .copy-blocks .last .1 .1 .0) (c .copy-blocks .result) (l .loop .to + 16 + (c .copy-blocks .result - (l .loop .i + 16)))
 copied c =
     let w = c .before .before in
     let t = w .before in
@@ -94,7 +94,7 @@ not-own e =
     ∙ rw (g .ensures (c .own-in .result) (few e)) at (c .own-in .ensures .2 (few e))
 
 abbrev behind : tie.Else1 Inv-loop μ-loop → ℕ
-behind e = loop-of (e .before) .loop .at + e .before .own-in .result
+behind e = loop-of (e .before) .loop .to + e .before .own-in .result
 
 -- a sign
 signed :
@@ -164,8 +164,8 @@ put-block-requires c κs =
 own-in-requires : tie.Need-own-in-requires Inv-loop μ-loop
 own-in-requires c κs = search needs
 
-add-at : tie.Need-add-at Inv-loop μ-loop
-add-at c = search needs
+add-to : tie.Need-add-to Inv-loop μ-loop
+add-to c = search needs
 
 add-i : tie.Need-add-i Inv-loop μ-loop
 add-i c = search needs
@@ -173,11 +173,11 @@ add-i c = search needs
 copy-blocks-requires : tie.Need-copy-blocks-requires Inv-loop μ-loop
 copy-blocks-requires c κs = (sixteen (c .before .before) .inside, begun-room (sixteen (c .before .before)))
 
-sub-at : tie.Need-sub-at Inv-loop μ-loop
-sub-at c = search needs
+sub-to : tie.Need-sub-to Inv-loop μ-loop
+sub-to c = search needs
 
-add-at-2 : tie.Need-add-at-2 Inv-loop μ-loop
-add-at-2 c = search needs
+add-to-2 : tie.Need-add-to-2 Inv-loop μ-loop
+add-to-2 c = search needs
 
 loop-less : tie.Need-loop-less Inv-loop μ-loop
 loop-less c = search needs
@@ -191,8 +191,8 @@ loop-less-2 c = search needs
 loop-again-2 : tie.Need-loop-again-2 Inv-loop μ-loop
 loop-again-2 c = sixteen (c .before)
 
-add-at-3 : tie.Need-add-at-3 Inv-loop μ-loop
-add-at-3 c = search needs
+add-to-3 : tie.Need-add-to-3 Inv-loop μ-loop
+add-to-3 c = search needs
 
 add-i-2 : tie.Need-add-i-2 Inv-loop μ-loop
 add-i-2 c = search needs
@@ -215,8 +215,8 @@ add-out c = search needs
 slice-write-out-2 : tie.Need-slice-write-out-2 Inv-loop μ-loop
 slice-write-out-2 c = simp length-set (signed c .0)
 
-add-at-4 : tie.Need-add-at-4 Inv-loop μ-loop
-add-at-4 c = search needs
+add-to-4 : tie.Need-add-to-4 Inv-loop μ-loop
+add-to-4 c = search needs
 
 add-i-3 : tie.Need-add-i-3 Inv-loop μ-loop
 add-i-3 c = search needs
@@ -255,8 +255,8 @@ write-one-requires c κs =
     let s = start (loop-of (e .before)) in
     (each-at IsUnit (s .args .cells .now) (cell e) (s .pre .0) (here e), one-room (block (e .before)) (one t))
 
-add-at-5 : tie.Need-add-at-5 Inv-loop μ-loop
-add-at-5 c = search needs
+add-to-5 : tie.Need-add-to-5 Inv-loop μ-loop
+add-to-5 c = search needs
 
 add-i-4 : tie.Need-add-i-4 Inv-loop μ-loop
 add-i-4 c = search needs
@@ -303,8 +303,8 @@ write-run-requires c κs =
       run-room (block (e .before)) (f .stretch-end .result) (found f),
     )
 
-add-at-6 : tie.Need-add-at-6 Inv-loop μ-loop
-add-at-6 c =
+add-to-6 : tie.Need-add-to-6 Inv-loop μ-loop
+add-to-6 c =
     let w = c .before .before in
     let f = w .before .before .before in
     let b = f .before .before .before .before .before .before .before in
@@ -340,16 +340,16 @@ write-blocks-spec =
     bytes-ahead-requires
     put-block-requires
     own-in-requires
-    add-at
+    add-to
     add-i
     copy-blocks-requires
-    sub-at
-    add-at-2
+    sub-to
+    add-to-2
     loop-less
     loop-again
     loop-less-2
     loop-again-2
-    add-at-3
+    add-to-3
     add-i-2
     mul-u
     shared-slice-read-u
@@ -357,7 +357,7 @@ write-blocks-spec =
     slice-write-out
     add-out
     slice-write-out-2
-    add-at-4
+    add-to-4
     add-i-3
     loop-less-3
     loop-again-3
@@ -369,7 +369,7 @@ write-blocks-spec =
     part-write-one-start
     part-write-one-end
     write-one-requires
-    add-at-5
+    add-to-5
     add-i-4
     loop-less-4
     loop-again-4
@@ -382,7 +382,7 @@ write-blocks-spec =
     part-write-run-start-2
     part-write-run-end-2
     write-run-requires
-    add-at-6
+    add-to-6
     loop-less-5
     loop-again-5
     same-length

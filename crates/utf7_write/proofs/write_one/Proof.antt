@@ -33,8 +33,8 @@ letter-of-requires-3 c κs = search needs
 sign-of-requires : tie.Need-sign-of-requires
 sign-of-requires c κs = search needs
 
-cast-out : tie.Need-cast-out
-cast-out c = omega (arith, c .sign-of .ensures, sign-byte (start c .args .style))
+cast-s : tie.Need-cast-s
+cast-s c = omega (arith, c .sign-of .ensures, sign-byte (start c .args .style))
 
 slice-write-out : tie.Need-slice-write-out
 slice-write-out c = omega (arith, five (start c))
@@ -72,7 +72,7 @@ write-one-spec =
     mul-letter-of
     letter-of-requires-3
     sign-of-requires
-    cast-out
+    cast-s
     slice-write-out
     slice-write-out-2
     slice-write-out-3
