@@ -1,3 +1,4 @@
 pub mod Once
 pub mod Put
+pub mod Laid
 pub mod Below

@@ -2,6 +2,7 @@ pub mod Laws
 pub mod Filling
 pub mod Walk
 pub mod Strides
+pub mod Fronts
 pub mod Spans
 pub mod Steps
 pub mod Cursors
