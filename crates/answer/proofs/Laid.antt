@@ -5,8 +5,8 @@ use mathlib.Core.List.{List, [], _∷_, _++_, append-assoc, append-nil}
 use native.Mathlib.Omega.{arith}
 use native.Mathlib.Nat.{add-zero}
 use native.Mathlib.Numerals.{add-one}
-use lib.ListN.{length, take, set, length-append, length-set}
-use lib.Seq.{length-take-le, take-take, take-append-add, take-suc-set}
+use lib.ListN.{length, getD, take, set, length-append, length-set}
+use lib.Seq.{length-take-le, take-take, take-append-add, take-suc, take-suc-set}
 
 -- cs stands behind the first n places, which are as they were; what lies further on is free
 pub record Laid (cs : List ℕ) (n : ℕ) (out out' : List ℕ) : Type 0 where
@@ -26,6 +26,18 @@ laid-on {cs} {ds} {a} {b} {c} {n} {m} p e q =
       same = q .same ∙ p .same;
       front = rw l (q .front ∙ rw (e, p .front) (append-assoc (take n a) cs ds));
     }
+
+-- one element more of a list
+pub laid-next : (xs : List ℕ) {a b : List ℕ} {n : ℕ} (k : ℕ) → Laid (take k xs) n a b → k < length xs → n + k < length b → Laid (take (k + 1) xs) n a (set b (n + k) (getD xs k 0))
+laid-next xs {a} {b} {n} k p h l =
+    let e : length (take k xs) ≡ k = length-take-le k xs (omega arith) in
+    rw (add-one k, take-suc xs k 0 h) (laid-on p (rw e refl) (laid-one (n + k) (getD xs k 0) b l))
+
+-- three elements
+pub laid-three : (n u v w : ℕ) (out : List ℕ) → n + 3 ≤ length out → Laid (u ∷ v ∷ w ∷ []) n out (set (set (set out n u) (n + 1) v) (n + 2) w)
+laid-three n u v w out h =
+    laid-on (laid-on (laid-one n u out (omega arith)) refl (laid-one (n + 1) v (set out n u) (simp length-set (omega arith)))) refl
+    (laid-one (n + 2) w (set (set out n u) (n + 1) v) (simp length-set (omega arith)))
 
 -- only the first of them count
 pub laid-front : {cs a b : List ℕ} {n : ℕ} (k : ℕ) → Laid cs n a b → n ≤ length a → k ≤ length cs → Laid (take k cs) n a b

@@ -1,35 +1,33 @@
 -- What whole stretches and runs read as, and the bits of runs. Assumes nothing.
 use Prim.Native.Nat.{ℕ, zero, suc, _+_, _-_, _*_, _/_, _%_, _^_, _<_, _≤_}
 use mathlib.Core.Path.{_≡_, refl, sym, ap, _∙_}
-use mathlib.Core.Bool.{Bool, true, false, cond, _&&_, _||_, not}
+use mathlib.Core.Bool.{Bool, true, false, cond, _&&_, _||_, not, false≢true}
 use mathlib.Core.List.{List, [], _∷_, _++_, append-assoc, append-nil, map}
 use native.Mathlib.Omega.{arith}
-use native.Mathlib.Nat.{add-zero}
+use native.Mathlib.Nat.{mod-eq-of-lt}
 use native.Mathlib.Numerals.{add-one}
 use lib.ListN.{length, getD, take, drop, set, length-append, length-map, length-drop, take-append-drop, drop-of-length-le}
-use lib.Seq.{slice, slice-cons, slice-empty, length-slice, take-suc, getD-take, getD-drop, drop-cons, drop-drop, drop-append-add, drop-append-le, drop-at, length-take-le, getD-set-same, getD-set-other}
+use lib.Seq.{slice, slice-cons, slice-empty, length-slice, take-suc, getD-take, getD-drop, drop-cons, drop-drop, drop-append-add, drop-append-le, drop-at, length-take-le, take-take, take-at, getD-set-same, getD-set-other}
 use lib.Pow.{pow-pos}
 use lib.Dec.{leb, ltb, eqb, lit<}
-use borrow.Author.Tests.{ltb-true, ltb-false, eqb-true, eqb-false, lt-ltb}
+use borrow.Author.Tests.{ltb-true, ltb-false, eqb-true, eqb-false, leb-true, leb-false, lt-ltb, le-ltb}
 use Rattle.answer.specs.Lists.{Each}
-use Rattle.answer.specs.Output.{filled}
+use Rattle.answer.proofs.Laid.{Laid, laid-none, laid-one, laid-on, laid-front}
 use Rattle.answer.proofs.Below.{cond-case, allBelow, below, same, same-eq}
-use Rattle.answer.proofs.Put.{Put, put-lt, put-next}
 use Rattle.bits.specs.Bits.{bits, allZero, bitsOf, full, leftOver}
 use Rattle.bits.proofs.Bits.{length-bits, number-bits, bits-append, parted, bits-drop}
 use Rattle.bits.proofs.Groups.{length-bitsOf, length-groups, full-more, full-few}
 use Rattle.base64.specs.Letters.{valueOf, setB, slash}
 use Rattle.reading.specs.Reading.{give, go, bad, Reading, onRead, readFrom, reading}
-use Rattle.reading.proofs.Laws.{Left}
-use Rattle.reading.proofs.Filling.{Filling}
+use Rattle.reading.proofs.Fronts.{Front, front-stride, front-place}
 use Rattle.reading.proofs.Walk.{Walk, stay, gives, goes}
-use Rattle.reading.proofs.Strides.{Stride, left-stride, stride-go, stride-on, stride-as, stride-to, stride-walk}
+use Rattle.reading.proofs.Strides.{Stride, stride-go, stride-on, stride-as, stride-to, stride-walk}
 use Rattle.utf7.specs.Sets.{alphanumeric, setD, setO, direct}
 use Rattle.utf7.specs.Rule.{Shift, outside, run, mayEnd, endDoes, lowDoes, byteDoes, utf7}
 use Rattle.utf7.specs.Writing.{sign, spell}
 use Rattle.utf7.specs.declared.Style.the-variants.{Body}
 use Rattle.utf7.proofs.Round.{Letters, whole-run, self-walk, close-run, piece-walk}
-use Rattle.utf7_whole.specs.Quick.{Span, Over, Run, Values, bitsIn, unitsIn, past}
+use Rattle.utf7_whole.specs.Quick.{Span, Ahead, Run, Values, One, Went, bitsIn, unitsIn, past, firstOf, secondOf, thirdOf, threeOf, unitsOf, lows, stops}
 use Rattle.utf7_read.proofs.Moves.{may-end}
 
 -- the tests of bytes, by computing them
@@ -40,23 +38,59 @@ direct-tests = refl
 pub direct-test : (b : ℕ) → b < 256 → ((((((leb 32 b && leb b 125) && not (eqb b 43)) && not (eqb b 92)) || eqb b 9) || eqb b 10) || eqb b 13) ≡ direct b
 direct-test b h = sym (same-eq _ _ (below (λ k. same ((((((leb 32 k && leb k 125) && not (eqb k 43)) && not (eqb k 92)) || eqb k 9) || eqb k 10) || eqb k 13) (direct k)) 256 direct-tests b h))
 
-letter-tests : allBelow (λ k. same (((((leb 65 k && leb k 90) || (leb 97 k && leb k 122)) || (leb 48 k && leb k 57)) || eqb k 43) || eqb k 47) (setB slash k)) 256 ≡ true
-unfolding allBelow setB valueOf
-letter-tests = refl
-
-pub letter-test : (b : ℕ) → b < 256 → (((((leb 65 b && leb b 90) || (leb 97 b && leb b 122)) || (leb 48 b && leb b 57)) || eqb b 43) || eqb b 47) ≡ setB slash b
-letter-test b h = sym (same-eq _ _ (below (λ k. same (((((leb 65 k && leb k 90) || (leb 97 k && leb k 122)) || (leb 48 k && leb k 57)) || eqb k 43) || eqb k 47) (setB slash k)) 256 letter-tests b h))
-
--- the rule of the letters, by the order of their codes
+-- the rule of the letters, one kind after another
 abbrev pub worth : ℕ → ℕ
-worth b = cond (leb 97 b) (b - 97 + 26) (cond (leb 65 b) (b - 65 + 0) (cond (leb 48 b) (b - 48 + 52) (cond (eqb b 43) 62 63)))
+worth b =
+    cond (leb 47 b && leb b 47) (b - 47 + 63)
+    (cond (leb 43 b && leb b 43) (b - 43 + 62)
+    (cond (leb 48 b && leb b 57) (b - 48 + 52) (cond (leb 97 b && leb b 122) (b - 97 + 26) (cond (leb 65 b && leb b 90) (b - 65 + 0) 64))))
 
-value-tests : allBelow (λ k. not (setB slash k) || eqb (worth k) (valueOf slash k)) 256 ≡ true
-unfolding allBelow setB valueOf
+value-tests : allBelow (λ k. eqb (worth k) (valueOf slash k)) 256 ≡ true
+unfolding allBelow valueOf
 value-tests = refl
 
-pub value-test : (b : ℕ) → b < 256 → setB slash b ≡ true → worth b ≡ valueOf slash b
-value-test b h e = eqb-true _ _ (rw e at (below (λ k. not (setB slash k) || eqb (worth k) (valueOf slash k)) 256 value-tests b h))
+pub value-test : (b : ℕ) → b < 256 → worth b ≡ valueOf slash b
+value-test b h = eqb-true _ _ (below (λ k. eqb (worth k) (valueOf slash k)) 256 value-tests b h)
+
+-- how far a test holds in a block: nothing is looked at, and one place more
+module _ {test : ℕ → Bool} where
+  pub ahead-start : Ahead test 0 32
+  ahead-start = record { upto = omega arith; each = λ j h l. absurd (omega arith); over = λ h. absurd (omega arith) }
+
+  pub ahead-more : {k m : ℕ} → Ahead test k m → k < 32 → Ahead test (k + 1) (cond (ltb (cond (test k) 32 k) m) (cond (test k) 32 k) m)
+  ahead-more {k} {m} p h = by (test k) refl
+    where
+      holds : (t : Bool) → test k ≡ t → (j : ℕ) → (b : Bool) → eqb j k ≡ b → (k < m → t ≡ true) → j < k + 1 → j < m → test j ≡ true
+      holds t e j true q g l n = rw (eqb-true j k q) (e ∙ g (omega (arith, eqb-true j k q)))
+      holds t e j false q g l n = p .each j (omega (arith, eqb-false j k q)) n
+
+      near : (t : Bool) → ltb k m ≡ t → test k ≡ false → Ahead test (k + 1) (cond t k m)
+      near true q e =
+          record {
+            upto = omega arith;
+            each = λ j l n. p .each j n (omega (arith, ltb-true k m q));
+            over = λ _. e;
+          }
+      near false q e =
+          record {
+            upto = p .upto;
+            each = λ j l n. p .each j (omega (arith, ltb-false k m q)) n;
+            over = p .over;
+          }
+
+      by : (t : Bool) → test k ≡ t → Ahead test (k + 1) (cond (ltb (cond t 32 k) m) (cond t 32 k) m)
+      by true e =
+          rw (le-ltb 32 m (p .upto))
+          (record { upto = p .upto; each = λ j l n. holds true e j (eqb j k) refl (λ _. refl) l n; over = p .over })
+      by false e = near (ltb k m) refl e
+
+  pub ahead-as : {test' : ℕ → Bool} {m : ℕ} → Ahead test 32 m → ((j : ℕ) → j < 32 → test' j ≡ test j) → Ahead test' 32 m
+  ahead-as {m = m} p f =
+      record {
+        upto = p .upto;
+        each = λ j h l. f j h ∙ p .each j h l;
+        over = λ h. f m h ∙ p .over h;
+      }
 
 -- bytes of a set side by side: none, one more, and further ones
 module _ {set : ℕ → Bool} {s : List ℕ} where
@@ -79,15 +113,28 @@ module _ {set : ℕ → Bool} {s : List ℕ} where
       at i l m true e = p .each i l (ltb-true i b e)
       at i l m false e = q .each i (ltb-false i b e) m
 
-  -- its later part, and all of it as a list
+  -- its parts
+  pub span-to : {from to : ℕ} (at : ℕ) → Span set s from to → from ≤ at → at ≤ to → Span set s from at
+  span-to at p h k = record { ordered = h; within = omega (arith, p .within); each = λ i l m. p .each i l (omega arith) }
+
   pub span-from : {from to : ℕ} (at : ℕ) → Span set s from to → from ≤ at → at ≤ to → Span set s at to
   span-from at p h k = record { ordered = k; within = p .within; each = λ i l m. p .each i (omega arith) m }
+
+pub span-ahead : (set : ℕ → Bool) {s : List ℕ} {at m : ℕ} → Ahead (λ j. set (getD s (at + j) 0)) 32 m → at + 32 ≤ length s → Span set s at (at + m)
+span-ahead set {s} {at} {m} p h =
+    record {
+      ordered = omega arith;
+      within = omega (arith, p .upto);
+      each = λ i l k.
+          let e : at + (i - at) ≡ i = omega arith in
+          rw e at (p .each (i - at) (omega (arith, p .upto)) (omega arith));
+    }
 
 each-by : (P : ℕ → Type 0) (l : List ℕ) → ((i : ℕ) → i < length l → P (getD l i 0)) → Each P l
 each-by P [] f = tt
 each-by P (x ∷ l) f = (f 0 (omega arith), each-by P l (λ i h. f (suc i) (omega arith)))
 
-slice-at : (s : List ℕ) (from to i : ℕ) → from + i < to → getD (slice from to s) i 0 ≡ getD s (from + i) 0
+pub slice-at : (s : List ℕ) (from to i : ℕ) → from + i < to → getD (slice from to s) i 0 ≡ getD s (from + i) 0
 slice-at s from to i h = getD-drop from (take to s) i 0 ∙ getD-take to s (from + i) 0 h
 
 pub span-each : {set : ℕ → Bool} {s : List ℕ} {from to : ℕ} → Span set s from to → Each (λ b. set b ≡ true) (slice from to s)
@@ -151,42 +198,6 @@ module _ {s : List ℕ} {at to : ℕ} (sign : getD s at 0 ≡ 43) (r : Run s (at
 pub past-on : (s : List ℕ) (to : ℕ) → to ≤ past s to
 past-on s to = cond-case (λ (k : ℕ). to ≤ k) (eqb (getD s to 0) 45) (λ _. omega arith) (λ _. omega arith)
 
--- so many cells further on
-pub left-by : {s : List ℕ} {at to n k : ℕ} {cs : List ℕ} → Left utf7 s at outside n → Stride utf7 s at outside to cs outside → length cs ≡ k → Left utf7 s to outside (n + k)
-left-by l a e = rw e at (left-stride a l)
-
-pub filling-within : {s : List ℕ} {at n : ℕ} {out₀ out : List ℕ} → Filling utf7 s at outside n out₀ out → n ≤ length out
-filling-within f = let p = f .put in omega (arith, p .upto, p .room, p .same)
-
--- filling goes on in another loop, from the output as the first one left it
-module _ {s : List ℕ} {at n : ℕ} {out₀ out : List ℕ} (f : Filling utf7 s at outside n out₀ out) where
-  rest-same : drop n out ≡ drop n out₀
-  rest-same =
-      let p = f .put in
-      ap (drop n) (p .front) ∙ drop-at (take n (reading utf7 s .cells)) (drop n out₀) n (length-take-le n (reading utf7 s .cells) (p .upto))
-
-  pub filling-again : Filling utf7 s at outside n out out
-  filling-again =
-      let p = f .put in
-      record {
-        left = f .left;
-        put = record {
-          room = omega (arith, p .room, p .same);
-          upto = p .upto;
-          left = p .left;
-          front = p .front ∙ ap (λ (r : List ℕ). take n (reading utf7 s .cells) ++ r) (sym rest-same);
-          same = refl;
-        };
-      }
-
-  pub filled-again : filled (reading utf7 s .cells) out ≡ filled (reading utf7 s .cells) out₀
-  filled-again =
-      let cs = reading utf7 s .cells in
-      let k = length cs - n in
-      let e : n + k ≡ length cs = omega (arith, f .put .upto) in
-      let d = sym (drop-drop k n out) ∙ ap (drop k) rest-same ∙ drop-drop k n out₀ in
-      ap (λ (r : List ℕ). cs ++ r) (ap (λ (m : ℕ). drop m out) (sym e) ∙ d ∙ ap (λ (m : ℕ). drop m out₀) e)
-
 -- how many units letters hold
 pub length-units : (s : List ℕ) (from to : ℕ) → to ≤ length s → length (unitsIn s from to) ≡ (to - from) * 6 / 16
 unfolding full
@@ -237,98 +248,76 @@ letter-low : (b : ℕ) → setB slash b ≡ true → valueOf slash b < 64
 unfolding setB
 letter-low b h = ltb-true (valueOf slash b) 64 h
 
--- the units that eight values hold
-abbrev pub firstOf : List ℕ → ℕ
-firstOf xs = (getD xs 0 0 * 64 + getD xs 1 0) * 16 + getD xs 2 0 / 4
+-- the values of the letters from one place to another
+pub record Known (s : List ℕ) (at to : ℕ) (x : ℕ → ℕ) : Type 0 where
+  pub so : (k : ℕ) → at + k < to → x k ≡ valueOf slash (getD s (at + k) 0)
 
-abbrev pub secondOf : List ℕ → ℕ
-secondOf xs = ((getD xs 2 0 % 4 * 64 + getD xs 3 0) * 64 + getD xs 4 0) * 4 + getD xs 5 0 / 16
-
-abbrev pub thirdOf : List ℕ → ℕ
-thirdOf xs = (getD xs 5 0 % 16 * 64 + getD xs 6 0) * 64 + getD xs 7 0
-
--- the values of the first eight letters from one place to another
-pub record Known (s : List ℕ) (at to : ℕ) (xs : List ℕ) : Type 0 where
-  pub so : (k : ℕ) → k < 8 → at + k < to → getD xs k 0 ≡ valueOf slash (getD s (at + k) 0)
-
-pub known : {s : List ℕ} {at to : ℕ} {xs : List ℕ} → Span (setB slash) s at to → Values s at xs → Known s at to xs
-known {at = at} p v = record { so = λ k h l. v .so k h (p .each (at + k) (omega arith) l) }
+pub known : {s : List ℕ} {at to : ℕ} {xs : List ℕ} → Span (setB slash) s at to → to ≤ at + 32 → Values s at xs → Known s at to (lows xs)
+known {s} {at} {to} {xs} p h v =
+    record {
+      so = λ k l.
+          let e = v .so k (omega arith) in
+          let b : valueOf slash (getD s (at + k) 0) < 64 = letter-low _ (p .each (at + k) (omega arith) l) in
+          rw e (mod-eq-of-lt b);
+    }
 
 -- letters from a place on, whose values are known
-module _ {s : List ℕ} {at to : ℕ} (p : Span (setB slash) s at to) {xs : List ℕ} (v : Known s at to xs) where
-  value-at : (k : ℕ) → k < 8 → at + k < to → getD xs k 0 ≡ valueOf slash (getD s (at + k) 0)
-  value-at k h l = v .so k h l
+module _ {s : List ℕ} {at to : ℕ} (p : Span (setB slash) s at to) {x : ℕ → ℕ} (v : Known s at to x) where
+  value-low : (k : ℕ) → at + k < to → x k < 64
+  value-low k l = rw (v .so k l) (letter-low _ (p .each (at + k) (omega arith) l))
 
-  pub value-low : (k : ℕ) → k < 8 → at + k < to → getD xs k 0 < 64
-  value-low k h l = rw (value-at k h l) (letter-low _ (p .each (at + k) (omega arith) l))
-
-  bits-step : (k j : ℕ) → k + 1 ≡ j → k < 8 → at + k < to → bitsIn s (at + k) to ≡ bits 6 (getD xs k 0) ++ bitsIn s (at + j) to
+  bits-step : (k j : ℕ) → k + 1 ≡ j → at + k < to → bitsIn s (at + k) to ≡ bits 6 (x k) ++ bitsIn s (at + j) to
   unfolding bitsOf
-  bits-step k j e h l =
+  bits-step k j e l =
       let q : suc (at + k) ≡ at + j = omega arith in
       let c : slice (at + k) to s ≡ getD s (at + k) 0 ∷ slice (at + j) to s = rw q at (slice-cons (at + k) to s 0 l (p .within)) in
-      ap (λ (r : List ℕ). bitsOf 6 (map (valueOf slash) r)) c ∙ ap (λ (v : ℕ). bits 6 v ++ bitsIn s (at + j) to) (sym (value-at k h l))
+      ap (λ (r : List ℕ). bitsOf 6 (map (valueOf slash) r)) c ∙ ap (λ (v : ℕ). bits 6 v ++ bitsIn s (at + j) to) (sym (v .so k l))
 
-  bits-start : at < to → bitsIn s at to ≡ bits 6 (getD xs 0 0) ++ bitsIn s (at + 1) to
+  bits-start : at < to → bitsIn s at to ≡ bits 6 (x 0) ++ bitsIn s (at + 1) to
   bits-start l =
       let z : at + 0 ≡ at = omega arith in
-      rw z at (bits-step 0 1 refl (lit< tt) (omega arith))
-
-  abbrev x : ℕ → ℕ
-  x k = getD xs k 0
+      rw z at (bits-step 0 1 refl (omega arith))
 
   module _ (h : at + 3 ≤ to) where
-    after-one : unitsIn s at to ≡ firstOf xs ∷ full 16 (bits 2 (x 2 % 4) ++ bitsIn s (at + 3) to)
+    after-one : unitsIn s at to ≡ firstOf x ∷ full 16 (bits 2 (x 2 % 4) ++ bitsIn s (at + 3) to)
     after-one =
-        let a = value-low 0 (lit< tt) (omega arith) in
-        let b = value-low 1 (lit< tt) (omega arith) in
-        let c = value-low 2 (lit< tt) (omega arith) in
-        rw (bits-start (omega arith), bits-step 1 2 refl (lit< tt) (omega arith), bits-step 2 3 refl (lit< tt) (omega arith), first-bits (x 0) (x 1) (x 2) (bitsIn s (at + 3) to) a b c)
-        (unit-first (firstOf xs) _ (omega arith))
+        let a = value-low 0 (omega arith) in
+        let b = value-low 1 (omega arith) in
+        let c = value-low 2 (omega arith) in
+        rw (bits-start (omega arith), bits-step 1 2 refl (omega arith), bits-step 2 3 refl (omega arith), first-bits (x 0) (x 1) (x 2) (bitsIn s (at + 3) to) a b c)
+        (unit-first (firstOf x) _ (omega arith))
 
-    pub one-unit : to < at + 6 → unitsIn s at to ≡ firstOf xs ∷ []
+    pub one-unit : to < at + 6 → unitsIn s at to ≡ firstOf x ∷ []
     one-unit k =
         let f : full 16 (bits 2 (x 2 % 4) ++ bitsIn s (at + 3) to) ≡ [] =
         full-few 16 (lit< tt) _ (simp (length-append, length-bits, length-bitsOf, length-map, length-slice (at + 3) to s (p .within)) (omega arith)) in
         after-one ∙ rw f
 
     module _ (h6 : at + 6 ≤ to) where
-      after-two : unitsIn s at to ≡ firstOf xs ∷ secondOf xs ∷ full 16 (bits 4 (x 5 % 16) ++ bitsIn s (at + 6) to)
+      after-two : unitsIn s at to ≡ firstOf x ∷ secondOf x ∷ full 16 (bits 4 (x 5 % 16) ++ bitsIn s (at + 6) to)
       after-two =
-          let d = value-low 3 (lit< tt) (omega arith) in
-          let e = value-low 4 (lit< tt) (omega arith) in
-          let f = value-low 5 (lit< tt) (omega arith) in
-          let q : full 16 (bits 2 (x 2 % 4) ++ bitsIn s (at + 3) to) ≡ secondOf xs ∷ full 16 (bits 4 (x 5 % 16) ++ bitsIn s (at + 6) to) =
-          rw (bits-step 3 4 refl (lit< tt) (omega arith), bits-step 4 5 refl (lit< tt) (omega arith), bits-step 5 6 refl (lit< tt) (omega arith), second-bits (x 2) (x 3) (x 4) (x 5) (bitsIn s (at + 6) to) d e f)
-          (unit-first (secondOf xs) _ (omega arith)) in
+          let d = value-low 3 (omega arith) in
+          let e = value-low 4 (omega arith) in
+          let f = value-low 5 (omega arith) in
+          let q : full 16 (bits 2 (x 2 % 4) ++ bitsIn s (at + 3) to) ≡ secondOf x ∷ full 16 (bits 4 (x 5 % 16) ++ bitsIn s (at + 6) to) =
+          rw (bits-step 3 4 refl (omega arith), bits-step 4 5 refl (omega arith), bits-step 5 6 refl (omega arith), second-bits (x 2) (x 3) (x 4) (x 5) (bitsIn s (at + 6) to) d e f)
+          (unit-first (secondOf x) _ (omega arith)) in
           after-one ∙ rw q
 
-      pub two-units : to < at + 8 → unitsIn s at to ≡ firstOf xs ∷ secondOf xs ∷ []
+      pub two-units : to < at + 8 → unitsIn s at to ≡ firstOf x ∷ secondOf x ∷ []
       two-units k =
           let f : full 16 (bits 4 (x 5 % 16) ++ bitsIn s (at + 6) to) ≡ [] =
           full-few 16 (lit< tt) _ (simp (length-append, length-bits, length-bitsOf, length-map, length-slice (at + 6) to s (p .within)) (omega arith)) in
           after-two ∙ rw f
 
-      pub three-units : at + 8 ≤ to → unitsIn s at to ≡ firstOf xs ∷ secondOf xs ∷ thirdOf xs ∷ unitsIn s (at + 8) to
+      pub three-units : at + 8 ≤ to → unitsIn s at to ≡ firstOf x ∷ secondOf x ∷ thirdOf x ∷ unitsIn s (at + 8) to
       three-units h8 =
-          let g = value-low 6 (lit< tt) (omega arith) in
-          let h = value-low 7 (lit< tt) (omega arith) in
-          let q : full 16 (bits 4 (x 5 % 16) ++ bitsIn s (at + 6) to) ≡ thirdOf xs ∷ unitsIn s (at + 8) to =
-          rw (bits-step 6 7 refl (lit< tt) (omega arith), bits-step 7 8 refl (lit< tt) (omega arith), third-bits (x 5) (x 6) (x 7) (bitsIn s (at + 8) to) g h)
-          (unit-first (thirdOf xs) _ (omega arith)) in
+          let g = value-low 6 (omega arith) in
+          let h = value-low 7 (omega arith) in
+          let q : full 16 (bits 4 (x 5 % 16) ++ bitsIn s (at + 6) to) ≡ thirdOf x ∷ unitsIn s (at + 8) to =
+          rw (bits-step 6 7 refl (omega arith), bits-step 7 8 refl (omega arith), third-bits (x 5) (x 6) (x 7) (bitsIn s (at + 8) to) g h)
+          (unit-first (thirdOf x) _ (omega arith)) in
           after-two ∙ rw q
-
--- three letters, by the values of each
-pub three-known :
-    (s : List ℕ) (from a b c : ℕ) → a ≡ valueOf slash (getD s from 0) → b ≡ valueOf slash (getD s (from + 1) 0) → c ≡ valueOf slash (getD s (from + 2) 0) →
-    Known s from (from + 3) (a ∷ b ∷ c ∷ [])
-three-known s from a b c ea eb ec = record { so = at }
-  where
-    at : (k : ℕ) → k < 8 → from + k < from + 3 → getD (a ∷ b ∷ c ∷ []) k 0 ≡ valueOf slash (getD s (from + k) 0)
-    at zero h l = rw (add-zero from) ea
-    at (suc zero) h l = eb
-    at (suc (suc zero)) h l = ec
-    at (suc (suc (suc k))) h l = absurd (omega arith)
 
 pub no-unit : {s : List ℕ} {at to : ℕ} → Span (setB slash) s at to → to < at + 3 → unitsIn s at to ≡ []
 no-unit {s} {at} {to} p k = full-few 16 (lit< tt) _ (simp (length-bitsOf, length-map, length-slice at to s (p .within)) (omega arith))
@@ -407,6 +396,59 @@ three-run s from h a b c o z =
       ends = ends-three q (omega arith) (omega arith) (rw last z);
     }
 
+-- units of letters: those of their first eights, and the rest
+known-shift : {s : List ℕ} {at to : ℕ} {x : ℕ → ℕ} → Known s at to x → Known s (at + 8) to (λ k. x (8 + k))
+known-shift {s} {at} {to} {x} v =
+    record {
+      so = λ k l.
+          let e : at + (8 + k) ≡ at + 8 + k = omega arith in
+          rw e at (v .so (8 + k) (omega arith));
+    }
+
+units-split :
+    (s : List ℕ) (from to q : ℕ) → Span (setB slash) s from to → from + 8 * q ≤ to →
+    unitsIn s from to ≡ unitsIn s from (from + 8 * q) ++ unitsIn s (from + 8 * q) to
+units-split s from to zero p h =
+    let e : from + 8 * 0 ≡ from = omega arith in
+    rw (e, no-unit (span-stay {set = setB slash} {s = s} from (omega (arith, p .ordered, p .within))) (omega arith))
+units-split s from to (suc q) p h =
+    let e : from + 8 + 8 * q ≡ from + 8 * suc q = omega arith in
+    let v : (b : ℕ) → Known s from b (λ k. valueOf slash (getD s (from + k) 0)) = λ b. record { so = λ k l. refl } in
+    let r : unitsIn s (from + 8) to ≡ unitsIn s (from + 8) (from + 8 * suc q) ++ unitsIn s (from + 8 * suc q) to =
+    rw e at (units-split s (from + 8) to q (span-from (from + 8) p (omega arith) (omega arith)) (omega arith)) in
+    rw (
+      three-units p (v to) (omega arith) (omega arith) (omega arith),
+      three-units (span-to (from + 8 * suc q) p (omega arith) h) (v (from + 8 * suc q)) (omega arith) (omega arith) (omega arith),
+      r,
+    )
+
+-- units of letters stand first among those of eights that cover them
+pub units-front :
+    {s : List ℕ} {at to : ℕ} {x : ℕ → ℕ} (m : ℕ) → Span (setB slash) s at to → to ≤ at + 8 * m → Known s at to x →
+    take (length (unitsIn s at to)) (unitsOf m x) ≡ unitsIn s at to
+units-front zero p h v = rw (no-unit p (omega arith))
+units-front {s} {at} {to} {x} (suc m) p h v =
+    eight (λ g. units-front m (span-from (at + 8) p (omega arith) g) (omega arith) (known-shift v)) (leb (at + 8) to) refl
+  where
+    three : (t : Bool) → leb (at + 3) to ≡ t → to < at + 6 → take (length (unitsIn s at to)) (unitsOf (suc m) x) ≡ unitsIn s at to
+    three true e l = rw (one-unit p v (leb-true (at + 3) to e) l)
+    three false e l = rw (no-unit p (leb-false (at + 3) to e))
+
+    six : (t : Bool) → leb (at + 6) to ≡ t → to < at + 8 → take (length (unitsIn s at to)) (unitsOf (suc m) x) ≡ unitsIn s at to
+    six true e l =
+        let g = leb-true (at + 6) to e in
+        rw (two-units p v (omega arith) g l)
+    six false e l = three (leb (at + 3) to) refl (leb-false (at + 6) to e)
+
+    eight :
+        (at + 8 ≤ to → take (length (unitsIn s (at + 8) to)) (unitsOf m (λ k. x (8 + k))) ≡ unitsIn s (at + 8) to) → (t : Bool) → leb (at + 8) to ≡ t →
+        take (length (unitsIn s at to)) (unitsOf (suc m) x) ≡ unitsIn s at to
+    eight f true e =
+        let g = leb-true (at + 8) to e in
+        rw (three-units p v (omega arith) (omega arith) g)
+        (ap (λ (r : List ℕ). threeOf x ++ r) (f g))
+    eight f false e = six (leb (at + 6) to) refl (leb-false (at + 8) to e)
+
 -- one more element of an array
 pub set-more :
     (xs : List ℕ) (k v : ℕ) (Q : ℕ → ℕ → Type 0) → k < length xs → ((j : ℕ) → j < k → Q j (getD xs j 0)) → Q k v →
@@ -417,21 +459,174 @@ set-more xs k v Q h f g j l = at (eqb j k) refl
     at true e = rw (eqb-true j k e, getD-set-same xs k v 0 h) g
     at false e = rw (getD-set-other xs k j v 0 (eqb-false j k e)) (f j (omega (arith, eqb-false j k e)))
 
--- units put one behind another
-module _ {text out₀ out r : List ℕ} {n a b : ℕ} (p : Put text out₀ out n (a ∷ b ∷ r)) where
-  pub put-twice : Put text out₀ (set (set out n a) (n + 1) b) (n + 2) r
-  put-twice =
-      let q : n + 1 + 1 ≡ n + 2 = omega arith in
-      rw q at (put-next (put-next p))
 
-  pub put-lt-two : n + 1 < length (set out n a)
-  put-lt-two = put-lt (put-next p)
+-- letters among 32 bytes, by their values
+ahead-letters : {s : List ℕ} {at m : ℕ} {xs : List ℕ} → Values s at xs → Ahead (λ k. ltb (getD xs k 0) 64) 32 m → Ahead (λ k. setB slash (getD s (at + k) 0)) 32 m
+unfolding setB
+ahead-letters v p = ahead-as p (λ j h. rw (v .so j h))
 
-module _ {text out₀ out r : List ℕ} {n a b c : ℕ} (p : Put text out₀ out n (a ∷ b ∷ c ∷ r)) where
-  pub put-thrice : Put text out₀ (set (set (set out n a) (n + 1) b) (n + 2) c) (n + 3) r
-  put-thrice =
-      let q : n + 2 + 1 ≡ n + 3 = omega arith in
-      rw q at (put-next (put-twice p))
+-- a run on its way: its letters so far are eights, and their units are laid
+pub record Going (s : List ℕ) (from start : ℕ) (out₀ : List ℕ) (at n : ℕ) (out : List ℕ) : Type 0 where
+  pub letters : Span (setB slash) s from at
+  pub eights : (at - from) % 8 ≡ 0
+  pub laid : Laid (unitsIn s from at) start out₀ out
+  pub count : n ≡ start + (at - from) * 6 / 16
 
-  pub put-lt-three : n + 2 < length (set (set out n a) (n + 1) b)
-  put-lt-three = put-lt (put-twice p)
+pub going-start : (s : List ℕ) (from start : ℕ) (out : List ℕ) → from ≤ length s → Going s from start out from start out
+going-start s from start out h =
+    let p = span-stay {set = setB slash} {s = s} from h in
+    let z : from - from ≡ 0 = omega arith in
+    record {
+      letters = p;
+      eights = rw z;
+      laid = rw (no-unit p (omega arith)) (laid-none start out);
+      count = rw z (omega arith);
+    }
+
+-- no run: the places before it are kept
+pub went-none : {s : List ℕ} {from start : ℕ} {out out' : List ℕ} (n : ℕ) → Laid [] start out out' → Went s from start out out' from n
+went-none n l = record { kept = l; run = λ f. absurd (f refl); laid = λ f. absurd (f refl); count = λ f. absurd (f refl) }
+
+pub going-kept : {s : List ℕ} {from start : ℕ} {out₀ : List ℕ} {at n : ℕ} {out : List ℕ} → Going s from start out₀ at n out → start ≤ length out₀ → Laid [] start out₀ out
+going-kept g h = laid-front 0 (g .laid) h (omega arith)
+
+count-add : (n q m : ℕ) → n + 8 * q * 6 / 16 + m * 6 / 16 ≡ n + (8 * q + m) * 6 / 16
+count-add n q m = omega arith
+
+-- 32 values more, and their units laid, of which those count that the letters in front hold
+module _ {s : List ℕ} {from start : ℕ} {out₀ : List ℕ} {at n : ℕ} {out : List ℕ} (g : Going s from start out₀ at n out) (h : start ≤ length out₀) (k : n ≤ length out) (w : at + 32 ≤ length s) where
+  module _ (xs : List ℕ) {out' : List ℕ} (l : Laid (unitsOf 4 (lows xs)) n out out') where
+    size-so-far : n ≡ start + length (unitsIn s from at)
+    size-so-far = rw (length-units s from at (g .letters .within)) (g .count)
+
+    pub going-none : Laid [] start out₀ out'
+    going-none = laid-front 0 (laid-on (g .laid) size-so-far l) h (omega arith)
+
+    module _ (v : Values s at xs) {m : ℕ} (p : Ahead (λ k. ltb (getD xs k 0) 64) 32 m) where
+      here : Span (setB slash) s at (at + m)
+      here = span-ahead (setB slash) (ahead-letters v p) w
+
+      letters-on : Span (setB slash) s from (at + m)
+      letters-on = span-on (g .letters) here
+
+      size-on : length (unitsIn s from (at + m)) ≡ (at + m - from) * 6 / 16
+      size-on = length-units s from (at + m) (letters-on .within)
+
+      count-on : n + m * 6 / 16 ≡ start + (at + m - from) * 6 / 16
+      count-on =
+          let q = (at - from) / 8 in
+          let a : at - from ≡ 8 * q = omega (arith, g .eights) in
+          let b : at + m - from ≡ 8 * q + m = omega (arith, g .letters .ordered, a) in
+          rw (g .count, a, b) (count-add start q m)
+
+      laid-letters : Laid (unitsIn s from (at + m)) start out₀ out'
+      laid-letters =
+          let few : at + m ≤ at + 32 = omega (arith, p .upto) in
+          let size : length (unitsIn s at (at + m)) ≤ 12 = omega (arith, length-units s at (at + m) (here .within), p .upto) in
+          let q : Laid (unitsIn s at (at + m)) n out out' =
+          rw (units-front 4 here few (known here few v)) at (laid-front (length (unitsIn s at (at + m))) l k size) in
+          let e : from + 8 * ((at - from) / 8) ≡ at = omega (arith, g .eights, g .letters .ordered) in
+          let u : unitsIn s from (at + m) ≡ unitsIn s from at ++ unitsIn s at (at + m) =
+          rw e at (units-split s from (at + m) ((at - from) / 8) letters-on (omega (arith, g .eights, g .letters .ordered))) in
+          rw u (laid-on (g .laid) size-so-far q)
+
+      pub going-on : m ≡ 32 → Going s from start out₀ (at + 32) (n + 12) out'
+      going-on e =
+          record {
+            letters = rw e at letters-on;
+            eights = omega (arith, g .eights, g .letters .ordered);
+            laid = rw e at laid-letters;
+            count = rw e at count-on;
+          }
+
+      final-at : 0 < m → getD xs (m - 1) 0 ≡ valueOf slash (getD s (at + m - 1) 0)
+      final-at z =
+          let e : at + (m - 1) ≡ at + m - 1 = omega arith in
+          rw e at (v .so (m - 1) (omega (arith, p .upto)))
+
+      ends-by-tests :
+          from < at + m → (a b c : Bool) → eqb (m % 8) 0 ≡ a → eqb (m % 8) 3 ≡ b → eqb (m % 8) 6 ≡ c →
+          cond a true (cond b (eqb (getD xs (m - 1) 0 % 4) 0) (cond c (eqb (getD xs (m - 1) 0 % 16) 0) false)) ≡ true →
+          mayEnd (leftOver 16 (bitsIn s from (at + m))) ≡ true
+      ends-by-tests r true b c ea eb ec e = ends-even letters-on r (omega (arith, eqb-true (m % 8) 0 ea, g .eights, g .letters .ordered))
+      ends-by-tests r false true c ea eb ec e =
+          let q = eqb-true (m % 8) 3 eb in
+          ends-three letters-on r (omega (arith, q, g .eights, g .letters .ordered)) (rw (final-at (omega (arith, q))) at (eqb-true (getD xs (m - 1) 0 % 4) 0 e))
+      ends-by-tests r false false true ea eb ec e =
+          let q = eqb-true (m % 8) 6 ec in
+          ends-six letters-on r (omega (arith, q, g .eights, g .letters .ordered)) (rw (final-at (omega (arith, q))) at (eqb-true (getD xs (m - 1) 0 % 16) 0 e))
+      ends-by-tests r false false false ea eb ec e = absurd (false≢true e)
+
+      pub going-went : m < 32 → stops xs m ≡ true → Went s from start out₀ out' (at + m) (n + m * 6 / 16)
+      going-went z e =
+          record {
+            kept = going-none;
+            run = λ f.
+                let r : from < at + m = omega (arith, letters-on .ordered, f) in
+                record {
+                  some = r;
+                  letters = letters-on;
+                  inside = omega arith;
+                  over = ahead-letters v p .over z;
+                  ends = ends-by-tests r (eqb (m % 8) 0) (eqb (m % 8) 3) (eqb (m % 8) 6) refl refl refl e;
+                };
+            laid = λ f. laid-letters;
+            count = λ f. rw size-on count-on;
+          }
+
+-- three letters, by their values
+module _ {s : List ℕ} {from : ℕ} {xs : List ℕ} (h : from + 32 ≤ length s) (v : Values s from xs) (o : One xs) where
+  pub one-run : Run s from (from + 3)
+  unfolding setB
+  one-run =
+      let z : from + 0 ≡ from = omega arith in
+      let a : valueOf slash (getD s from 0) < 64 = rw (rw z at (v .so 0 (lit< tt))) at (o .first) in
+      let b : valueOf slash (getD s (from + 1) 0) < 64 = rw (v .so 1 (lit< tt)) at (o .second) in
+      let c : valueOf slash (getD s (from + 2) 0) < 64 = rw (v .so 2 (lit< tt)) at (o .third) in
+      let d : 63 < valueOf slash (getD s (from + 3) 0) = rw (v .so 3 (lit< tt)) at (o .over) in
+      three-run s from (omega arith) (lt-ltb _ 64 a) (lt-ltb _ 64 b) (lt-ltb _ 64 c) (le-ltb _ 64 d) (rw (v .so 2 (lit< tt)) at (o .ends))
+
+  pub one-units : unitsIn s from (from + 3) ≡ ((getD xs 0 0 * 64 + getD xs 1 0) * 16 + getD xs 2 0 / 4) ∷ []
+  one-units =
+      let x : Known s from (from + 3) (λ k. getD xs k 0) = record { so = λ k l. v .so k (omega arith) } in
+      one-unit (one-run .letters) x (omega arith) (omega arith)
+
+-- slices side by side
+slice-join : (s : List ℕ) (from at to : ℕ) → from ≤ at → at ≤ to → to ≤ length s → slice from to s ≡ slice from at s ++ slice at to s
+slice-join s from at to h k l =
+    let t = slice-rest (take to s) from at h (omega (arith, length-take-le to s l)) in
+    rw (take-take at to s k) at t
+
+module _ (s : List ℕ) (from at to : ℕ) (h : from ≤ at) (k : at ≤ to) (l : to ≤ length s) {n : ℕ} {a b : List ℕ} where
+  pub laid-slices : {m : ℕ} {c : List ℕ} → Laid (slice from at s) n a b → m ≡ n + (at - from) → Laid (slice at to s) m b c → Laid (slice from to s) n a c
+  laid-slices p e q =
+      let w : length (slice from at s) ≡ at - from = length-slice from at s (omega arith) in
+      rw (slice-join s from at to h k l) (laid-on p (omega (arith, w)) q)
+
+  pub laid-slice : Laid (slice from to s) n a b → n ≤ length a → Laid (slice from at s) n a b
+  laid-slice p q =
+      let e : take (length (slice from at s)) (slice from to s) ≡ slice from at s =
+      rw (slice-join s from at to h k l) (take-at (slice from at s) (slice at to s) (length (slice from at s)) refl) in
+      let w : length (slice from at s) ≤ length (slice from to s) = omega (arith, length-slice from at s (omega arith), length-slice from to s l) in
+      rw e at (laid-front (length (slice from at s)) p q w)
+
+-- a buffer with the cells so far: what each kind of token adds
+module _ {s : List ℕ} {at n : ℕ} {a : List ℕ} (f : Front utf7 s at outside n a) where
+  pub front-direct : (k : ℕ) {b : List ℕ} → Span direct s at (at + k) → Laid (slice at (at + k) s) n a b → Front utf7 s (at + k) outside (n + k) b
+  front-direct k p l =
+      let e : length (slice at (at + k) s) ≡ k = length-slice at (at + k) s (p .within) ∙ omega arith in
+      rw e at (front-stride f (direct-stride p) l)
+
+  pub front-sign : at + 1 < length s → getD s at 0 ≡ 43 → getD s (at + 1) 0 ≡ 45 → Front utf7 s (at + 2) outside (n + 1) (set a n 43)
+  front-sign h e g = front-stride f (sign-stride h e g) (laid-one n 43 a (front-place f (omega arith)))
+
+  pub front-run :
+      {to m : ℕ} {b : List ℕ} → getD s at 0 ≡ 43 → Run s (at + 1) to → Laid (unitsIn s (at + 1) to) n a b → m ≡ n + length (unitsIn s (at + 1) to) →
+      Front utf7 s (past s to) outside m b
+  front-run e r l q = rw q (front-stride f (run-stride e r) l)
+
+  pub front-one :
+      {xs : List ℕ} → getD s at 0 ≡ 43 → at + 1 + 32 ≤ length s → Values s (at + 1) xs → One xs →
+      Front utf7 s (past s (at + 1 + 3)) outside (n + 1) (set a n ((getD xs 0 0 * 64 + getD xs 1 0) * 16 + getD xs 2 0 / 4))
+  front-one {xs} e h v o =
+      front-run e (one-run h v o) (rw (one-units h v o) (laid-one n _ a (front-place f (omega arith)))) (rw (one-units h v o))

@@ -1,11 +1,12 @@
 -- What the loops over whole texts find in a text: bytes of one set side by side, and runs.
-use Prim.Native.Nat.{ℕ, _+_, _<_, _≤_}
+use Prim.Native.Nat.{ℕ, zero, suc, _+_, _-_, _*_, _/_, _%_, _<_, _≤_}
 use mathlib.Core.Path.{_≡_}
 use mathlib.Core.Bool.{Bool, true, false, cond}
-use mathlib.Core.List.{List, map}
+use mathlib.Core.List.{List, [], _∷_, _++_, map}
 use lib.ListN.{length, getD}
 use lib.Seq.{slice}
 use lib.Dec.{eqb}
+use Rattle.answer.proofs.Laid.{Laid}
 use Rattle.bits.specs.Bits.{bitsOf, full, leftOver}
 use Rattle.base64.specs.Letters.{valueOf, setB, slash}
 use Rattle.utf7.specs.Rule.{mayEnd}
@@ -16,9 +17,11 @@ pub record Span (set : ℕ → Bool) (s : List ℕ) (from to : ℕ) : Type 0 whe
   pub within : to ≤ length s
   pub each : (i : ℕ) → from ≤ i → i < to → set (getD s i 0) ≡ true
 
--- letters end at a place: it is the end of the text, or has another byte
-abbrev pub Over : List ℕ → ℕ → Type 0
-Over s to = to < length s → setB slash (getD s to 0) ≡ false
+-- how far a test holds in a block of 32: at every place before m that was looked at, of the first k, and not at m
+pub record Ahead (test : ℕ → Bool) (k m : ℕ) : Type 0 where
+  pub upto : m ≤ 32
+  pub each : (j : ℕ) → j < k → j < m → test j ≡ true
+  pub over : m < 32 → test m ≡ false
 
 -- the bits of letters, and the units in them
 abbrev pub bitsIn : List ℕ → ℕ → ℕ → List Bool
@@ -39,6 +42,48 @@ pub record Run (s : List ℕ) (from to : ℕ) : Type 0 where
 abbrev pub past : List ℕ → ℕ → ℕ
 past s to = cond (eqb (getD s to 0) 45) (to + 1) to
 
--- eight numbers: the values of those bytes from a place on that are letters
+-- 32 numbers: the values of the bytes from a place on
 pub record Values (s : List ℕ) (at : ℕ) (xs : List ℕ) : Type 0 where
-  pub so : (k : ℕ) → k < 8 → setB slash (getD s (at + k) 0) ≡ true → getD xs k 0 ≡ valueOf slash (getD s (at + k) 0)
+  pub so : (k : ℕ) → k < 32 → getD xs k 0 ≡ valueOf slash (getD s (at + k) 0)
+
+-- three letters that may end a run, and another byte
+pub record One (xs : List ℕ) : Type 0 where
+  pub first : getD xs 0 0 < 64
+  pub second : getD xs 1 0 < 64
+  pub third : getD xs 2 0 < 64
+  pub over : 63 < getD xs 3 0
+  pub ends : getD xs 2 0 % 4 ≡ 0
+
+-- the units that eight values hold, and those of so many eights
+abbrev pub firstOf : (ℕ → ℕ) → ℕ
+firstOf x = (x 0 * 64 + x 1) * 16 + x 2 / 4
+
+abbrev pub secondOf : (ℕ → ℕ) → ℕ
+secondOf x = ((x 2 % 4 * 64 + x 3) * 64 + x 4) * 4 + x 5 / 16
+
+abbrev pub thirdOf : (ℕ → ℕ) → ℕ
+thirdOf x = (x 5 % 16 * 64 + x 6) * 64 + x 7
+
+abbrev pub threeOf : (ℕ → ℕ) → List ℕ
+threeOf x = firstOf x ∷ secondOf x ∷ thirdOf x ∷ []
+
+abbrev pub unitsOf : ℕ → (ℕ → ℕ) → List ℕ
+unitsOf zero x = []
+unitsOf (suc m) x = threeOf x ++ unitsOf m (λ k. x (8 + k))
+
+-- a value that is a letter's, or something else that is low
+abbrev pub lows : List ℕ → ℕ → ℕ
+lows xs k = getD xs k 0 % 64
+
+-- letters may end where c of 32 values do, which follow eights: by how many stand behind the last eight, and by the last
+abbrev pub stops : List ℕ → ℕ → Bool
+stops xs c =
+    cond (eqb (c % 8) 0) true
+    (cond (eqb (c % 8) 3) (eqb (getD xs (c - 1) 0 % 4) 0) (cond (eqb (c % 8) 6) (eqb (getD xs (c - 1) 0 % 16) 0) false))
+
+-- a run was read, unless the place is still that of its first letter: it may end there, and its units are laid
+pub record Went (s : List ℕ) (from start : ℕ) (out out' : List ℕ) (at n : ℕ) : Type 0 where
+  pub kept : Laid [] start out out'
+  pub run : (at ≡ from → ⊥) → Run s from at
+  pub laid : (at ≡ from → ⊥) → Laid (unitsIn s from at) start out out'
+  pub count : (at ≡ from → ⊥) → n ≡ start + length (unitsIn s from at)

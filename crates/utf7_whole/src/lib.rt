@@ -7,24 +7,28 @@ use utf7_read::Move;
 use utf7_read::State;
 ghost use mathlib.Core.Path.{_≡_};
 ghost use Prim.Native.Nat.{_≤_};
-ghost use lib.ListN.{length};
-ghost use Rattle.answer.specs.Answer.{inNumbers};
+ghost use lib.ListN.{length, take};
+ghost use Rattle.answer.specs.Answer.{inNumbers, limit};
 ghost use Rattle.answer.specs.Output.{leaves, filled};
 ghost use Rattle.reading.specs.Reading.{verdictOf, reading, readInto};
 ghost use Rattle.reading.specs.Matching.{readsAs};
 ghost use Rattle.utf7.specs.Rule.{utf7};
 
-// The answer of reading a text with room enough.
-fn count(text: &[u8]) -> Answer
+// Reads a text into a buffer that has a place for every byte. The cells stand in front; what lies behind them is free, and what was read before
+// a fault is left.
+fn decode(text: &[u8], out: &mut [u16]) -> Answer
+    requires { ⌜ length (now text) ≤ length (now out) ⌝ }
     ensures { λ r. ⌜ inNumbers r ≡ verdictOf (reading utf7 (now (text .entry))) ⌝ }
+    ensures { λ _. ⌜ take (length (reading utf7 (now (text .entry)) .cells)) (now (out .exit)) ≡ reading utf7 (now (text .entry)) .cells ⌝ }
 {
-    let reached = quick::count(text);
+    let reached = quick::fill(text, out);
     let mut at = reached.at;
     let mut n = reached.n;
     let mut st = State::Outside;
     while at < text.len() {
         match utf7_read::byte_does(st, text[at]) {
-            Move::Give(_, state) => {
+            Move::Give(value, state) => {
+                out[n] = value as u16;
                 st = state;
                 n += 1;
                 at += 1;
@@ -41,42 +45,27 @@ fn count(text: &[u8]) -> Answer
     utf7_read::ends_in(at, n, st)
 }
 
-// The cells of a text go to the front of the output.
-fn fill(text: &[u8], out: &mut [u32])
-    requires { ⌜ length (reading utf7 (now text) .cells) ≤ length (now out) ⌝ }
-    ensures { λ _. ⌜ now (out .exit) ≡ filled (reading utf7 (now (text .entry)) .cells) (now (out .entry)) ⌝ }
+// The first n cells go to the front of the output.
+fn copy(cells: &[u16], n: usize, out: &mut [u32])
+    requires { ⌜ n ≤ length (now cells) ⌝ }
+    requires { ⌜ n ≤ length (now out) ⌝ }
+    ensures { λ _. ⌜ now (out .exit) ≡ filled (take n (now (cells .entry))) (now (out .entry)) ⌝ }
 {
-    let reached = quick::fill(text, out);
-    let mut at = reached.at;
-    let mut n = reached.n;
-    let mut st = State::Outside;
-    while at < text.len() {
-        match utf7_read::byte_does(st, text[at]) {
-            Move::Give(value, state) => {
-                out[n] = value;
-                st = state;
-                n += 1;
-                at += 1;
-            }
-            Move::Go(state) => {
-                st = state;
-                at += 1;
-            }
-            Move::Bad(_) => {
-                return;
-            }
-        }
+    let mut k: usize = 0;
+    while k < n {
+        out[k] = cells[k] as u32;
+        k += 1;
     }
 }
 
-// Reads a text into an output. The whole text is judged before a cell is written.
-pub fn read(text: &[u8], out: &mut [u32]) -> Answer
+// Reads a text by way of a buffer that has a place for every byte. The whole text is judged before a cell is written to the output: a second
+// pass costs more than a copy.
+fn through(text: &[u8], cells: &mut [u16], out: &mut [u32]) -> Answer
+    requires { ⌜ length (now text) ≤ limit ⌝ }
+    requires { ⌜ length (now text) ≤ length (now cells) ⌝ }
     ensures { λ r. ⌜ leaves r (now (out .exit)) ≡ readInto utf7 (now (text .entry)) (now (out .entry)) ⌝ }
 {
-    if answer::over_limit(text.len()) {
-        return answer::too_long();
-    }
-    let found = count(text);
+    let found = decode(text, cells);
     match found {
         Answer::Refused(_, _) => {
             return found;
@@ -85,10 +74,26 @@ pub fn read(text: &[u8], out: &mut [u32]) -> Answer
             if out.len() < n {
                 return Answer::Refused(Refusal::NoRoom, n);
             }
-            fill(text, out);
+            copy(cells, n, out);
             found
         }
     }
+}
+
+// Reads a text into an output. The buffers are on the stack, which must have room for 65,536 units (128 KiB); a short text clears 1,024 units
+// only.
+pub fn read(text: &[u8], out: &mut [u32]) -> Answer
+    ensures { λ r. ⌜ leaves r (now (out .exit)) ≡ readInto utf7 (now (text .entry)) (now (out .entry)) ⌝ }
+{
+    if answer::over_limit(text.len()) {
+        return answer::too_long();
+    }
+    if text.len() <= 1024 {
+        let mut few = [0u16; 1024];
+        return through(text, &mut few, out);
+    }
+    let mut cells = [0u16; 65536];
+    through(text, &mut cells, out)
 }
 
 // The text is accepted and reads as the cells. Nothing is lent to be written.

@@ -1,20 +1,18 @@
 // Whole texts, a stretch or a run at a time: the loops of this file go over what most texts are made of, and stop at anything else and before
-// the last bytes. The loops that go byte by byte, which name every fault, read on from there. Tests of bytes are eager, so that they compile to no branch.
+// the last bytes. The loop that goes byte by byte, which names every fault, reads on from there. Loops have a fixed length and tests of bytes
+// are eager, so that they compile to no branch; a block is written whole, and what lies behind its cells is written over by the next ones.
 ghost use mathlib.Core.Path.{_≡_};
-ghost use mathlib.Core.Bool.{true, false, cond};
-ghost use mathlib.Core.List.{List, [], _∷_};
+ghost use mathlib.Core.Bool.{true, false, cond, _&&_};
 ghost use Prim.Native.Nat.{_<_, _≤_, _+_, _-_, _*_, _/_, _%_};
 ghost use lib.ListN.{length, getD};
 ghost use lib.Seq.{slice};
-ghost use lib.Dec.{leb};
-ghost use Rattle.answer.specs.Output.{filled};
-ghost use Rattle.base64.specs.Letters.{valueOf, setB, slash};
-ghost use Rattle.reading.specs.Reading.{reading};
-ghost use Rattle.reading.proofs.Laws.{Left};
-ghost use Rattle.reading.proofs.Filling.{Filling};
+ghost use lib.Dec.{leb, ltb};
+ghost use Rattle.answer.proofs.Laid.{Laid};
+ghost use Rattle.base64.specs.Letters.{valueOf, slash};
+ghost use Rattle.reading.proofs.Fronts.{Front};
 ghost use Rattle.utf7.specs.Sets.{direct};
 ghost use Rattle.utf7.specs.Rule.{outside, utf7};
-ghost use Rattle.utf7_whole.specs.Quick.{Span, Over, Run, Values, unitsIn, past};
+ghost use Rattle.utf7_whole.specs.Quick.{Span, Ahead, Values, One, Went, threeOf, unitsOf, lows, stops, past};
 
 // Where a loop stopped: outside a run, after n cells.
 pub struct Reached {
@@ -28,194 +26,167 @@ fn is_direct(b: u8) -> bool
     (32 <= b) & (b <= 125) & (b != b'+') & (b != b'\\') | (b == 9) | (b == 10) | (b == 13)
 }
 
-fn is_letter(b: u8) -> bool
-    ensures { λ r. ⌜ r ≡ setB slash b ⌝ }
+// A place in a block, or its end where the byte is of the set.
+fn noted(holds: bool, k: u8) -> u8
+    ensures { λ r. ⌜ r ≡ cond holds 32 k ⌝ }
 {
-    (b'A' <= b) & (b <= b'Z')
-        | (b'a' <= b) & (b <= b'z')
-        | (b'0' <= b) & (b <= b'9')
-        | (b == b'+')
-        | (b == b'/')
-}
-
-fn chosen(t: bool, a: u32, b: u32) -> u32
-    ensures { λ r. ⌜ r ≡ cond t a b ⌝ }
-{
-    if t {
-        return a;
+    if holds {
+        return 32;
     }
-    b
+    k
 }
 
-// A byte's value counted from a letter and its value, or another for a byte before that letter.
-fn counted_from(letter: u8, value: u32, b: u8, other: u32) -> u32
-    requires { ⌜ value < 64 ⌝ }
-    ensures { λ r. ⌜ r ≡ cond (leb letter b) (b - letter + value) other ⌝ }
+fn least(a: u8, b: u8) -> u8
+    ensures { λ r. ⌜ r ≡ cond (ltb b a) b a ⌝ }
 {
-    if letter <= b {
-        return b as u32 - letter as u32 + value;
+    if b < a {
+        return b;
     }
-    other
+    a
 }
 
-// The value of a byte that is a letter, by the rule: capitals, small letters, digits, two signs. Their codes begin with the signs and end with the small letters.
-fn value(b: u8) -> u32
-    ensures { λ r. ⌜ (setB slash b ≡ true → r ≡ valueOf slash b) ⌝ }
+// How many of the next 32 bytes stand for themselves before one that does not.
+fn direct_ahead(text: &[u8], at: usize) -> usize
+    requires { ⌜ at + 32 ≤ length (now text) ⌝ }
+    ensures { λ r. ⌜ (r ≤ 32) × Span direct (now (text .entry)) at (at + r) ⌝ }
 {
-    // two signs: 62 and 63
-    let sign = chosen(b == b'+', 62, 63);
-    // digits: 52 to 61
-    let digit = counted_from(b'0', 52, b, sign);
-    // capitals: 0 to 25
-    let capital = counted_from(b'A', 0, b, digit);
-    // small letters: 26 to 51
-    counted_from(b'a', 26, b, capital)
-}
-
-// Sixteen bytes that stand for themselves.
-fn is_direct_block(text: &[u8], at: usize) -> bool
-    requires { ⌜ at + 16 ≤ length (now text) ⌝ }
-    ensures { λ r. ⌜ (r ≡ true → Span direct (now (text .entry)) at (at + 16)) ⌝ }
-{
-    let mut ok = true;
-    for k in 0..16 {
-        ok = ok & is_direct(text[at + k]);
+    let mut m: u8 = 32;
+    for k in 0..32 {
+        m = least(m, noted(is_direct(text[at + k]), k as u8));
     }
-    ok
+    m as usize
 }
 
-// Sixteen letters.
-fn is_letter_block(text: &[u8], at: usize) -> bool
-    requires { ⌜ at + 16 ≤ length (now text) ⌝ }
-    ensures { λ r. ⌜ (r ≡ true → Span (setB slash) (now (text .entry)) at (at + 16)) ⌝ }
+// The value of a byte from one letter to another, of which the first has a value; else what it was before.
+fn counted(v: u8, from: u8, to: u8, first: u8, b: u8) -> u8
+    requires { ⌜ to + first ≤ from + 255 ⌝ }
+    ensures { λ r. ⌜ r ≡ cond (leb from b && leb b to) (b - from + first) v ⌝ }
 {
-    let mut ok = true;
-    for k in 0..16 {
-        ok = ok & is_letter(text[at + k]);
+    if from <= b && b <= to {
+        return b - from + first;
     }
-    ok
+    v
 }
 
-// Bytes that stand for themselves, by blocks.
-fn direct_blocks(text: &[u8], from: usize) -> usize
-    requires { ⌜ from ≤ length (now text) ⌝ }
-    ensures { λ r. ⌜ Span direct (now (text .entry)) from r ⌝ }
+// The value of a letter, or 64 for a byte that is none, by the rule: capitals, small letters, digits, two signs.
+fn value(b: u8) -> u8
+    ensures { λ r. ⌜ r ≡ valueOf slash b ⌝ }
 {
-    let mut at = from;
-    while at + 16 <= text.len() {
-        if !is_direct_block(text, at) {
-            return at;
-        }
-        at += 16;
-    }
-    at
+    let capital = counted(64, b'A', b'Z', 0, b);
+    let small = counted(capital, b'a', b'z', 26, b);
+    let digit = counted(small, b'0', b'9', 52, b);
+    let sign = counted(digit, b'+', b'+', 62, b);
+    counted(sign, b'/', b'/', 63, b)
 }
 
-fn letter_blocks(text: &[u8], from: usize) -> usize
-    requires { ⌜ from ≤ length (now text) ⌝ }
-    ensures { λ r. ⌜ Span (setB slash) (now (text .entry)) from r ⌝ }
+// The values of 32 bytes as letters, 64 for one that is none.
+fn values(text: &[u8], at: usize) -> [u8; 32]
+    requires { ⌜ at + 32 ≤ length (now text) ⌝ }
+    ensures { λ r. ⌜ Values (now (text .entry)) at r ⌝ }
 {
-    let mut at = from;
-    while at + 16 <= text.len() {
-        if !is_letter_block(text, at) {
-            return at;
-        }
-        at += 16;
+    let mut x = [0u8; 32];
+    for k in 0..32 {
+        x[k] = value(text[at + k]);
     }
-    at
+    x
 }
 
-// Bytes that stand for themselves, one by one and up to a place.
-fn direct_bytes(text: &[u8], from: usize, to: usize) -> usize
-    requires { ⌜ (from ≤ to) × (to ≤ length (now text)) ⌝ }
-    ensures { λ r. ⌜ Span direct (now (text .entry)) from r × (r ≤ to) ⌝ }
+// How many letters stand before the first byte that is none.
+fn letters_in(x: [u8; 32]) -> usize
+    ensures { λ r. ⌜ Ahead (λ k. ltb (getD x k 0) 64) 32 r ⌝ }
 {
-    let mut at = from;
-    while at < to {
-        if !is_direct(text[at]) {
-            return at;
-        }
-        at += 1;
+    let mut m: u8 = 32;
+    for k in 0..32 {
+        m = least(m, noted(x[k] < 64, k as u8));
     }
-    at
+    m as usize
 }
 
-fn letter_bytes(text: &[u8], from: usize, to: usize) -> usize
-    requires { ⌜ (from ≤ to) × (to ≤ length (now text)) ⌝ }
-    ensures { λ r. ⌜ Span (setB slash) (now (text .entry)) from r × (r ≤ to) × (r < to → setB slash (getD (now (text .entry)) r 0) ≡ false) ⌝ }
+// Three letters and another byte are a run of one unit.
+fn is_one(x: [u8; 32]) -> bool
+    ensures { λ r. ⌜ (r ≡ true → One x) ⌝ }
 {
-    let mut at = from;
-    while at < to {
-        if !is_letter(text[at]) {
-            return at;
-        }
-        at += 1;
-    }
-    at
+    (x[0] < 64) & (x[1] < 64) & (x[2] < 64) & (63 < x[3]) & (x[2] % 4 == 0)
 }
 
-// The end of the bytes that stand for themselves: a few are looked at before whole blocks are.
-fn stretch_end(text: &[u8], from: usize) -> usize
-    requires { ⌜ from + 12 ≤ length (now text) ⌝ }
-    ensures { λ r. ⌜ Span direct (now (text .entry)) from r ⌝ }
+fn wide(x: u8) -> u16
+    ensures { λ r. ⌜ r ≡ x ⌝ }
 {
-    let few = from + 12;
-    let near = direct_bytes(text, from, few);
-    if near < few {
-        return near;
-    }
-    let far = direct_blocks(text, near);
-    direct_bytes(text, far, text.len())
+    x as u16
 }
 
-// The end of the letters of a run.
-fn run_end(text: &[u8], from: usize) -> usize
-    requires { ⌜ from ≤ length (now text) ⌝ }
-    ensures { λ r. ⌜ Span (setB slash) (now (text .entry)) from r × Over (now (text .entry)) r ⌝ }
+// A letter's value; of 64, for a byte that is none, something that fits.
+fn low(x: u8) -> u16
+    ensures { λ r. ⌜ r ≡ x % 64 ⌝ }
 {
-    let far = letter_blocks(text, from);
-    letter_bytes(text, far, text.len())
+    (x % 64) as u16
 }
 
-// The letters are a run that may end where they do, before a byte that is none and not near the end of the text.
-fn is_run(text: &[u8], from: usize, to: usize) -> bool
-    requires { ⌜ Span (setB slash) (now text) from to × Over (now text) to ⌝ }
-    ensures { λ r. ⌜ (r ≡ true → Run (now (text .entry)) from to × (to + 8 ≤ length (now (text .entry)))) ⌝ }
+// The three units of eight letters: each from the values of those that hold its bits.
+fn first(a: u16, b: u16, c: u16) -> u16
+    requires { ⌜ (a < 64) × (b < 64) × (c < 64) ⌝ }
+    ensures { λ r. ⌜ r ≡ (a * 64 + b) * 16 + c / 4 ⌝ }
 {
-    if from == to {
-        return false;
-    }
-    if text.len() - to < 8 {
-        return false;
-    }
-    let more = (to - from) % 8;
+    (a * 64 + b) * 16 + c / 4
+}
+
+fn second(c: u16, d: u16, e: u16, f: u16) -> u16
+    requires { ⌜ (d < 64) × (e < 64) × (f < 64) ⌝ }
+    ensures { λ r. ⌜ r ≡ ((c % 4 * 64 + d) * 64 + e) * 4 + f / 16 ⌝ }
+{
+    ((c % 4 * 64 + d) * 64 + e) * 4 + f / 16
+}
+
+fn third(f: u16, g: u16, h: u16) -> u16
+    requires { ⌜ (g < 64) × (h < 64) ⌝ }
+    ensures { λ r. ⌜ r ≡ (f % 16 * 64 + g) * 64 + h ⌝ }
+{
+    (f % 16 * 64 + g) * 64 + h
+}
+
+fn put_three(x: [u8; 32], j: usize, out: &mut [u16], n: usize)
+    requires { ⌜ (j + 8 ≤ 32) × (n + 3 ≤ length (now out)) ⌝ }
+    ensures { λ _. ⌜ Laid (threeOf (λ k. lows x (j + k))) n (now (out .entry)) (now (out .exit)) ⌝ }
+{
+    let c = low(x[j + 2]);
+    let f = low(x[j + 5]);
+    out[n] = first(low(x[j]), low(x[j + 1]), c);
+    out[n + 1] = second(c, low(x[j + 3]), low(x[j + 4]), f);
+    out[n + 2] = third(f, low(x[j + 6]), low(x[j + 7]));
+}
+
+fn put_twelve(x: [u8; 32], out: &mut [u16], n: usize)
+    requires { ⌜ n + 12 ≤ length (now out) ⌝ }
+    ensures { λ _. ⌜ Laid (unitsOf 4 (lows x)) n (now (out .entry)) (now (out .exit)) ⌝ }
+{
+    put_three(x, 0, out, n);
+    put_three(x, 8, out, n + 3);
+    put_three(x, 16, out, n + 6);
+    put_three(x, 24, out, n + 9);
+}
+
+fn may_end(x: [u8; 32], c: usize) -> bool
+    requires { ⌜ c ≤ 32 ⌝ }
+    ensures { λ r. ⌜ r ≡ stops x c ⌝ }
+{
+    let more = c % 8;
     if more == 0 {
         return true;
     }
-    let x = value(text[to - 1]);
     if more == 3 {
-        return x % 4 == 0;
+        return x[c - 1] % 4 == 0;
     }
     if more == 6 {
-        return x % 16 == 0;
+        return x[c - 1] % 16 == 0;
     }
     false
 }
 
-// Three letters that are a run of one unit.
-fn is_one(text: &[u8], from: usize) -> bool
-    requires { ⌜ from + 4 ≤ length (now text) ⌝ }
-    ensures { λ r. ⌜ (r ≡ true → Run (now (text .entry)) from (from + 3)) ⌝ }
+// How many units so many letters hold.
+fn units(letters: usize) -> usize
+    ensures { λ r. ⌜ r ≡ letters * 6 / 16 ⌝ }
 {
-    let b = text[from + 2];
-    if is_letter(text[from])
-        & is_letter(text[from + 1])
-        & is_letter(b)
-        & !is_letter(text[from + 3])
-    {
-        return value(b) % 4 == 0;
-    }
-    false
+    letters / 8 * 3 + letters % 8 * 3 / 8
 }
 
 // The place behind a run: "- is then absorbed".
@@ -229,160 +200,83 @@ fn past_run(text: &[u8], to: usize) -> usize
     to
 }
 
-// How many units so many letters hold.
-fn units(letters: usize) -> usize
-    ensures { λ r. ⌜ r ≡ letters * 6 / 16 ⌝ }
+// The units of a run go to the output from n on: where its letters end, and the place behind its units. Where the run may not end so, or
+// the text's end is near: the place where it began.
+fn put_run(text: &[u8], from: usize, out: &mut [u16], start: usize) -> Reached
+    requires { ⌜ (start ≤ from) × (from ≤ length (now text)) × (length (now text) ≤ length (now out)) ⌝ }
+    ensures { λ r. ⌜ Went (now (text .entry)) from start (now (out .entry)) (now (out .exit)) (r .at) (r .n) ⌝ }
 {
-    letters / 8 * 3 + letters % 8 * 3 / 8
+    let mut at = from;
+    let mut n = start;
+    while at + 40 <= text.len() {
+        let x = values(text, at);
+        let c = letters_in(x);
+        put_twelve(x, out, n);
+        if c < 32 {
+            if may_end(x, c) {
+                return Reached { at: at + c, n: n + units(c) };
+            }
+            return Reached { at: from, n };
+        }
+        at += 32;
+        n += 12;
+    }
+    Reached { at: from, n }
 }
 
-// The three units of eight letters: each from the values of those that hold its bits.
-fn first(a: u32, b: u32, c: u32) -> u32
-    requires { ⌜ (a < 64) × (b < 64) × (c < 64) ⌝ }
-    ensures { λ r. ⌜ r ≡ (a * 64 + b) * 16 + c / 4 ⌝ }
+fn cells_ahead(text: &[u8], at: usize) -> [u16; 16]
+    requires { ⌜ at + 16 ≤ length (now text) ⌝ }
+    ensures { λ r. ⌜ r ≡ slice at (at + 16) (now (text .entry)) ⌝ }
 {
-    (a * 64 + b) * 16 + c / 4
-}
-
-fn second(c: u32, d: u32, e: u32, f: u32) -> u32
-    requires { ⌜ (d < 64) × (e < 64) × (f < 64) ⌝ }
-    ensures { λ r. ⌜ r ≡ ((c % 4 * 64 + d) * 64 + e) * 4 + f / 16 ⌝ }
-{
-    ((c % 4 * 64 + d) * 64 + e) * 4 + f / 16
-}
-
-fn third(f: u32, g: u32, h: u32) -> u32
-    requires { ⌜ (g < 64) × (h < 64) ⌝ }
-    ensures { λ r. ⌜ r ≡ (f % 16 * 64 + g) * 64 + h ⌝ }
-{
-    (f % 16 * 64 + g) * 64 + h
-}
-
-// The unit of a run of three letters.
-fn one(text: &[u8], from: usize) -> u32
-    requires { ⌜ Run (now text) from (from + 3) ⌝ }
-    ensures { λ r. ⌜ unitsIn (now (text .entry)) from (from + 3) ≡ r ∷ [] ⌝ }
-{
-    let a = value(text[from]);
-    let b = value(text[from + 1]);
-    let c = value(text[from + 2]);
-    first(a, b, c)
-}
-
-// The values of the letters among eight bytes.
-fn values(text: &[u8], at: usize) -> [u32; 8]
-    requires { ⌜ at + 8 ≤ length (now text) ⌝ }
-    ensures { λ r. ⌜ Values (now (text .entry)) at r ⌝ }
-{
-    let mut x: [u32; 8] = [0; 8];
-    for k in 0..8 {
-        x[k] = value(text[at + k]);
+    let mut x = [0u16; 16];
+    for k in 0..16 {
+        x[k] = wide(text[at + k]);
     }
     x
 }
 
-fn cell_of(b: u8) -> u32
-    ensures { λ r. ⌜ r ≡ b ⌝ }
+fn put_cells(x: [u16; 16], out: &mut [u16], n: usize)
+    requires { ⌜ (length x ≡ 16) × (n + 16 ≤ length (now out)) ⌝ }
+    ensures { λ _. ⌜ Laid x n (now (out .entry)) (now (out .exit)) ⌝ }
 {
-    b as u32
-}
-
-// Bytes go to the front of an output.
-fn widen(text: &[u8], from: usize, to: usize, out: &mut [u32])
-    requires { ⌜ (from ≤ to) × (to ≤ length (now text)) × (to - from ≤ length (now out)) ⌝ }
-    ensures { λ _. ⌜ now (out .exit) ≡ filled (slice from to (now (text .entry))) (now (out .entry)) ⌝ }
-{
-    let size = to - from;
-    let mut k: usize = 0;
-    while k < size {
-        out[k] = cell_of(text[from + k]);
-        k += 1;
+    for k in 0..16 {
+        out[n + k] = x[k];
     }
 }
 
-// The units of a run's letters go to the front of an output: three for each eight, and those of the last few.
-fn put_run(text: &[u8], from: usize, to: usize, out: &mut [u32])
-    requires { ⌜ Span (setB slash) (now text) from to × (to + 8 ≤ length (now text)) × (length (unitsIn (now text) from to) ≤ length (now out)) ⌝ }
-    ensures { λ _. ⌜ now (out .exit) ≡ filled (unitsIn (now (text .entry)) from to) (now (out .entry)) ⌝ }
+fn widen(text: &[u8], at: usize, k: usize, out: &mut [u16], n: usize)
+    requires { ⌜ (k ≤ 32) × (at + 32 ≤ length (now text)) × (n + 32 ≤ length (now out)) ⌝ }
+    ensures { λ _. ⌜ Laid (slice at (at + k) (now (text .entry))) n (now (out .entry)) (now (out .exit)) ⌝ }
 {
-    let mut at = from;
-    let mut n: usize = 0;
-    while at + 8 <= to {
-        let x = values(text, at);
-        out[n] = first(x[0], x[1], x[2]);
-        out[n + 1] = second(x[2], x[3], x[4], x[5]);
-        out[n + 2] = third(x[5], x[6], x[7]);
-        at += 8;
-        n += 3;
+    put_cells(cells_ahead(text, at), out, n);
+    if 16 < k {
+        put_cells(cells_ahead(text, at + 16), out, n + 16);
     }
-    let x = values(text, at);
-    if at + 6 <= to {
-        out[n] = first(x[0], x[1], x[2]);
-        out[n + 1] = second(x[2], x[3], x[4], x[5]);
-        return;
-    }
-    if at + 3 <= to {
-        out[n] = first(x[0], x[1], x[2]);
-    }
-}
-
-// Counts the cells of a text.
-pub fn count(text: &[u8]) -> Reached
-    ensures { λ r. ⌜ Left utf7 (now (text .entry)) (r .at) outside (r .n) ⌝ }
-{
-    let mut at: usize = 0;
-    let mut n: usize = 0;
-    while at + 12 <= text.len() {
-        if text[at] != b'+' {
-            let far = stretch_end(text, at);
-            if far == at {
-                return Reached { at, n };
-            }
-            n += far - at;
-            at = far;
-        } else {
-            let from = at + 1;
-            if is_one(text, from) {
-                n += 1;
-                at = past_run(text, from + 3);
-            } else {
-                if text[from] == b'-' {
-                    n += 1;
-                    at += 2;
-                } else {
-                    let to = run_end(text, from);
-                    if !is_run(text, from, to) {
-                        return Reached { at, n };
-                    }
-                    n += units(to - from);
-                    at = past_run(text, to);
-                }
-            }
-        }
-    }
-    Reached { at, n }
 }
 
 // The cells of a text go to the front of the output.
-pub fn fill(text: &[u8], out: &mut [u32]) -> Reached
-    requires { ⌜ length (reading utf7 (now text) .cells) ≤ length (now out) ⌝ }
-    ensures { λ r. ⌜ Filling utf7 (now (text .entry)) (r .at) outside (r .n) (now (out .entry)) (now (out .exit)) ⌝ }
+pub fn fill(text: &[u8], out: &mut [u16]) -> Reached
+    requires { ⌜ length (now text) ≤ length (now out) ⌝ }
+    ensures { λ r. ⌜ Front utf7 (now (text .entry)) (r .at) outside (r .n) (now (out .exit)) ⌝ }
 {
     let mut at: usize = 0;
     let mut n: usize = 0;
-    while at + 12 <= text.len() {
-        if text[at] != b'+' {
-            let end = stretch_end(text, at);
-            if end == at {
+    while at + 73 <= text.len() {
+        let k = direct_ahead(text, at);
+        widen(text, at, k, out, n);
+        if k == 32 {
+            at += 32;
+            n += 32;
+        } else {
+            at += k;
+            n += k;
+            if text[at] != b'+' {
                 return Reached { at, n };
             }
-            widen(text, at, end, &mut out[n..]);
-            n += end - at;
-            at = end;
-        } else {
             let from = at + 1;
-            if is_one(text, from) {
-                out[n] = one(text, from);
+            let x = values(text, from);
+            if is_one(x) {
+                out[n] = first(wide(x[0]), wide(x[1]), wide(x[2]));
                 n += 1;
                 at = past_run(text, from + 3);
             } else {
@@ -391,12 +285,12 @@ pub fn fill(text: &[u8], out: &mut [u32]) -> Reached
                     n += 1;
                     at += 2;
                 } else {
-                    let end = run_end(text, from);
-                    if !is_run(text, from, end) {
+                    let r = put_run(text, from, out, n);
+                    let end = r.at;
+                    if end == from {
                         return Reached { at, n };
                     }
-                    put_run(text, from, end, &mut out[n..]);
-                    n += units(end - from);
+                    n = r.n;
                     at = past_run(text, end);
                 }
             }

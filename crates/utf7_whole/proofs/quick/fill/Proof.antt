@@ -1,105 +1,116 @@
-use Prim.Native.Nat.{_+_, _-_, _<_, _≤_}
-use mathlib.Core.Path.{_≡_, refl, sym, ap, _∙_}
-use mathlib.Core.List.{List, [], _∷_}
-use native.Mathlib.Omega.{arith}
-use lib.ListN.{length}
-use lib.Seq.{length-slice}
-use borrow.Author.Tests.{not-false}
-use borrow.Author.Needs.{needs}
-use Rattle.reading.proofs.Filling.{Filling, filling-start}
-use Rattle.reading.proofs.Strides.{Stride, filling-room, filling-part, filling-place, filling-one}
+use Rattle.utf7_whole.proofs.Tokens.{past-on, front-direct, front-sign, front-run, front-one}
 use Rattle.utf7.specs.Rule.{outside, utf7}
-use Rattle.utf7_whole.specs.Quick.{Run, unitsIn, past}
-use Rattle.utf7_whole.proofs.Tokens.{direct-stride, sign-stride, run-stride, length-units, past-on, filling-within}
+use Rattle.reading.proofs.Fronts.{Front, front-start, front-place, front-kept}
+use lib.ListN.{length, length-set}
+use native.Mathlib.Omega.{arith}
+use mathlib.Core.Path.{_≡_, refl, _∙_}
+use Prim.Native.Nat.{_+_, _-_, _<_, _≤_}
+use borrow.Author.Needs.{needs}
 use Rattle.utf7_whole.proofs.quick.fill.Statement.{statement}
 use Rattle.utf7_whole.proofs.quick.fill.Tie as tie
 
 abbrev Inv-loop : tie.InvT-loop
-Inv-loop text out₀ at₀ n₀ out at n = Filling utf7 text at outside n out₀ out
+Inv-loop text out₀ at₀ n₀ out at n = Front utf7 text at outside n out × (length out ≡ length out₀)
 
 abbrev μ-loop : tie.MeasureT-loop
 μ-loop text out₀ at₀ n₀ out at n = length text - at
 
 loop-holds : tie.Need-loop-holds Inv-loop μ-loop
-loop-holds c = filling-start utf7 _ _ (c .before .before .pre)
+loop-holds c = (front-start utf7 _ _ (c .before .before .pre), refl)
 
 add-loop : tie.Need-add-loop Inv-loop μ-loop
 add-loop c = search needs
 
-shared-slice-read-if1 : tie.Need-shared-slice-read-if1 Inv-loop μ-loop
-shared-slice-read-if1 c = search needs
-
-stretch-end-requires : tie.Need-stretch-end-requires Inv-loop μ-loop
-stretch-end-requires c κs = search needs
-
-same-length : tie.Need-same-length Inv-loop μ-loop
-same-length c = c .before .before .before .before .before .loop .inv .put .same
-
-returns : tie.Need-returns Inv-loop μ-loop
-returns c = c .before .before .before .before .before .loop .inv
-
-mul-widen : tie.Need-mul-widen Inv-loop μ-loop
-mul-widen c = omega (arith, filling-within (c .before .before .before .before .before .loop .inv))
-
-sub-widen : tie.Need-sub-widen Inv-loop μ-loop
-sub-widen c = filling-within (c .before .before .before .before .before .loop .inv)
-
-part-widen-start : tie.Need-part-widen-start Inv-loop μ-loop
-part-widen-start c = filling-within (c .before .before .before .before .before .loop .inv)
-
-part-widen-end : tie.Need-part-widen-end Inv-loop μ-loop
-part-widen-end c = search needs
+direct-ahead-requires : tie.Need-direct-ahead-requires Inv-loop μ-loop
+direct-ahead-requires c κs = search needs
 
 widen-requires : tie.Need-widen-requires Inv-loop μ-loop
-widen-requires c κs =
-    let s = c .before .before .stretch-end .ensures in
-    (s .ordered, s .within, rw (length-slice _ _ _ (s .within)) at (filling-room (direct-stride s) (c .before .before .before .before .before .before .loop .inv)))
+widen-requires c κs = let f = c .before .before .before .loop .inv .0 in (c .before .direct-ahead .ensures .0, omega (arith, c .before .before .loop-test .taken), omega (arith, c .before .before .loop-test .taken, f .left .few, f .room))
 
-sub-n : tie.Need-sub-n Inv-loop μ-loop
-sub-n c = c .before .before .before .before .before .stretch-end .ensures .ordered
+add-at : tie.Need-add-at Inv-loop μ-loop
+add-at c = search needs
 
 add-n : tie.Need-add-n Inv-loop μ-loop
-add-n c = let s = c .before .before .before .before .before .stretch-end .ensures in omega (arith, s .ordered, s .within, c .before .before .before .before .before .before .before .before .before .loop .inv .left .few)
+add-n c = search needs
 
 loop-less : tie.Need-loop-less Inv-loop μ-loop
-loop-less c = let s = c .before .before .before .before .before .stretch-end .ensures in omega (arith, s .ordered, s .within, c .before .before .before .before .if2 .left)
+loop-less c = search needs
+
+-- the bytes that stand for themselves are laid
+direct :
+    (c : tie.After-slice-known2 Inv-loop μ-loop) →
+    let l = c .before .before .before .before .before .before in
+    let k = c .before .before .before .before .direct-ahead .result in
+    Front utf7 (l .before .before .before .args .text .now) (l .loop .at + k) outside (l .loop .n + k) (c .before .before .widen .last .1 .1 .1 .0)
+direct c = front-direct (c .before .before .before .before .before .before .loop .inv .0) _ (c .before .before .before .before .direct-ahead .ensures .1) (c .before .before .widen .ensures)
+
+same : (c : tie.After-slice-known2 Inv-loop μ-loop) → length (c .before .before .widen .last .1 .1 .1 .0) ≡ length (c .before .before .before .before .before .before .before .before .before .args .out .now)
+same c = c .before .before .widen .ensures .same ∙ c .before .before .before .before .before .before .loop .inv .1
+
+-- and many bytes follow
+near : (c : tie.After-slice-known2 Inv-loop μ-loop) → let l = c .before .before .before .before .before .before in l .loop .at + c .before .before .before .before .direct-ahead .result + 41 ≤ length (l .before .before .before .args .text .now)
+near c = omega (arith, c .before .before .before .before .direct-ahead .ensures .0, c .before .before .before .before .before .loop-test .taken)
+
+ahead : (c : tie.After-slice-known2 Inv-loop μ-loop) → let l = c .before .before .before .before .before .before in l .loop .at + c .before .before .before .before .direct-ahead .result < length (l .before .before .before .args .text .now)
+ahead c = omega (arith, near c)
 
 loop-again : tie.Need-loop-again Inv-loop μ-loop
-loop-again c =
-    let s = c .before .before .before .before .before .stretch-end .ensures in
-    rw (length-slice _ _ _ (s .within)) at (filling-part (direct-stride s) (c .before .before .before .before .before .before .before .before .before .loop .inv) (c .before .before .widen .ensures))
+loop-again c = (rw (c .if1 .taken) at (direct (c .before)), same (c .before))
+
+add-at-2 : tie.Need-add-at-2 Inv-loop μ-loop
+add-at-2 c = search needs
+
+add-n-2 : tie.Need-add-n-2 Inv-loop μ-loop
+add-n-2 c = search needs
+
+shared-slice-read-if2 : tie.Need-shared-slice-read-if2 Inv-loop μ-loop
+shared-slice-read-if2 c = search needs
+
+same-length : tie.Need-same-length Inv-loop μ-loop
+same-length c = same (c .before .before .before)
+
+returns : tie.Need-returns Inv-loop μ-loop
+returns c = direct (c .before .before .before)
 
 add-from : tie.Need-add-from Inv-loop μ-loop
 add-from c = search needs
 
+values-requires : tie.Need-values-requires Inv-loop μ-loop
+values-requires c κs = search needs
+
 is-one-requires : tie.Need-is-one-requires Inv-loop μ-loop
 is-one-requires c κs = search needs
 
-one-requires : tie.Need-one-requires Inv-loop μ-loop
-one-requires c κs = c .before .is-one .ensures (c .if3 .taken)
+array-read-wide : tie.Need-array-read-wide Inv-loop μ-loop
+array-read-wide c = search needs
 
--- a run of one unit, and the sign by itself
-one-stride :
-    (c : tie.After-one Inv-loop μ-loop) →
-    let l = c .before .before .before .before .before .before in
-    let t = l .before .before .before .args .text .now in
-    Stride utf7 t (l .loop .at) outside (past t (l .loop .at + 1 + 3)) (c .one .result ∷ []) outside
-one-stride c = rw (c .one .ensures) at (run-stride (c .before .before .before .if1 .left) (c .before .before .is-one .ensures (c .before .if3 .taken)))
+wide-requires : tie.Need-wide-requires Inv-loop μ-loop
+wide-requires c κs = search needs
 
-signed :
-    (c : tie.Then4 Inv-loop μ-loop) →
-    let l = c .before .before .before .before .before .before .before in
-    Stride utf7 (l .before .before .before .args .text .now) (l .loop .at) outside (l .loop .at + 2) (43 ∷ []) outside
-signed c = sign-stride (omega (arith, c .before .before .before .before .before .before .loop-test .taken)) (c .before .before .before .before .if1 .left) (c .if4 .taken)
+array-read-wide-2 : tie.Need-array-read-wide-2 Inv-loop μ-loop
+array-read-wide-2 c = search needs
+
+wide-requires-2 : tie.Need-wide-requires-2 Inv-loop μ-loop
+wide-requires-2 c κs = search needs
+
+array-read-wide-3 : tie.Need-array-read-wide-3 Inv-loop μ-loop
+array-read-wide-3 c = search needs
+
+wide-requires-3 : tie.Need-wide-requires-3 Inv-loop μ-loop
+wide-requires-3 c κs = search needs
+
+first-requires : tie.Need-first-requires Inv-loop μ-loop
+first-requires c κs =     let o = c .before .before .before .before .is-one .ensures (c .before .before .before .if3 .taken) in
+    (rw (c .before .before .wide .ensures) (o .first), rw (c .before .wide2 .ensures) (o .second), rw (c .wide3 .ensures) (o .third))
 
 mul-out : tie.Need-mul-out Inv-loop μ-loop
-mul-out c = omega (arith, filling-place (c .before .before .before .before .before .before .loop .inv) (one-stride c))
+mul-out c = search needs
 
 slice-write-out : tie.Need-slice-write-out Inv-loop μ-loop
-slice-write-out c = filling-place (c .before .before .before .before .before .before .loop .inv) (one-stride c)
+slice-write-out c = front-place (direct (c .before .before .before .before .before .before .before .before .before .before)) (ahead (c .before .before .before .before .before .before .before .before .before .before))
 
-add-n-2 : tie.Need-add-n-2 Inv-loop μ-loop
-add-n-2 c = search needs
+add-n-3 : tie.Need-add-n-3 Inv-loop μ-loop
+add-n-3 c = search needs
 
 add-past-run : tie.Need-add-past-run Inv-loop μ-loop
 add-past-run c = search needs
@@ -108,105 +119,61 @@ past-run-requires : tie.Need-past-run-requires Inv-loop μ-loop
 past-run-requires c κs = search needs
 
 loop-less-2 : tie.Need-loop-less-2 Inv-loop μ-loop
-loop-less-2 c = rw (c .past-run .ensures) (omega (arith, past-on (c .before .before .before .before .before .before .before .before .before .before .args .text .now) (c .before .before .before .before .before .before .before .loop .at + 1 + 3), c .before .before .before .before .before .before .loop-test .taken))
+loop-less-2 c =     let i = c .before .before .before .before .before .before .before .before .before .before .before .before .before .before .before .before in
+    rw (c .past-run .ensures) (omega (arith, past-on (i .before .before .before .before .args .text .now) (i .before .loop .at + c .before .before .before .before .before .before .before .before .before .before .before .before .before .before .before .direct-ahead .result + 1 + 3), i .loop-test .taken, c .before .before .before .before .before .before .before .before .before .before .before .before .before .before .before .direct-ahead .ensures .0))
 
 loop-again-2 : tie.Need-loop-again-2 Inv-loop μ-loop
-loop-again-2 c = rw (c .past-run .ensures) (filling-one (c .before .before .before .before .before .before .before .loop .inv) (one-stride (c .before)))
+loop-again-2 c =     let v = c .before .before .before .before .before .before .before in
+    (rw (c .past-run .ensures, c .before .first .ensures, c .before .before .before .before .wide .ensures, c .before .before .before .wide2 .ensures, c .before .before .wide3 .ensures)
+    (front-one (direct (v .before .before .before .before)) (v .before .if2 .left) (omega (arith, near (v .before .before .before .before))) (v .values .ensures) (c .before .before .before .before .before .before .is-one .ensures (c .before .before .before .before .before .if3 .taken))), simp length-set (same (v .before .before .before .before)))
 
 shared-slice-read-if4 : tie.Need-shared-slice-read-if4 Inv-loop μ-loop
 shared-slice-read-if4 c = search needs
 
 mul-out-2 : tie.Need-mul-out-2 Inv-loop μ-loop
-mul-out-2 c = omega (arith, filling-place (c .before .before .before .before .before .before .before .loop .inv) (signed c))
+mul-out-2 c = search needs
 
 slice-write-out-2 : tie.Need-slice-write-out-2 Inv-loop μ-loop
-slice-write-out-2 c = filling-place (c .before .before .before .before .before .before .before .loop .inv) (signed c)
+slice-write-out-2 c = front-place (direct (c .before .before .before .before .before .before .before .before)) (ahead (c .before .before .before .before .before .before .before .before))
 
-add-n-3 : tie.Need-add-n-3 Inv-loop μ-loop
-add-n-3 c = search needs
+add-n-4 : tie.Need-add-n-4 Inv-loop μ-loop
+add-n-4 c = search needs
 
-add-at : tie.Need-add-at Inv-loop μ-loop
-add-at c = search needs
+add-at-3 : tie.Need-add-at-3 Inv-loop μ-loop
+add-at-3 c = search needs
 
 loop-less-3 : tie.Need-loop-less-3 Inv-loop μ-loop
 loop-less-3 c = search needs
 
 loop-again-3 : tie.Need-loop-again-3 Inv-loop μ-loop
-loop-again-3 c = filling-one (c .before .before .before .before .before .before .before .loop .inv) (signed c)
-
-run-end-requires : tie.Need-run-end-requires Inv-loop μ-loop
-run-end-requires c κs = search needs
-
-is-run-requires : tie.Need-is-run-requires Inv-loop μ-loop
-is-run-requires c κs = c .run-end .ensures
-
-same-length-2 : tie.Need-same-length-2 Inv-loop μ-loop
-same-length-2 c = c .before .before .before .before .before .before .before .before .before .before .loop .inv .put .same
-
-returns-2 : tie.Need-returns-2 Inv-loop μ-loop
-returns-2 c = c .before .before .before .before .before .before .before .before .before .before .loop .inv
-
--- any other run
-run :
-    (c : tie.Else5 Inv-loop μ-loop) →
-    let l = c .before .before .before .before .before .before .before .before .before .before in
-    let t = l .before .before .before .args .text .now in
-    let end = c .before .before .run-end .result in
-    Run t (l .loop .at + 1) end × (end + 8 ≤ length t)
-run c = c .before .is-run .ensures (not-false _ (c .if5 .left))
-
-strided :
-    (c : tie.Else5 Inv-loop μ-loop) →
-    let l = c .before .before .before .before .before .before .before .before .before .before in
-    let t = l .before .before .before .args .text .now in
-    let end = c .before .before .run-end .result in
-    Stride utf7 t (l .loop .at) outside (past t end) (unitsIn t (l .loop .at + 1) end) outside
-strided c = run-stride (c .before .before .before .before .before .before .before .if1 .left) (run c .0)
-
-mul-put-run : tie.Need-mul-put-run Inv-loop μ-loop
-mul-put-run c = omega (arith, filling-within (c .before .before .before .before .before .before .before .before .before .before .loop .inv))
-
-sub-put-run : tie.Need-sub-put-run Inv-loop μ-loop
-sub-put-run c = filling-within (c .before .before .before .before .before .before .before .before .before .before .loop .inv)
-
-part-put-run-start : tie.Need-part-put-run-start Inv-loop μ-loop
-part-put-run-start c = filling-within (c .before .before .before .before .before .before .before .before .before .before .loop .inv)
-
-part-put-run-end : tie.Need-part-put-run-end Inv-loop μ-loop
-part-put-run-end c = search needs
+loop-again-3 c = (front-sign (direct (c .before .before .before .before .before .before .before .before)) (omega (arith, near (c .before .before .before .before .before .before .before .before))) (c .before .before .before .before .before .if2 .left) (c .if4 .taken), simp length-set (same (c .before .before .before .before .before .before .before .before)))
 
 put-run-requires : tie.Need-put-run-requires Inv-loop μ-loop
-put-run-requires c κs = let r = run (c .before) in (r .0 .letters, r .1, filling-room (strided (c .before)) (c .before .before .before .before .before .before .before .before .before .before .before .loop .inv))
+put-run-requires c κs = let f = direct (c .before .before .before .before .before .before .before .before .before) in (omega (arith, f .left .few), omega (arith, near (c .before .before .before .before .before .before .before .before .before)), f .room)
 
-sub-units : tie.Need-sub-units Inv-loop μ-loop
-sub-units c = run (c .before .before .before .before) .0 .letters .ordered
+same-length-2 : tie.Need-same-length-2 Inv-loop μ-loop
+same-length-2 c = c .before .before .before .put-run .ensures .kept .same ∙ same (c .before .before .before .before .before .before .before .before .before .before .before .before .before)
 
-units-requires : tie.Need-units-requires Inv-loop μ-loop
-units-requires c κs = tt
-
-add-n-4 : tie.Need-add-n-4 Inv-loop μ-loop
-add-n-4 c = let s = run (c .before .before .before .before .before) .0 .letters in omega (arith, c .units .ensures, s .ordered, s .within, c .before .before .before .before .before .before .before .before .before .before .before .before .before .before .before .loop .inv .left .few)
+returns-2 : tie.Need-returns-2 Inv-loop μ-loop
+returns-2 c = front-kept (direct (c .before .before .before .before .before .before .before .before .before .before .before .before .before)) (c .before .before .before .put-run .ensures .kept)
 
 past-run-requires-2 : tie.Need-past-run-requires-2 Inv-loop μ-loop
-past-run-requires-2 c κs = run (c .before .before .before .before .before) .0 .inside
+past-run-requires-2 c κs = c .before .before .before .put-run .ensures .run (c .if5 .left) .inside
 
 loop-less-4 : tie.Need-loop-less-4 Inv-loop μ-loop
-loop-less-4 c =
-    let r = run (c .before .before .before .before .before .before) .0 in
-    rw (c .past-run2 .ensures) (omega (arith, r .some, r .inside, past-on (c .before .before .before .before .before .before .before .before .before .before .before .before .before .before .before .before .before .before .before .args .text .now) (c .before .before .before .before .before .before .before .before .run-end .result)))
+loop-less-4 c =     let r = c .before .before .before .before .put-run .ensures .run (c .before .if5 .left) in
+    rw (c .past-run2 .ensures) (omega (arith, past-on (c .before .before .before .before .before .before .before .before .before .before .before .before .before .before .before .before .before .before .before .before .before .before .before .args .text .now) (c .before .before .before .before .put-run .result .at), r .some, r .inside))
 
 loop-again-4 : tie.Need-loop-again-4 Inv-loop μ-loop
-loop-again-4 c =
-    let e = c .before .before .before .before .before .before in
-    let l = e .before .before .before .before .before .before .before .before .before .before in
-    let n = length-units (l .before .before .before .args .text .now) (l .loop .at + 1) (e .before .before .run-end .result) (run e .0 .letters .within) in
-    rw (c .past-run2 .ensures, c .before .units .ensures, ← n) (filling-part (strided e) (l .loop .inv) (c .before .before .before .before .put-run .ensures))
+loop-again-4 c =     let w = c .before .before .before .before .put-run .ensures in
+    let z = c .before .if5 .left in
+    (rw (c .past-run2 .ensures) (front-run (direct (c .before .before .before .before .before .before .before .before .before .before .before .before .before .before)) (c .before .before .before .before .before .before .before .before .before .before .before .if2 .left) (w .run z) (w .laid z) (w .count z)), w .kept .same ∙ same (c .before .before .before .before .before .before .before .before .before .before .before .before .before .before))
 
 same-length-3 : tie.Need-same-length-3 Inv-loop μ-loop
-same-length-3 c = c .before .loop .inv .put .same
+same-length-3 c = c .before .loop .inv .1
 
 returns-3 : tie.Need-returns-3 Inv-loop μ-loop
-returns-3 c = c .before .loop .inv
+returns-3 c = c .before .loop .inv .0
 
 pub fill-spec : {M : Type 1} → statement M
 fill-spec =
@@ -216,25 +183,30 @@ fill-spec =
     μ-loop
     loop-holds
     add-loop
-    shared-slice-read-if1
-    stretch-end-requires
-    same-length
-    returns
-    mul-widen
-    sub-widen
-    part-widen-start
-    part-widen-end
+    direct-ahead-requires
     widen-requires
-    sub-n
+    add-at
     add-n
     loop-less
     loop-again
+    add-at-2
+    add-n-2
+    shared-slice-read-if2
+    same-length
+    returns
     add-from
+    values-requires
     is-one-requires
-    one-requires
+    array-read-wide
+    wide-requires
+    array-read-wide-2
+    wide-requires-2
+    array-read-wide-3
+    wide-requires-3
+    first-requires
     mul-out
     slice-write-out
-    add-n-2
+    add-n-3
     add-past-run
     past-run-requires
     loop-less-2
@@ -242,22 +214,13 @@ fill-spec =
     shared-slice-read-if4
     mul-out-2
     slice-write-out-2
-    add-n-3
-    add-at
+    add-n-4
+    add-at-3
     loop-less-3
     loop-again-3
-    run-end-requires
-    is-run-requires
+    put-run-requires
     same-length-2
     returns-2
-    mul-put-run
-    sub-put-run
-    part-put-run-start
-    part-put-run-end
-    put-run-requires
-    sub-units
-    units-requires
-    add-n-4
     past-run-requires-2
     loop-less-4
     loop-again-4

@@ -1,20 +1,18 @@
-use Prim.Native.Nat.{ℕ, _+_, _-_, _<_, _≤_}
-use mathlib.Core.Path.{_≡_, refl, sym, _∙_}
-use mathlib.Core.Bool.{Bool, true, false}
+use Rattle.utf7_whole.proofs.Tokens.{set-more}
+use Rattle.base64.specs.Letters.{valueOf, slash}
 use lib.ListN.{length, getD, length-set}
 use native.Mathlib.Omega.{arith}
+use mathlib.Core.Path.{_≡_, refl}
+use Prim.Native.Nat.{ℕ, _+_, _-_, _<_, _≤_}
 use borrow.Author.Needs.{needs}
-use Rattle.utf7_whole.proofs.Tokens.{set-more}
-use Rattle.base64.specs.Letters.{valueOf, setB, slash}
 use Rattle.utf7_whole.proofs.quick.values.Statement.{statement}
 use Rattle.utf7_whole.proofs.quick.values.Tie as tie
 
 abbrev Inv-loop : tie.InvT-loop
-Inv-loop text at x₀ k₀ x k =
-    (k ≤ 8) × (length x ≡ 8) × ((j : ℕ) → j < k → setB slash (getD text (at + j) 0) ≡ true → getD x j 0 ≡ valueOf slash (getD text (at + j) 0))
+Inv-loop text at x₀ k₀ x k = (k ≤ 32) × (length x ≡ 32) × ((j : ℕ) → j < k → getD x j 0 ≡ valueOf slash (getD text (at + j) 0))
 
 abbrev μ-loop : tie.MeasureT-loop
-μ-loop text at x₀ k₀ x k = 8 - k
+μ-loop text at x₀ k₀ x k = 32 - k
 
 loop-holds : tie.Need-loop-holds Inv-loop μ-loop
 loop-holds c = (omega arith, refl, λ j h. absurd (omega arith))
@@ -28,9 +26,6 @@ shared-slice-read-value c = search needs
 value-requires : tie.Need-value-requires Inv-loop μ-loop
 value-requires c κs = search needs
 
-mul-x : tie.Need-mul-x Inv-loop μ-loop
-mul-x c = search needs
-
 array-write-x : tie.Need-array-write-x Inv-loop μ-loop
 array-write-x c = search needs
 
@@ -41,11 +36,10 @@ loop-less : tie.Need-loop-less Inv-loop μ-loop
 loop-less c = search needs
 
 loop-again : tie.Need-loop-again Inv-loop μ-loop
-loop-again c =
-    let l = c .before .before .before in
+loop-again c =     let l = c .before .before .before in
     let a = l .before .before .args in
     let i = l .loop .inv in
-    let Q : ℕ → ℕ → Type 0 = λ j x. setB slash (getD (a .text .now) (a .at + j) 0) ≡ true → x ≡ valueOf slash (getD (a .text .now) (a .at + j) 0) in
+    let Q : ℕ → ℕ → Type 0 = λ j x. x ≡ valueOf slash (getD (a .text .now) (a .at + j) 0) in
     (omega arith, simp length-set (i .1), set-more (l .loop .x) (l .loop .k) (c .value .result) Q (omega (arith, i .1)) (i .2) (c .value .ensures))
 
 returns : tie.Need-returns Inv-loop μ-loop
@@ -61,7 +55,6 @@ values-spec =
     add-value
     shared-slice-read-value
     value-requires
-    mul-x
     array-write-x
     add-k
     loop-less
