@@ -12,20 +12,23 @@ use lib.Pow.{pow-pos}
 use lib.Dec.{leb, ltb, eqb, lit<}
 use borrow.Author.Tests.{ltb-true, ltb-false, eqb-true, eqb-false, leb-true, leb-false, lt-ltb, le-ltb}
 use Rattle.answer.specs.Lists.{Each}
+use Rattle.answer.proofs.Put.{head-at}
 use Rattle.answer.proofs.Laid.{Laid, laid-none, laid-one, laid-on, laid-front}
-use Rattle.answer.proofs.Below.{cond-case, allBelow, below, same, same-eq}
+use Rattle.answer.proofs.Below.{cond-case, allBelow, below, same, same-eq, each-at}
 use Rattle.bits.specs.Bits.{bits, allZero, bitsOf, full, leftOver}
 use Rattle.bits.proofs.Bits.{length-bits, number-bits, bits-append, parted, bits-drop}
 use Rattle.bits.proofs.Groups.{length-bitsOf, length-groups, full-more, full-few}
 use Rattle.base64.specs.Letters.{valueOf, setB, slash}
 use Rattle.reading.specs.Reading.{give, go, bad, Reading, onRead, readFrom, reading}
+use Rattle.reading.proofs.Laws.{Left, left-cell, left-more}
 use Rattle.reading.proofs.Fronts.{Front, front-stride, front-place}
 use Rattle.reading.proofs.Walk.{Walk, stay, gives, goes}
 use Rattle.reading.proofs.Strides.{Stride, stride-go, stride-on, stride-as, stride-to, stride-walk}
 use Rattle.utf7.specs.Sets.{alphanumeric, setD, setO, direct}
 use Rattle.utf7.specs.Rule.{Shift, outside, run, mayEnd, endDoes, lowDoes, byteDoes, utf7}
-use Rattle.utf7.specs.Writing.{sign, spell}
+use Rattle.utf7.specs.Writing.{IsUnit, sign, spell}
 use Rattle.utf7.specs.declared.Style.the-variants.{Body}
+use Rattle.utf7.proofs.Kept.{units-read}
 use Rattle.utf7.proofs.Round.{Letters, whole-run, self-walk, close-run, piece-walk}
 use Rattle.utf7_whole.specs.Quick.{Span, Ahead, Run, Values, One, Went, bitsIn, unitsIn, past, firstOf, secondOf, thirdOf, threeOf, unitsOf, lows, stops}
 use Rattle.utf7_read.proofs.Moves.{may-end}
@@ -459,7 +462,6 @@ set-more xs k v Q h f g j l = at (eqb j k) refl
     at true e = rw (eqb-true j k e, getD-set-same xs k v 0 h) g
     at false e = rw (getD-set-other xs k j v 0 (eqb-false j k e)) (f j (omega (arith, eqb-false j k e)))
 
-
 -- letters among 32 bytes, by their values
 ahead-letters : {s : List ℕ} {at m : ℕ} {xs : List ℕ} → Values s at xs → Ahead (λ k. ltb (getD xs k 0) 64) 32 m → Ahead (λ k. setB slash (getD s (at + k) 0)) 32 m
 unfolding setB
@@ -630,3 +632,9 @@ module _ {s : List ℕ} {at n : ℕ} {a : List ℕ} (f : Front utf7 s at outside
       Front utf7 s (past s (at + 1 + 3)) outside (n + 1) (set a n ((getD xs 0 0 * 64 + getD xs 1 0) * 16 + getD xs 2 0 / 4))
   front-one {xs} e h v o =
       front-run e (one-run h v o) (rw (one-units h v o) (laid-one n _ a (front-place f (omega arith)))) (rw (one-units h v o))
+
+-- a cell is a unit
+pub cell-unit : {s : List ℕ} {at n v : ℕ} {st st' : Shift} → Left utf7 s at st n → at < length s → byteDoes st (getD s at 0) ≡ give v st' → IsUnit v
+cell-unit {s} {at} {n} {v} l h e =
+    let cs = reading utf7 s .cells in
+    rw (head-at cs _ n v 0 (left-cell l h e)) at (each-at IsUnit cs n (units-read s) (left-more l h e))

@@ -214,7 +214,10 @@ fn put_run(text: &[u8], from: usize, out: &mut [u16], start: usize) -> Reached
         put_twelve(x, out, n);
         if c < 32 {
             if may_end(x, c) {
-                return Reached { at: at + c, n: n + units(c) };
+                return Reached {
+                    at: at + c,
+                    n: n + units(c),
+                };
             }
             return Reached { at: from, n };
         }

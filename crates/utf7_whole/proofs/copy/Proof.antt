@@ -60,7 +60,7 @@ same-length : tie.Need-same-length Inv-loop μ-loop
 same-length c = c .before .loop .inv .1 .same
 
 returns : tie.Need-returns Inv-loop μ-loop
-returns c =     let s = c .before .before in
+returns c = let s = c .before .before in
     let h = length-take-le (s .args .n) (s .args .cells .now) (s .pre .0) in
     put-done (put-as (drop-of-length-le _ {i = c .before .loop .k} (omega (arith, h, c .loop-test .left))) (c .before .loop .inv .1))
 

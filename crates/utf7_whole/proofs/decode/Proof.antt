@@ -1,105 +1,104 @@
+use Rattle.utf7_whole.proofs.Tokens.{cell-unit}
+use Rattle.utf7_read.proofs.Moves.{moved}
+use Rattle.utf7_read.specs.Cursor.{shiftOf}
+use Rattle.utf7.specs.Rule.{utf7}
+use Rattle.reading.proofs.Fronts.{Front, front-place, front-give, front-go, front-done}
+use Rattle.reading.proofs.Laws.{left-bad, left-end}
+use lib.ListN.{length, length-set}
+use native.Mathlib.Omega.{arith}
+use mathlib.Core.Path.{_≡_, refl, _∙_}
+use Prim.Native.Nat.{_-_, _<_}
 use borrow.Author.Needs.{needs}
 use Rattle.utf7_whole.proofs.decode.Statement.{statement}
 use Rattle.utf7_whole.proofs.decode.Tie as tie
-use Rattle.utf7_whole.proofs.decode.Reads as reads
-use Rattle.utf7_whole.proofs.decode.Lts as lts
-use Rattle.utf7_read.proofs.byte_does.Reads as byte-does-reads
-use Rattle.utf7_read.proofs.ends_in.Reads as ends-in-reads
-use Rattle.utf7_whole.proofs.quick.fill.Reads as fill-reads
 
 abbrev Inv-loop : tie.InvT-loop
-Inv-loop text out₀ at₀ n₀ st₀ out at n st = ?
+Inv-loop text out₀ at₀ n₀ st₀ out at n st = Front utf7 text at (shiftOf st) n out × (length out ≡ length out₀)
 
 abbrev μ-loop : tie.MeasureT-loop
-μ-loop text out₀ at₀ n₀ st₀ out at n st = ?
+μ-loop text out₀ at₀ n₀ st₀ out at n st = length text - at
 
--- src/lib.rt:24:9
 fill-requires : tie.Need-fill-requires Inv-loop μ-loop
 fill-requires c κs = search needs
 
--- src/lib.rt:28:5
 loop-holds : tie.Need-loop-holds Inv-loop μ-loop
-loop-holds c = search needs
+loop-holds c = (c .before .before .fill .ensures, refl)
 
--- src/lib.rt:29:40
 shared-slice-read-byte-does : tie.Need-shared-slice-read-byte-does Inv-loop μ-loop
 shared-slice-read-byte-does c = search needs
 
--- src/lib.rt:29:15
 byte-does-requires : tie.Need-byte-does-requires Inv-loop μ-loop
 byte-does-requires c κs = search needs
 
--- src/lib.rt:30:24
 enum-known-value : tie.Need-enum-known-value Inv-loop μ-loop
 enum-known-value c = search needs
 
--- src/lib.rt:31:26
+-- the next cell has a place
+index : (c : tie.After-known-told Inv-loop μ-loop) → let l = c .before .before .before .before .before .before .loop in l .n < length (l .out)
+index c = let i = c .before .before .before .before .before in front-place (i .before .loop .inv .0) (i .loop-test .taken)
+
 cast-out : tie.Need-cast-out Inv-loop μ-loop
-cast-out c = search needs
+cast-out c = let f = c .before .before .before in
+    let i = f .before .before in
+    omega (arith, cell-unit (i .before .loop .inv .0 .left) (i .loop-test .taken) (moved (f .byte-does .ensures) (c .before .value .given .1) .0))
 
--- src/lib.rt:31:17
 mul-out : tie.Need-mul-out Inv-loop μ-loop
-mul-out c = search needs
+mul-out c = omega (arith, index c)
 
--- src/lib.rt:31:17
 slice-write-out : tie.Need-slice-write-out Inv-loop μ-loop
-slice-write-out c = search needs
+slice-write-out c = index c
 
--- src/lib.rt:33:17
 add-n : tie.Need-add-n Inv-loop μ-loop
 add-n c = search needs
 
--- src/lib.rt:34:17
 add-at : tie.Need-add-at Inv-loop μ-loop
 add-at c = search needs
 
--- src/lib.rt:28:5
 loop-less : tie.Need-loop-less Inv-loop μ-loop
 loop-less c = search needs
 
--- src/lib.rt:28:5
 loop-again : tie.Need-loop-again Inv-loop μ-loop
-loop-again c = search needs
+loop-again c = let f = c .before .before .before in
+    let i = f .before .before in
+    (front-give (i .before .loop .inv .0) (i .loop-test .taken) (moved (f .byte-does .ensures) (c .before .value .given .1) .0), simp length-set (i .before .loop .inv .1))
 
--- src/lib.rt:36:22
 enum-known-state : tie.Need-enum-known-state Inv-loop μ-loop
 enum-known-state c = search needs
 
--- src/lib.rt:38:17
 add-at-2 : tie.Need-add-at-2 Inv-loop μ-loop
 add-at-2 c = search needs
 
--- src/lib.rt:28:5
 loop-less-2 : tie.Need-loop-less-2 Inv-loop μ-loop
 loop-less-2 c = search needs
 
--- src/lib.rt:28:5
 loop-again-2 : tie.Need-loop-again-2 Inv-loop μ-loop
-loop-again-2 c = search needs
+loop-again-2 c = let f = c .before .before .before in
+    let i = f .before .before in
+    (front-go (i .before .loop .inv .0) (i .loop-test .taken) (moved (f .byte-does .ensures) (c .before .state .given .1) .0), i .before .loop .inv .1)
 
--- src/lib.rt:40:23
 enum-known-why : tie.Need-enum-known-why Inv-loop μ-loop
 enum-known-why c = search needs
 
--- src/lib.rt:41:17
 same-length : tie.Need-same-length Inv-loop μ-loop
-same-length c = search needs
+same-length c = c .before .before .before .before .before .before .loop .inv .1 ∙ c .before .before .before .before .before .before .before .before .before .fill .kept .1 .0
 
--- src/lib.rt:41:17
 returns : tie.Need-returns Inv-loop μ-loop
-returns c = search needs
+returns c = let f = c .before .before .before in
+    let i = f .before .before in
+    let q = i .before .loop .inv .0 in
+    let e = left-bad (q .left) (i .loop-test .taken) (moved (f .byte-does .ensures) (c .before .why .given .1) .0) in
+    (e .1, front-done q (e .0))
 
--- src/lib.rt:45:5
 ends-in-requires : tie.Need-ends-in-requires Inv-loop μ-loop
 ends-in-requires c κs = search needs
 
--- src/lib.rt:19:1
 same-length-2 : tie.Need-same-length-2 Inv-loop μ-loop
-same-length-2 c = search needs
+same-length-2 c = c .before .before .loop .inv .1 ∙ c .before .before .before .before .before .fill .kept .1 .0
 
--- src/lib.rt:19:1
 returns-2 : tie.Need-returns-2 Inv-loop μ-loop
-returns-2 c = search needs
+returns-2 c = let q = c .before .before .loop .inv .0 in
+    let e = left-end (q .left) (c .before .loop-test .left) in
+    (c .ends-in .ensures ∙ e .1, front-done q (e .0))
 
 pub decode-spec : {M : Type 1} → statement M
 decode-spec =

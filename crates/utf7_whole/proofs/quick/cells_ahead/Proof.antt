@@ -39,14 +39,14 @@ loop-less : tie.Need-loop-less Inv-loop μ-loop
 loop-less c = search needs
 
 loop-again : tie.Need-loop-again Inv-loop μ-loop
-loop-again c =     let l = c .before .before .before in
+loop-again c = let l = c .before .before .before in
     let a = l .before .before .args in
     let i = l .loop .inv in
     let Q : ℕ → ℕ → Type 0 = λ j x. x ≡ getD (a .text .now) (a .at + j) 0 in
     (omega arith, simp length-set (i .1), set-more (l .loop .x) (l .loop .k) (c .wide .result) Q (omega (arith, i .1)) (i .2) (c .wide .ensures))
 
 returns : tie.Need-returns Inv-loop μ-loop
-returns c =     let l = c .before .loop in
+returns c = let l = c .before .loop in
     let a = c .before .before .before in
     let i = l .inv in
     let s = a .args .text .now in

@@ -43,14 +43,14 @@ loop-less : tie.Need-loop-less Inv-loop μ-loop
 loop-less c = search needs
 
 loop-again : tie.Need-loop-again Inv-loop μ-loop
-loop-again c =     let l = c .before .before .before .before .before in
+loop-again c = let l = c .before .before .before .before .before in
     (omega arith, rw (c .least .ensures, c .before .noted .ensures, c .before .before .is-direct .ensures) (ahead-more (l .loop .inv .1) (c .before .before .before .before .loop-test .taken)))
 
 cast-result : tie.Need-cast-result Inv-loop μ-loop
 cast-result c = search needs
 
 returns : tie.Need-returns Inv-loop μ-loop
-returns c =     let l = c .before .loop in
+returns c = let l = c .before .loop in
     let e : l .k ≡ 32 = omega (arith, l .inv .0) in
     let a = rw e at (l .inv .1) in
     (a .upto, span-ahead direct a (c .before .before .before .pre))

@@ -100,7 +100,7 @@ wide-requires-3 : tie.Need-wide-requires-3 Inv-loop μ-loop
 wide-requires-3 c κs = search needs
 
 first-requires : tie.Need-first-requires Inv-loop μ-loop
-first-requires c κs =     let o = c .before .before .before .before .is-one .ensures (c .before .before .before .if3 .taken) in
+first-requires c κs = let o = c .before .before .before .before .is-one .ensures (c .before .before .before .if3 .taken) in
     (rw (c .before .before .wide .ensures) (o .first), rw (c .before .wide2 .ensures) (o .second), rw (c .wide3 .ensures) (o .third))
 
 mul-out : tie.Need-mul-out Inv-loop μ-loop
@@ -119,13 +119,15 @@ past-run-requires : tie.Need-past-run-requires Inv-loop μ-loop
 past-run-requires c κs = search needs
 
 loop-less-2 : tie.Need-loop-less-2 Inv-loop μ-loop
-loop-less-2 c =     let i = c .before .before .before .before .before .before .before .before .before .before .before .before .before .before .before .before in
+loop-less-2 c = let i = c .before .before .before .before .before .before .before .before .before .before .before .before .before .before .before .before in
     rw (c .past-run .ensures) (omega (arith, past-on (i .before .before .before .before .args .text .now) (i .before .loop .at + c .before .before .before .before .before .before .before .before .before .before .before .before .before .before .before .direct-ahead .result + 1 + 3), i .loop-test .taken, c .before .before .before .before .before .before .before .before .before .before .before .before .before .before .before .direct-ahead .ensures .0))
 
 loop-again-2 : tie.Need-loop-again-2 Inv-loop μ-loop
-loop-again-2 c =     let v = c .before .before .before .before .before .before .before in
-    (rw (c .past-run .ensures, c .before .first .ensures, c .before .before .before .before .wide .ensures, c .before .before .before .wide2 .ensures, c .before .before .wide3 .ensures)
-    (front-one (direct (v .before .before .before .before)) (v .before .if2 .left) (omega (arith, near (v .before .before .before .before))) (v .values .ensures) (c .before .before .before .before .before .before .is-one .ensures (c .before .before .before .before .before .if3 .taken))), simp length-set (same (v .before .before .before .before)))
+loop-again-2 c = let v = c .before .before .before .before .before .before .before in (
+  rw (c .past-run .ensures, c .before .first .ensures, c .before .before .before .before .wide .ensures, c .before .before .before .wide2 .ensures, c .before .before .wide3 .ensures)
+      (front-one (direct (v .before .before .before .before)) (v .before .if2 .left) (omega (arith, near (v .before .before .before .before))) (v .values .ensures) (c .before .before .before .before .before .before .is-one .ensures (c .before .before .before .before .before .if3 .taken))),
+  simp length-set (same (v .before .before .before .before)),
+)
 
 shared-slice-read-if4 : tie.Need-shared-slice-read-if4 Inv-loop μ-loop
 shared-slice-read-if4 c = search needs
@@ -161,11 +163,11 @@ past-run-requires-2 : tie.Need-past-run-requires-2 Inv-loop μ-loop
 past-run-requires-2 c κs = c .before .before .before .put-run .ensures .run (c .if5 .left) .inside
 
 loop-less-4 : tie.Need-loop-less-4 Inv-loop μ-loop
-loop-less-4 c =     let r = c .before .before .before .before .put-run .ensures .run (c .before .if5 .left) in
+loop-less-4 c = let r = c .before .before .before .before .put-run .ensures .run (c .before .if5 .left) in
     rw (c .past-run2 .ensures) (omega (arith, past-on (c .before .before .before .before .before .before .before .before .before .before .before .before .before .before .before .before .before .before .before .before .before .before .before .args .text .now) (c .before .before .before .before .put-run .result .at), r .some, r .inside))
 
 loop-again-4 : tie.Need-loop-again-4 Inv-loop μ-loop
-loop-again-4 c =     let w = c .before .before .before .before .put-run .ensures in
+loop-again-4 c = let w = c .before .before .before .before .put-run .ensures in
     let z = c .before .if5 .left in
     (rw (c .past-run2 .ensures) (front-run (direct (c .before .before .before .before .before .before .before .before .before .before .before .before .before .before)) (c .before .before .before .before .before .before .before .before .before .before .before .if2 .left) (w .run z) (w .laid z) (w .count z)), w .kept .same ∙ same (c .before .before .before .before .before .before .before .before .before .before .before .before .before .before))
 

@@ -39,14 +39,14 @@ loop-less : tie.Need-loop-less Inv-loop μ-loop
 loop-less c = search needs
 
 loop-again : tie.Need-loop-again Inv-loop μ-loop
-loop-again c =     let l = c .before in
+loop-again c = let l = c .before in
     (omega arith, laid-next _ _ (l .loop .inv .1) (omega arith) (omega (arith, l .loop .inv .1 .same)))
 
 same-length : tie.Need-same-length Inv-loop μ-loop
 same-length c = c .before .loop .inv .1 .same
 
 returns : tie.Need-returns Inv-loop μ-loop
-returns c =     let l = c .before .loop in
+returns c = let l = c .before .loop in
     let s = c .before .before in
     let e : take (l .k) (s .args .t1) ≡ s .args .t1 = take-all (l .k) (s .args .t1) (omega (arith, s .pre .0, c .loop-test .left)) in
     rw e at (l .inv .1)

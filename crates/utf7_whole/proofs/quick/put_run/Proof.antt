@@ -55,7 +55,7 @@ same-length : tie.Need-same-length Inv-loop μ-loop
 same-length c = c .before .before .before .before .before .before .put-twelve .ensures .same ∙ c .before .before .before .before .before .before .before .before .before .before .before .loop .inv .laid .same
 
 returns : tie.Need-returns Inv-loop μ-loop
-returns c =     let p = c .before .before .before .before .before .before in
+returns c = let p = c .before .before .before .before .before .before in
     let i = p .before .before .before .before in
     rw (c .units .ensures) (going-went (i .before .loop .inv) (start i) (omega (arith, room i)) (omega (arith, i .loop-test .taken)) _ (p .put-twelve .ensures) (p .before .before .before .values .ensures) (p .before .before .letters-in .ensures) (c .before .before .before .if1 .taken) (sym (c .before .before .may-end .ensures) ∙ c .before .if2 .taken))
 
@@ -63,7 +63,7 @@ same-length-2 : tie.Need-same-length-2 Inv-loop μ-loop
 same-length-2 c = c .before .before .before .before .before .put-twelve .ensures .same ∙ c .before .before .before .before .before .before .before .before .before .before .loop .inv .laid .same
 
 returns-2 : tie.Need-returns-2 Inv-loop μ-loop
-returns-2 c =     let p = c .before .before .before .before .before in
+returns-2 c = let p = c .before .before .before .before .before in
     let i = p .before .before .before .before in
     went-none _ (going-none (i .before .loop .inv) (start i) (omega (arith, room i)) (omega (arith, i .loop-test .taken)) (p .before .before .before .values .result) (p .put-twelve .ensures))
 
@@ -77,7 +77,7 @@ loop-less : tie.Need-loop-less Inv-loop μ-loop
 loop-less c = search needs
 
 loop-again : tie.Need-loop-again Inv-loop μ-loop
-loop-again c =     let p = c .before .before .before in
+loop-again c = let p = c .before .before .before in
     let i = p .before .before .before .before in
     going-on (i .before .loop .inv) (start i) (omega (arith, room i)) (omega (arith, i .loop-test .taken)) _ (p .put-twelve .ensures) (p .before .before .before .values .ensures) (p .before .before .letters-in .ensures) (omega (arith, p .before .before .letters-in .ensures .upto, c .if1 .left))
 

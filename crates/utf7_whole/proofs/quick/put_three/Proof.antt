@@ -112,20 +112,20 @@ same-length : tie.Need-same-length
 same-length c = search needs
 
 returns : tie.Need-returns
-returns c =     rw (
-      c .before .before .before .before .before .before .first .ensures,
-      c .before .before .before .second .ensures,
-      c .third .ensures,
-      c .before .before .before .before .before .before .before .before .low3 .ensures,
-      c .before .before .before .before .before .before .before .low4 .ensures,
-      c .before .before .before .before .before .before .before .before .before .before .low .ensures,
-      c .before .before .before .before .before .low5 .ensures,
-      c .before .before .before .before .low6 .ensures,
-      c .before .before .before .before .before .before .before .before .before .low2 .ensures,
-      c .before .before .low7 .ensures,
-      c .before .low8 .ensures,
-      add-zero,
-    ) (laid-three _ _ _ _ _ (c .before .before .before .before .before .before .before .before .before .before .before .before .pre .1))
+returns c = rw (
+  c .before .before .before .before .before .before .first .ensures,
+  c .before .before .before .second .ensures,
+  c .third .ensures,
+  c .before .before .before .before .before .before .before .before .low3 .ensures,
+  c .before .before .before .before .before .before .before .low4 .ensures,
+  c .before .before .before .before .before .before .before .before .before .before .low .ensures,
+  c .before .before .before .before .before .low5 .ensures,
+  c .before .before .before .before .low6 .ensures,
+  c .before .before .before .before .before .before .before .before .before .low2 .ensures,
+  c .before .before .low7 .ensures,
+  c .before .low8 .ensures,
+  add-zero,
+) (laid-three _ _ _ _ _ (c .before .before .before .before .before .before .before .before .before .before .before .before .pre .1))
 
 pub put-three-spec : {M : Type 1} → statement M
 put-three-spec =

@@ -26,12 +26,12 @@ put-three-requires-4 : tie.Need-put-three-requires-4
 put-three-requires-4 c κs = search needs
 
 same-length : tie.Need-same-length
-same-length c =     let d = c .before .before .before .before .before .before in
+same-length c = let d = c .before .before .before .before .before .before in
     let a = d .before .before .before .before in
     c .before .before .put-three4 .ensures .same ∙ d .put-three3 .ensures .same ∙ a .put-three2 .ensures .same ∙ a .before .before .before .before .put-three .ensures .same
 
 returns : tie.Need-returns
-returns c =     let d = c .before .before .before .before .before .before in
+returns c = let d = c .before .before .before .before .before .before in
     let a = d .before .before .before .before in
     laid-on (laid-on (laid-on (a .before .before .before .before .put-three .ensures) refl (a .put-three2 .ensures)) refl (d .put-three3 .ensures)) refl (c .before .before .put-three4 .ensures)
 

@@ -36,7 +36,7 @@ loop-less : tie.Need-loop-less Inv-loop μ-loop
 loop-less c = search needs
 
 loop-again : tie.Need-loop-again Inv-loop μ-loop
-loop-again c =     let l = c .before .before .before in
+loop-again c = let l = c .before .before .before in
     let a = l .before .before .args in
     let i = l .loop .inv in
     let Q : ℕ → ℕ → Type 0 = λ j x. x ≡ valueOf slash (getD (a .text .now) (a .at + j) 0) in

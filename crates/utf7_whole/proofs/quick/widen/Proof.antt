@@ -28,7 +28,7 @@ same-length : tie.Need-same-length
 same-length c = search needs
 
 returns : tie.Need-returns
-returns c =     let p = c .before .before .before .before .before .before .before .before in
+returns c = let p = c .before .before .before .before .before .before .before .before in
     let s = c .before .before .before .before .before .before .before .before .before .before .before .before .before in
     let q = s .pre in
     let t = s .args .text .now in
@@ -42,7 +42,7 @@ same-length-2 : tie.Need-same-length-2
 same-length-2 c = search needs
 
 returns-2 : tie.Need-returns-2
-returns-2 c =     let p = c .before .before .before in
+returns-2 c = let p = c .before .before .before in
     let s = c .before .before .before .before .before .before .before .before in
     let q = s .pre in
     let a = s .args .at in

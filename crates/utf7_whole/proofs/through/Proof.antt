@@ -1,0 +1,89 @@
+use mathlib.Core.Path.{_≡_, refl, sym, ap, _∙_}
+use Prim.Native.Nat.{ℕ}
+use mathlib.Core.Bool.{false}
+use mathlib.Core.List.{List, []}
+use native.Mathlib.Omega.{arith}
+use denote.Ref.{now}
+use lib.ListN.{length, take}
+use lib.Dec.{ltb}
+use borrow.Author.Needs.{needs}
+use borrow.Author.Tests.{le-ltb}
+use Rattle.answer.specs.Answer.{inNumbers, limit}
+use Rattle.reading.proofs.Filling.{into-refused, into-count, into-short, into-filled, few-cells}
+use Rattle.answer.specs.Output.{filled}
+use Rattle.reading.specs.Reading.{reading}
+use Rattle.utf7.specs.Rule.{utf7}
+use Rattle.utf7.proofs.Kept.{utf7-kept}
+use Rattle.utf7_whole.proofs.through.Statement.{statement}
+use Rattle.utf7_whole.proofs.through.Tie as tie
+
+decode-requires : tie.Need-decode-requires
+decode-requires c κs = c .before .before .before .before .pre .1
+
+within : (c : tie.After-decode) → ltb limit (length (now (c .before .before .before .before .before .args .text))) ≡ false
+within c = le-ltb limit _ (c .before .before .before .before .before .pre .0)
+
+enum-told : tie.Need-enum-told
+enum-told c = search needs
+
+same-length : tie.Need-same-length
+same-length c = search needs
+
+returns : tie.Need-returns
+returns c =
+    let d = c .before .before .before .before in
+    into-refused utf7-kept _ _ (within d) (d .decode .ensures .0) (c .enum-told .given .1)
+
+enum-known-found : tie.Need-enum-known-found
+enum-known-found c = search needs
+
+same-length-2 : tie.Need-same-length-2
+same-length-2 c = search needs
+
+returns-2 : tie.Need-returns-2
+returns-2 c =
+    let f = c .before .before in
+    let d = f .before .before .before .before in
+    into-short utf7-kept _ _ (within d) (d .decode .ensures .0) (f .found .given .1) (c .if1 .taken)
+
+copy-requires : tie.Need-copy-requires
+copy-requires c κs =
+    let f = c .before .before .before .before in
+    let d = f .before .before .before .before in
+    let s = d .before .before .before .before .before in
+    let t = now (s .args .text) in
+    let n = into-count utf7-kept t [] (within d) (d .decode .ensures .0) (f .found .given .1) in
+    (omega (arith, n, few-cells utf7 t, s .pre .1, d .decode .kept .1 .0), c .before .before .if1 .left)
+
+same-length-3 : tie.Need-same-length-3
+same-length-3 c = search needs
+
+same-length-4 : tie.Need-same-length-4
+same-length-4 c = search needs
+
+returns-3 : tie.Need-returns-3
+returns-3 c =
+    let f = c .before .before .before .before .before .before .before in
+    let d = f .before .before .before .before in
+    let a = d .before .before .before .before .before .args in
+    let n = into-count utf7-kept (now (a .text)) [] (within d) (d .decode .ensures .0) (f .found .given .1) in
+    let k : take (f .found .given .0 .0) (d .decode .last .1 .0) ≡ reading utf7 (now (a .text)) .cells =
+    ap (λ (m : ℕ). take m (d .decode .last .1 .0)) n ∙ d .decode .ensures .1 in
+    into-filled utf7-kept _ _ (within d) (ap inNumbers (sym (f .found .given .1)) ∙ d .decode .ensures .0) refl (c .before .before .before .before .before .if1 .left)
+    (c .before .before .copy .ensures ∙ ap (λ (z : List ℕ). filled z (now (a .out))) k)
+
+pub through-spec : {M : Type 1} → statement M
+through-spec =
+    tie.close
+    (tie.spec
+    decode-requires
+    enum-told
+    same-length
+    returns
+    enum-known-found
+    same-length-2
+    returns-2
+    copy-requires
+    same-length-3
+    same-length-4
+    returns-3)
