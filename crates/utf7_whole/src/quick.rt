@@ -2,7 +2,7 @@
 // the last bytes. The loop that goes byte by byte, which names every fault, reads on from there. Loops have a fixed length and tests of bytes
 // are eager, so that they compile to no branch; a block is written whole, and what lies behind its cells is written over by the next ones.
 ghost use mathlib.Core.Path.{_≡_};
-ghost use mathlib.Core.Bool.{true, false, cond, _&&_};
+ghost use mathlib.Core.Bool.{true, cond, _&&_};
 ghost use Prim.Native.Nat.{_<_, _≤_, _+_, _-_, _*_, _/_, _%_};
 ghost use lib.ListN.{length, getD};
 ghost use lib.Seq.{slice};
@@ -115,7 +115,7 @@ fn wide(x: u8) -> u16
     x as u16
 }
 
-// A letter's value; of 64, for a byte that is none, something that fits.
+// A letter's value. A byte that is none, whose value is 64, gets another, so that no sum of the units wraps.
 fn low(x: u8) -> u16
     ensures { λ r. ⌜ r ≡ x % 64 ⌝ }
 {
@@ -144,6 +144,7 @@ fn third(f: u16, g: u16, h: u16) -> u16
     (f % 16 * 64 + g) * 64 + h
 }
 
+// The units of eight values go to the output from n on, those of the letters among them first.
 fn put_three(x: [u8; 32], j: usize, out: &mut [u16], n: usize)
     requires { ⌜ (j + 8 ≤ 32) × (n + 3 ≤ length (now out)) ⌝ }
     ensures { λ _. ⌜ Laid (threeOf (λ k. lows x (j + k))) n (now (out .entry)) (now (out .exit)) ⌝ }
@@ -165,6 +166,7 @@ fn put_twelve(x: [u8; 32], out: &mut [u16], n: usize)
     put_three(x, 24, out, n + 9);
 }
 
+// A run may end behind c letters that follow eights.
 fn may_end(x: [u8; 32], c: usize) -> bool
     requires { ⌜ c ≤ 32 ⌝ }
     ensures { λ r. ⌜ r ≡ stops x c ⌝ }
@@ -200,7 +202,7 @@ fn past_run(text: &[u8], to: usize) -> usize
     to
 }
 
-// The units of a run go to the output from n on: where its letters end, and the place behind its units. Where the run may not end so, or
+// The units of a run go to the output from its start on: where its letters end, and the place behind its units. Where the run may not end so, or
 // the text's end is near: the place where it began.
 fn put_run(text: &[u8], from: usize, out: &mut [u16], start: usize) -> Reached
     requires { ⌜ (start ≤ from) × (from ≤ length (now text)) × (length (now text) ≤ length (now out)) ⌝ }
@@ -227,6 +229,7 @@ fn put_run(text: &[u8], from: usize, out: &mut [u16], start: usize) -> Reached
     Reached { at: from, n }
 }
 
+// All are read before one is stored.
 fn cells_ahead(text: &[u8], at: usize) -> [u16; 16]
     requires { ⌜ at + 16 ≤ length (now text) ⌝ }
     ensures { λ r. ⌜ r ≡ slice at (at + 16) (now (text .entry)) ⌝ }
@@ -247,6 +250,7 @@ fn put_cells(x: [u16; 16], out: &mut [u16], n: usize)
     }
 }
 
+// Bytes go to the output from n on, of which k count.
 fn widen(text: &[u8], at: usize, k: usize, out: &mut [u16], n: usize)
     requires { ⌜ (k ≤ 32) × (at + 32 ≤ length (now text)) × (n + 32 ≤ length (now out)) ⌝ }
     ensures { λ _. ⌜ Laid (slice at (at + k) (now (text .entry))) n (now (out .entry)) (now (out .exit)) ⌝ }

@@ -1,11 +1,11 @@
-use Rattle.answer.proofs.Put.{Put, put-start, put-as, put-lt, put-next, put-done}
-use lib.Seq.{length-take-le, drop-cons, getD-take}
-use lib.ListN.{getD, take, drop, drop-of-length-le}
+use Prim.Native.Nat.{_+_, _-_, _≤_}
+use mathlib.Core.List.{_∷_}
 use native.Mathlib.Numerals.{add-one}
 use native.Mathlib.Omega.{arith}
-use mathlib.Core.List.{_∷_}
-use Prim.Native.Nat.{_+_, _-_, _≤_}
+use lib.Seq.{length-take-le, drop-cons, getD-take}
+use lib.ListN.{getD, take, drop, drop-of-length-le}
 use borrow.Author.Needs.{needs}
+use Rattle.answer.proofs.Put.{Put, put-start, put-as, put-lt, put-next, put-done}
 use Rattle.utf7_whole.proofs.copy.Statement.{statement}
 use Rattle.utf7_whole.proofs.copy.Tie as tie
 

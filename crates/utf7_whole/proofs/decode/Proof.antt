@@ -1,14 +1,14 @@
-use Rattle.utf7_whole.proofs.Tokens.{cell-unit}
-use Rattle.utf7_read.proofs.Moves.{moved}
-use Rattle.utf7_read.specs.Cursor.{shiftOf}
-use Rattle.utf7.specs.Rule.{utf7}
+use Prim.Native.Nat.{_-_, _<_}
+use mathlib.Core.Path.{_≡_, refl, _∙_}
+use native.Mathlib.Omega.{arith}
+use lib.ListN.{length, length-set}
+use borrow.Author.Needs.{needs}
 use Rattle.reading.proofs.Fronts.{Front, front-place, front-give, front-go, front-done}
 use Rattle.reading.proofs.Laws.{left-bad, left-end}
-use lib.ListN.{length, length-set}
-use native.Mathlib.Omega.{arith}
-use mathlib.Core.Path.{_≡_, refl, _∙_}
-use Prim.Native.Nat.{_-_, _<_}
-use borrow.Author.Needs.{needs}
+use Rattle.utf7.specs.Rule.{utf7}
+use Rattle.utf7_read.proofs.Moves.{moved}
+use Rattle.utf7_read.specs.Cursor.{shiftOf}
+use Rattle.utf7_whole.proofs.Buffers.{cell-unit}
 use Rattle.utf7_whole.proofs.decode.Statement.{statement}
 use Rattle.utf7_whole.proofs.decode.Tie as tie
 

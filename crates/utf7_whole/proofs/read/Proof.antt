@@ -1,14 +1,13 @@
-use Rattle.utf7.proofs.Kept.{utf7-kept}
-use Rattle.reading.proofs.Filling.{into-long}
-use Rattle.answer.specs.Answer.{limit}
-use borrow.Author.Tests.{ltb-false}
-use lib.Dec.{ltb}
-use lib.ListN.{length}
-use denote.Ref.{now}
-use native.Mathlib.Omega.{arith}
 use mathlib.Core.Bool.{false}
 use mathlib.Core.Path.{_≡_, sym, _∙_}
+use denote.Ref.{now}
+use lib.Dec.{ltb}
+use lib.ListN.{length}
+use borrow.Author.Tests.{ltb-false}
 use borrow.Author.Needs.{needs}
+use Rattle.answer.specs.Answer.{limit}
+use Rattle.reading.proofs.Filling.{into-long}
+use Rattle.utf7.proofs.Kept.{utf7-kept}
 use Rattle.utf7_whole.proofs.read.Statement.{statement}
 use Rattle.utf7_whole.proofs.read.Tie as tie
 

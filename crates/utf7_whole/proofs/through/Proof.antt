@@ -1,5 +1,5 @@
-use mathlib.Core.Path.{_≡_, refl, sym, ap, _∙_}
 use Prim.Native.Nat.{ℕ}
+use mathlib.Core.Path.{_≡_, refl, sym, ap, _∙_}
 use mathlib.Core.Bool.{false}
 use mathlib.Core.List.{List, []}
 use native.Mathlib.Omega.{arith}
@@ -9,8 +9,8 @@ use lib.Dec.{ltb}
 use borrow.Author.Needs.{needs}
 use borrow.Author.Tests.{le-ltb}
 use Rattle.answer.specs.Answer.{inNumbers, limit}
-use Rattle.reading.proofs.Filling.{into-refused, into-count, into-short, into-filled, few-cells}
 use Rattle.answer.specs.Output.{filled}
+use Rattle.reading.proofs.Filling.{into-refused, into-count, into-short, into-filled, few-cells}
 use Rattle.reading.specs.Reading.{reading}
 use Rattle.utf7.specs.Rule.{utf7}
 use Rattle.utf7.proofs.Kept.{utf7-kept}

@@ -1,10 +1,10 @@
-use Rattle.utf7_whole.proofs.Tokens.{set-more, slice-at}
+use Prim.Native.Nat.{ℕ, _+_, _-_, _<_, _≤_}
+use mathlib.Core.Path.{_≡_, refl, sym, _∙_}
+use native.Mathlib.Omega.{arith}
 use lib.Seq.{slice, length-slice, ext-getD}
 use lib.ListN.{length, getD, length-set}
-use native.Mathlib.Omega.{arith}
-use mathlib.Core.Path.{_≡_, refl, sym, _∙_}
-use Prim.Native.Nat.{ℕ, _+_, _-_, _<_, _≤_}
 use borrow.Author.Needs.{needs}
+use Rattle.utf7_whole.proofs.Tokens.{set-more, slice-at}
 use Rattle.utf7_whole.proofs.quick.cells_ahead.Statement.{statement}
 use Rattle.utf7_whole.proofs.quick.cells_ahead.Tie as tie
 

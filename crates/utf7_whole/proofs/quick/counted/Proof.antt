@@ -1,7 +1,6 @@
-use borrow.Author.Tests.{leb-true, le-leb, lt-leb}
-use native.Mathlib.Omega.{arith}
 use mathlib.Core.Logic.{⊎-elim}
-use borrow.Author.Needs.{needs}
+use native.Mathlib.Omega.{arith}
+use borrow.Author.Tests.{leb-true, le-leb, lt-leb}
 use Rattle.utf7_whole.proofs.quick.counted.Statement.{statement}
 use Rattle.utf7_whole.proofs.quick.counted.Tie as tie
 

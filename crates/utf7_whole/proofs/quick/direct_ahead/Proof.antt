@@ -1,11 +1,11 @@
-use Rattle.utf7_whole.proofs.Tokens.{ahead-start, ahead-more, span-ahead}
-use Rattle.utf7_whole.specs.Quick.{Ahead}
-use Rattle.utf7.specs.Sets.{direct}
-use lib.ListN.{getD}
-use native.Mathlib.Omega.{arith}
-use mathlib.Core.Path.{_≡_}
 use Prim.Native.Nat.{_+_, _-_, _≤_}
+use mathlib.Core.Path.{_≡_}
+use native.Mathlib.Omega.{arith}
+use lib.ListN.{getD}
 use borrow.Author.Needs.{needs}
+use Rattle.utf7.specs.Sets.{direct}
+use Rattle.utf7_whole.specs.Quick.{Ahead}
+use Rattle.utf7_whole.proofs.Tokens.{ahead-start, ahead-more, span-ahead}
 use Rattle.utf7_whole.proofs.quick.direct_ahead.Statement.{statement}
 use Rattle.utf7_whole.proofs.quick.direct_ahead.Tie as tie
 

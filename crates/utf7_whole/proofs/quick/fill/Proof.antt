@@ -1,11 +1,12 @@
-use Rattle.utf7_whole.proofs.Tokens.{past-on, front-direct, front-sign, front-run, front-one}
-use Rattle.utf7.specs.Rule.{outside, utf7}
-use Rattle.reading.proofs.Fronts.{Front, front-start, front-place, front-kept}
-use lib.ListN.{length, length-set}
-use native.Mathlib.Omega.{arith}
-use mathlib.Core.Path.{_≡_, refl, _∙_}
 use Prim.Native.Nat.{_+_, _-_, _<_, _≤_}
+use mathlib.Core.Path.{_≡_, refl, _∙_}
+use native.Mathlib.Omega.{arith}
+use lib.ListN.{length, length-set}
 use borrow.Author.Needs.{needs}
+use Rattle.reading.proofs.Fronts.{Front, front-start, front-place, front-kept}
+use Rattle.utf7.specs.Rule.{outside, utf7}
+use Rattle.utf7_whole.proofs.Tokens.{past-on}
+use Rattle.utf7_whole.proofs.Buffers.{front-direct, front-sign, front-run, front-one}
 use Rattle.utf7_whole.proofs.quick.fill.Statement.{statement}
 use Rattle.utf7_whole.proofs.quick.fill.Tie as tie
 

@@ -1,6 +1,6 @@
-use Rattle.answer.proofs.Below.{both}
 use borrow.Author.Tests.{ltb-true, eqb-true}
 use borrow.Author.Needs.{needs}
+use Rattle.answer.proofs.Below.{both}
 use Rattle.utf7_whole.proofs.quick.is_one.Statement.{statement}
 use Rattle.utf7_whole.proofs.quick.is_one.Tie as tie
 

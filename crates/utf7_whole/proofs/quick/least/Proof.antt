@@ -1,5 +1,4 @@
 use borrow.Author.Tests.{lt-ltb, le-ltb}
-use borrow.Author.Needs.{needs}
 use Rattle.utf7_whole.proofs.quick.least.Statement.{statement}
 use Rattle.utf7_whole.proofs.quick.least.Tie as tie
 

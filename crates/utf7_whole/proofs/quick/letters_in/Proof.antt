@@ -1,11 +1,11 @@
-use Rattle.utf7_whole.proofs.Tokens.{ahead-start, ahead-more}
-use Rattle.utf7_whole.specs.Quick.{Ahead}
+use Prim.Native.Nat.{_-_, _≤_}
+use mathlib.Core.Path.{_≡_}
+use native.Mathlib.Omega.{arith}
 use lib.Dec.{ltb}
 use lib.ListN.{getD}
-use native.Mathlib.Omega.{arith}
-use mathlib.Core.Path.{_≡_}
-use Prim.Native.Nat.{_-_, _≤_}
 use borrow.Author.Needs.{needs}
+use Rattle.utf7_whole.specs.Quick.{Ahead}
+use Rattle.utf7_whole.proofs.Tokens.{ahead-start, ahead-more}
 use Rattle.utf7_whole.proofs.quick.letters_in.Statement.{statement}
 use Rattle.utf7_whole.proofs.quick.letters_in.Tie as tie
 

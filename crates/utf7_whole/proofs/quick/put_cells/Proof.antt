@@ -1,10 +1,10 @@
-use lib.Seq.{take-all}
-use Rattle.answer.proofs.Laid.{Laid, laid-none, laid-next}
-use lib.ListN.{length, take}
-use native.Mathlib.Omega.{arith}
-use mathlib.Core.Path.{_≡_}
 use Prim.Native.Nat.{_-_, _≤_}
+use mathlib.Core.Path.{_≡_}
+use native.Mathlib.Omega.{arith}
+use lib.Seq.{take-all}
+use lib.ListN.{take}
 use borrow.Author.Needs.{needs}
+use Rattle.answer.proofs.Laid.{Laid, laid-none, laid-next}
 use Rattle.utf7_whole.proofs.quick.put_cells.Statement.{statement}
 use Rattle.utf7_whole.proofs.quick.put_cells.Tie as tie
 

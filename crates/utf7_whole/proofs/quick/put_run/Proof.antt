@@ -1,10 +1,9 @@
-use Prim.Native.Nat.{_+_, _≤_}
+use Prim.Native.Nat.{_+_, _≤_, _-_}
 use mathlib.Core.Path.{sym, _∙_}
-use Rattle.utf7_whole.proofs.Tokens.{Going, going-start, going-none, going-on, going-kept, going-went, went-none}
-use lib.ListN.{length}
 use native.Mathlib.Omega.{arith}
-use Prim.Native.Nat.{_-_}
+use lib.ListN.{length}
 use borrow.Author.Needs.{needs}
+use Rattle.utf7_whole.proofs.Buffers.{Going, going-start, going-none, going-on, going-kept, going-went, went-none}
 use Rattle.utf7_whole.proofs.quick.put_run.Statement.{statement}
 use Rattle.utf7_whole.proofs.quick.put_run.Tie as tie
 

@@ -1,8 +1,8 @@
-use Rattle.answer.proofs.Laid.{laid-three}
 use native.Mathlib.Nat.{add-zero}
-use lib.ListN.{length-set}
 use native.Mathlib.Omega.{arith}
+use lib.ListN.{length-set}
 use borrow.Author.Needs.{needs}
+use Rattle.answer.proofs.Laid.{laid-three}
 use Rattle.utf7_whole.proofs.quick.put_three.Statement.{statement}
 use Rattle.utf7_whole.proofs.quick.put_three.Tie as tie
 

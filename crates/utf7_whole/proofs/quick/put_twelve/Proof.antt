@@ -1,6 +1,6 @@
 use mathlib.Core.Path.{refl, _∙_}
-use Rattle.answer.proofs.Laid.{laid-on}
 use borrow.Author.Needs.{needs}
+use Rattle.answer.proofs.Laid.{laid-on}
 use Rattle.utf7_whole.proofs.quick.put_twelve.Statement.{statement}
 use Rattle.utf7_whole.proofs.quick.put_twelve.Tie as tie
 

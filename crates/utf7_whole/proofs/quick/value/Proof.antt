@@ -1,5 +1,5 @@
-use Rattle.utf7_whole.proofs.Tokens.{value-test}
 use borrow.Author.Needs.{needs}
+use Rattle.utf7_whole.proofs.Tokens.{value-test}
 use Rattle.utf7_whole.proofs.quick.value.Statement.{statement}
 use Rattle.utf7_whole.proofs.quick.value.Tie as tie
 

@@ -1,10 +1,10 @@
-use Rattle.utf7_whole.proofs.Tokens.{set-more}
-use Rattle.base64.specs.Letters.{valueOf, slash}
-use lib.ListN.{length, getD, length-set}
-use native.Mathlib.Omega.{arith}
-use mathlib.Core.Path.{_≡_, refl}
 use Prim.Native.Nat.{ℕ, _+_, _-_, _<_, _≤_}
+use mathlib.Core.Path.{_≡_, refl}
+use native.Mathlib.Omega.{arith}
+use lib.ListN.{length, getD, length-set}
 use borrow.Author.Needs.{needs}
+use Rattle.base64.specs.Letters.{valueOf, slash}
+use Rattle.utf7_whole.proofs.Tokens.{set-more}
 use Rattle.utf7_whole.proofs.quick.values.Statement.{statement}
 use Rattle.utf7_whole.proofs.quick.values.Tie as tie
 

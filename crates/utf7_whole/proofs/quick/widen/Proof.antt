@@ -1,8 +1,8 @@
-use Rattle.utf7_whole.proofs.Tokens.{laid-slice, laid-slices}
-use lib.ListN.{length}
-use native.Mathlib.Omega.{arith}
 use Prim.Native.Nat.{_+_, _≤_}
+use native.Mathlib.Omega.{arith}
+use lib.ListN.{length}
 use borrow.Author.Needs.{needs}
+use Rattle.utf7_whole.proofs.Buffers.{laid-slice, laid-slices}
 use Rattle.utf7_whole.proofs.quick.widen.Statement.{statement}
 use Rattle.utf7_whole.proofs.quick.widen.Tie as tie
 
