@@ -40,7 +40,7 @@ loop-less c = search needs
 
 loop-again : tie.Need-loop-again Inv-loop μ-loop
 loop-again c = let l = c .before in
-    (omega arith, laid-next _ _ (l .loop .inv .1) (omega arith) (omega (arith, l .loop .inv .1 .same)))
+    (omega arith, laid-next (l .before .args .t1) (l .loop .k) (l .loop .inv .1) (omega arith) (omega (arith, l .loop .inv .1 .same)))
 
 same-length : tie.Need-same-length Inv-loop μ-loop
 same-length c = c .before .loop .inv .1 .same
