@@ -511,11 +511,11 @@ fn write_all(style: Style, cells: &[u32], out: &mut [u8]) -> usize
 
 // Whether the 32 cells from a place on are units: joined by their bits, none is above the limit.
 fn units_ahead(cells: &[u32], i: usize) -> bool
-    requires { ⌜ i + 32 ≤ length (now cells) ⌝ }
-    ensures { λ r. ⌜ (r ≡ true → Ahead IsUnit (now (cells .entry)) i 32) ⌝ }
+    requires { ⌜ i + 128 ≤ length (now cells) ⌝ }
+    ensures { λ r. ⌜ (r ≡ true → Ahead IsUnit (now (cells .entry)) i 128) ⌝ }
 {
     let mut all: u32 = 0;
-    for k in 0..32 {
+    for k in 0..128 {
         all = all | cells[i + k];
     }
     all <= 65535
@@ -526,11 +526,11 @@ pub fn first_over(cells: &[u32]) -> usize
     ensures { λ r. ⌜ r ≡ firstOver (now (cells .entry)) ⌝ }
 {
     let mut i: usize = 0;
-    while 32 <= cells.len() - i {
+    while 128 <= cells.len() - i {
         if !units_ahead(cells, i) {
             return first_over_from(cells, i);
         }
-        i += 32;
+        i += 128;
     }
     first_over_from(cells, i)
 }

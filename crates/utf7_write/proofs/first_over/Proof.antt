@@ -40,8 +40,8 @@ loop-again : tie.Need-loop-again Inv-loop μ-loop
 loop-again c =
     let u = c .before in
     let l = u .before .before in
-    let h : l .loop .i + 32 ≤ length (l .before .before .args .cells .now) = omega (arith, u .before .loop-test .taken) in
-    (h, omega (arith, l .loop .inv .1, over-block (l .before .before .args .cells .now) 32 (l .loop .i) h (u .units-ahead .ensures (not-false _ (c .if1 .left)))))
+    let h : l .loop .i + 128 ≤ length (l .before .before .args .cells .now) = omega (arith, u .before .loop-test .taken) in
+    (h, omega (arith, l .loop .inv .1, over-block (l .before .before .args .cells .now) 128 (l .loop .i) h (u .units-ahead .ensures (not-false _ (c .if1 .left)))))
 
 first-over-from-requires-2 : tie.Need-first-over-from-requires-2 Inv-loop μ-loop
 first-over-from-requires-2 c κs = c .before .loop .inv

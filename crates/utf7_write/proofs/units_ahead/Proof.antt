@@ -11,10 +11,10 @@ use Rattle.utf7_write.proofs.units_ahead.Statement.{statement}
 use Rattle.utf7_write.proofs.units_ahead.Tie as tie
 
 abbrev Inv-loop : tie.InvT-loop
-Inv-loop cells i all₀ k₀ all k = (all < 2 ^ 16 → Ahead IsUnit cells i k) × (k ≤ 32)
+Inv-loop cells i all₀ k₀ all k = (all < 2 ^ 16 → Ahead IsUnit cells i k) × (k ≤ 128)
 
 abbrev μ-loop : tie.MeasureT-loop
-μ-loop cells i all₀ k₀ all k = 32 - k
+μ-loop cells i all₀ k₀ all k = 128 - k
 
 loop-holds : tie.Need-loop-holds Inv-loop μ-loop
 loop-holds c = (λ _. ahead-none IsUnit (c .args .cells .now) (c .args .i), omega arith)
@@ -43,7 +43,7 @@ loop-again c =
 returns : tie.Need-returns Inv-loop μ-loop
 returns c =
     let l = c .before in
-    let e : l .loop .k ≡ 32 = omega (arith, c .loop-test .left) in
+    let e : l .loop .k ≡ 128 = omega (arith, c .loop-test .left) in
     λ q. rw e at (l .loop .inv .0 (omega (arith, leb-true (l .loop .all) 65535 q)))
 
 pub units-ahead-spec : {M : Type 1} → statement M
