@@ -44,7 +44,7 @@ returns : tie.Need-returns Inv-loop μ-loop
 returns c =
     let l = c .before in
     let e : l .loop .k ≡ 128 = omega (arith, c .loop-test .left) in
-    λ q. rw e at (l .loop .inv .0 (omega (arith, leb-true (l .loop .all) 65535 q)))
+    λ q. rw e at (l .loop .inv .0 (omega (arith, leb-true)))
 
 pub units-ahead-spec : {M : Type 1} → statement M
 units-ahead-spec =
