@@ -35,6 +35,13 @@ pub fn is_direct(u: u32) -> bool
     is_line_blank(u)
 }
 
+// The same of a byte. Every test is made, so that it compiles to no branch, and in a loop over a block to vector code.
+pub fn is_direct_byte(b: u8) -> bool
+    ensures { λ r. ⌜ r ≡ direct b ⌝ }
+{
+    (32 <= b) & (b <= 125) & (b != b'+') & (b != b'\\') | (b == 9) | (b == 10) | (b == 13)
+}
+
 // The unit is written as itself in the style.
 pub fn is_own(style: Style, u: u32) -> bool
     ensures { λ r. ⌜ r ≡ own style u ⌝ }

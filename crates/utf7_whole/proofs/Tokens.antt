@@ -28,15 +28,7 @@ use Rattle.utf7.proofs.Round.{whole-run, self-walk, close-run, piece-walk}
 use Rattle.utf7_whole.specs.Quick.{Span, Ahead, Run, Values, bitsIn, unitsIn, past, firstOf, secondOf, thirdOf, threeOf, unitsOf, lows}
 use Rattle.utf7_read.proofs.Moves.{may-end}
 
--- the tests of bytes, by computing them
-direct-tests : allBelow (λ k. same ((((((leb 32 k && leb k 125) && not (eqb k 43)) && not (eqb k 92)) || eqb k 9) || eqb k 10) || eqb k 13) (direct k)) 256 ≡ true
-unfolding allBelow direct setD setO alphanumeric
-direct-tests = refl
-
-pub direct-test : (b : ℕ) → b < 256 → ((((((leb 32 b && leb b 125) && not (eqb b 43)) && not (eqb b 92)) || eqb b 9) || eqb b 10) || eqb b 13) ≡ direct b
-direct-test b h = sym (same-eq _ _ (below (λ k. same ((((((leb 32 k && leb k 125) && not (eqb k 43)) && not (eqb k 92)) || eqb k 9) || eqb k 10) || eqb k 13) (direct k)) 256 direct-tests b h))
-
--- the rule of the letters, one kind after another
+-- the rule of the letters, one kind after another, by computing it
 abbrev pub worth : ℕ → ℕ
 worth b =
     cond (leb 47 b && leb b 47) (b - 47 + 63)

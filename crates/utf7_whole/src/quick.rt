@@ -20,12 +20,6 @@ pub struct Reached {
     pub n: usize,
 }
 
-fn is_direct(b: u8) -> bool
-    ensures { λ r. ⌜ r ≡ direct b ⌝ }
-{
-    (32 <= b) & (b <= 125) & (b != b'+') & (b != b'\\') | (b == 9) | (b == 10) | (b == 13)
-}
-
 // A place in a block, or its end where the byte is of the set.
 fn noted(holds: bool, k: u8) -> u8
     ensures { λ r. ⌜ r ≡ cond holds 32 k ⌝ }
@@ -52,7 +46,7 @@ fn direct_ahead(text: &[u8], at: usize) -> usize
 {
     let mut m: u8 = 32;
     for k in 0..32 {
-        m = least(m, noted(is_direct(text[at + k]), k as u8));
+        m = least(m, noted(utf7::is_direct_byte(text[at + k]), k as u8));
     }
     m as usize
 }

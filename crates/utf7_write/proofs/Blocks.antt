@@ -48,11 +48,6 @@ unfolding own direct setD setO alphanumeric allBelow
 name-bit b h = eqb-true (name b) (ownBit Name b) (below (λ k. eqb (name k) (ownBit Name k)) 256 refl b h)
 
 -- the tests of body style, and the sets of all, computed too
-pub direct-own : (b : ℕ) → b < 256 → ((((((leb 32 b && leb b 125) && not (eqb b 43)) && not (eqb b 92)) || eqb b 9) || eqb b 10) || eqb b 13) ≡ own Body b
-unfolding own direct setD setO alphanumeric allBelow
-direct-own b h =
-    sym (same-eq _ _ (below (λ k. same ((((((leb 32 k && leb k 125) && not (eqb k 43)) && not (eqb k 92)) || eqb k 9) || eqb k 10) || eqb k 13) (own Body k)) 256 refl b h))
-
 abbrev pub ownBits : Style → ℕ → ℕ → Bool
 ownBits style from set = allBelow (λ k. eqb (set / 2 ^ k % 2) (ownBit style (from + k))) 64
 

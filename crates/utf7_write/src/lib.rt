@@ -311,20 +311,13 @@ fn long_ahead(cells: &[u32], i: usize) -> [u8; 32]
     bytes
 }
 
-// Whether body style writes a byte as itself. The tests are eager, so that they compile to no branch.
-fn is_direct(b: u8) -> bool
-    ensures { λ r. ⌜ r ≡ own Body b ⌝ }
-{
-    (32 <= b) & (b <= 125) & (b != b'+') & (b != b'\\') | (b == 9) | (b == 10) | (b == 13)
-}
-
-// Whether it writes all of 32 bytes as themselves.
+// Whether body style writes all of 32 bytes as themselves.
 fn all_direct(bytes: [u8; 32]) -> bool
     ensures { λ r. ⌜ (r ≡ true → Ahead (Own Body) bytes 0 32) ⌝ }
 {
     let mut direct = true;
     for k in 0..32 {
-        direct = direct & is_direct(bytes[k]);
+        direct = direct & utf7::is_direct_byte(bytes[k]);
     }
     direct
 }

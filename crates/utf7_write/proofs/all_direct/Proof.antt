@@ -20,11 +20,11 @@ abbrev μ-loop : tie.MeasureT-loop
 loop-holds : tie.Need-loop-holds Inv-loop μ-loop
 loop-holds c = (λ _. ahead-none (Own Body) (c .args .t1) 0, omega arith)
 
-array-read-is-direct : tie.Need-array-read-is-direct Inv-loop μ-loop
-array-read-is-direct c = search needs
+array-read-is-direct-byte : tie.Need-array-read-is-direct-byte Inv-loop μ-loop
+array-read-is-direct-byte c = search needs
 
-is-direct-requires : tie.Need-is-direct-requires Inv-loop μ-loop
-is-direct-requires c κs = search needs
+is-direct-byte-requires : tie.Need-is-direct-byte-requires Inv-loop μ-loop
+is-direct-byte-requires c κs = search needs
 
 add-k : tie.Need-add-k Inv-loop μ-loop
 add-k c = search needs
@@ -36,8 +36,8 @@ loop-again : tie.Need-loop-again Inv-loop μ-loop
 loop-again c =
     let l = c .before .before in (
       λ e.
-          let q = both (l .loop .direct) (c .is-direct .result) e in
-          ahead-more (Own Body) (l .before .args .t1) 0 (l .loop .k) (l .loop .inv .0 (q .0)) (rw zero-add (sym (c .is-direct .ensures) ∙ q .1)),
+          let q = both (l .loop .direct) (c .is-direct-byte .result) e in
+          ahead-more (Own Body) (l .before .args .t1) 0 (l .loop .k) (l .loop .inv .0 (q .0)) (rw zero-add (sym (c .is-direct-byte .ensures) ∙ q .1)),
       omega arith,
     )
 
@@ -54,8 +54,8 @@ all-direct-spec =
     Inv-loop
     μ-loop
     loop-holds
-    array-read-is-direct
-    is-direct-requires
+    array-read-is-direct-byte
+    is-direct-byte-requires
     add-k
     loop-less
     loop-again

@@ -18,14 +18,14 @@ abbrev μ-loop : tie.MeasureT-loop
 loop-holds : tie.Need-loop-holds Inv-loop μ-loop
 loop-holds c = (omega arith, ahead-start)
 
-add-is-direct : tie.Need-add-is-direct Inv-loop μ-loop
-add-is-direct c = search needs
+add-is-direct-byte : tie.Need-add-is-direct-byte Inv-loop μ-loop
+add-is-direct-byte c = search needs
 
-shared-slice-read-is-direct : tie.Need-shared-slice-read-is-direct Inv-loop μ-loop
-shared-slice-read-is-direct c = search needs
+shared-slice-read-is-direct-byte : tie.Need-shared-slice-read-is-direct-byte Inv-loop μ-loop
+shared-slice-read-is-direct-byte c = search needs
 
-is-direct-requires : tie.Need-is-direct-requires Inv-loop μ-loop
-is-direct-requires c κs = search needs
+is-direct-byte-requires : tie.Need-is-direct-byte-requires Inv-loop μ-loop
+is-direct-byte-requires c κs = search needs
 
 cast-noted : tie.Need-cast-noted Inv-loop μ-loop
 cast-noted c = search needs
@@ -44,7 +44,7 @@ loop-less c = search needs
 
 loop-again : tie.Need-loop-again Inv-loop μ-loop
 loop-again c = let l = c .before .before .before .before .before in
-    (omega arith, rw (c .least .ensures, c .before .noted .ensures, c .before .before .is-direct .ensures) (ahead-more (l .loop .inv .1) (c .before .before .before .before .loop-test .taken)))
+    (omega arith, rw (c .least .ensures, c .before .noted .ensures, c .before .before .is-direct-byte .ensures) (ahead-more (l .loop .inv .1) (c .before .before .before .before .loop-test .taken)))
 
 cast-result : tie.Need-cast-result Inv-loop μ-loop
 cast-result c = search needs
@@ -62,9 +62,9 @@ direct-ahead-spec =
     Inv-loop
     μ-loop
     loop-holds
-    add-is-direct
-    shared-slice-read-is-direct
-    is-direct-requires
+    add-is-direct-byte
+    shared-slice-read-is-direct-byte
+    is-direct-byte-requires
     cast-noted
     noted-requires
     least-requires
