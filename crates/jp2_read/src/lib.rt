@@ -3,19 +3,20 @@ use answer::Answer;
 use answer::Refusal;
 use reading::Marked;
 ghost use mathlib.Core.Path.{_≡_};
-ghost use mathlib.Core.Bool.{cond, _&&_};
+ghost use mathlib.Core.Bool.{true, false, cond, _&&_, _||_};
 ghost use mathlib.Core.List.{[], _∷_};
-ghost use Prim.Native.Nat.{_<_};
+ghost use Prim.Native.Nat.{ℕ, _+_, _*_, _<_, _≤_};
 ghost use lib.ListN.{length};
 ghost use lib.Dec.{eqb};
-ghost use Rattle.answer.specs.Answer.{inNumbers};
-ghost use Rattle.reading.specs.Reading.{closing};
+ghost use Rattle.answer.specs.Answer.{limit, inNumbers};
+ghost use Rattle.reading.specs.Reading.{give, closing};
 ghost use Rattle.reading.specs.Spans.{Takes};
-ghost use Rattle.reading.specs.Stepping.{atStart};
+ghost use Rattle.reading.specs.Stepping.{onward, atStart};
 ghost use Rattle.jp2.specs.Table.{rowAt, isList};
-ghost use Rattle.jp2.specs.Rule.{plain, return, graphic, designated, inPhase, endPhase, jp2, singleDoes, firstDoes, secondDoes, betweenDoes, shiftedDoes, escapeDoes, byteDoes, endsIn};
+ghost use Rattle.jp2.specs.Rule.{plain, return, state, cellOf, graphic, designated, inPhase, endPhase, jp2, singleDoes, firstDoes, secondDoes, betweenDoes, shiftedDoes, escapeDoes, byteDoes, endsIn};
 ghost use Rattle.jp2.specs.Spans.{phaseSpan};
 ghost use Rattle.jp2_read.specs.Cursor.{phaseOf, stateOf, inEscape, stateFor, doesOf, cursorOf, least, told, stepOf};
+ghost use Rattle.jp2_read.specs.Passing.{stepFrom, Hands};
 
 // Where a reader stands to cells and escapes.
 pub enum Phase {
@@ -68,6 +69,19 @@ pub enum Move {
     Bad(Refusal),
 }
 
+// The cell of a byte and of a pair, by the set's number.
+fn cell_of(number: u16, b: u8) -> u32
+    ensures { λ r. ⌜ r ≡ cellOf number b ⌝ }
+{
+    (number as u32) * 65536 + (b as u32)
+}
+
+fn pair_of(number: u16, a: u8, b: u8) -> u32
+    ensures { λ r. ⌜ r ≡ cellOf number (a * 256 + b) ⌝ }
+{
+    (number as u32) * 65536 + ((a as u32) * 256 + (b as u32))
+}
+
 // The number that a single byte carries.
 fn carried(g0: u16, b: u8) -> u16
     ensures { λ r. ⌜ r ≡ cond (graphic b) g0 6 ⌝ }
@@ -114,7 +128,7 @@ fn single(g0: u16, g2: u16, cr: bool, b: u8) -> Move
     let left = uncleared(g2, cr, b);
     let phase = after_single(b);
     Move::Give(
-        (number as u32) * 65536 + (b as u32),
+        cell_of(number, b),
         State {
             g0,
             g2: left,
@@ -143,7 +157,7 @@ fn second(g0: u16, g2: u16, a: u8, b: u8) -> Move
 {
     if jp2::is_graphic(b as u32) {
         return Move::Give(
-            (g0 as u32) * 65536 + ((a as u32) * 256 + (b as u32)),
+            pair_of(g0, a, b),
             State {
                 g0,
                 g2,
@@ -182,7 +196,7 @@ fn shifted(g0: u16, g2: u16, b: u8) -> Move
         return Move::Bad(Refusal::StrayByte);
     }
     Move::Give(
-        (g2 as u32) * 65536 + (b as u32),
+        cell_of(g2, b),
         State {
             g0,
             g2,
@@ -373,16 +387,98 @@ pub fn start() -> Cursor
     }
 }
 
-// The step from any cursor over a text.
-pub fn step(text: &[u8], c: Cursor) -> Stepped
-    ensures { λ r. ⌜ told r ≡ stepOf (now (text .entry)) c ⌝ }
+// A cell all of whose bytes come next, and how many they are; 0: none is told.
+struct Told {
+    value: u32,
+    count: usize,
+}
+
+fn is_code(b: u8) -> bool
+    ensures { λ r. ⌜ r ≡ graphic b ⌝ }
 {
-    if answer::over_limit(text.len()) {
-        return Stepped::Final(answer::too_long());
+    (33 <= b) & (b <= 126)
+}
+
+// ESC N and a byte may be a cell.
+fn is_shifted(g2: u16, x: u8, y: u8) -> bool
+    ensures { λ r. ⌜ (r ≡ true → (x ≡ 78) × (eqb g2 0 ≡ false) × (32 ≤ y) × (y ≤ 127)) ⌝ }
+{
+    (x == 78) & (g2 != 0) & (32 <= y) & (y < 128)
+}
+
+// A byte of a set of single bytes that is a cell and changes nothing.
+fn single_next(g0: u16, b: u8) -> Told
+    requires { ⌜ (eqb g0 6 || eqb g0 14) ≡ true ⌝ }
+    ensures { λ r. ⌜ ((r .count ≡ 0 → ⊥) → (r .count ≡ 1) × ((g2 : ℕ) → byteDoes (state g0 g2 plain) b ≡ give (r .value) (state g0 g2 plain))) ⌝ }
+{
+    if is_code(b) {
+        return Told {
+            value: cell_of(g0, b),
+            count: 1,
+        };
     }
-    let mut at = c.at;
-    let handed = lesser(c.handed, at);
-    let mut st = c.state;
+    if b == 32 {
+        return Told {
+            value: cell_of(6, b),
+            count: 1,
+        };
+    }
+    Told { value: 0, count: 0 }
+}
+
+// A cell that comes between cells: of a single-byte set, a pair, or ESC N and a byte.
+fn cell_next(text: &[u8], at: usize, g0: u16, g2: u16) -> Told
+    requires { ⌜ (at < length (now text)) × (length (now text) ≤ limit) ⌝ }
+    ensures { λ r. ⌜ ((r .count ≡ 0 → ⊥) → Hands (now (text .entry)) at (state g0 g2 plain) (r .value) (r .count)) ⌝ }
+{
+    if text.len() < at + 3 {
+        return Told { value: 0, count: 0 };
+    }
+    let b = text[at];
+    let x = text[at + 1];
+    let y = text[at + 2];
+    if b == 27 {
+        if is_shifted(g2, x, y) {
+            return Told {
+                value: cell_of(g2, y),
+                count: 3,
+            };
+        }
+        return Told { value: 0, count: 0 };
+    }
+    if (g0 == 6) | (g0 == 14) {
+        return single_next(g0, b);
+    }
+    if is_code(b) & is_code(x) {
+        return Told {
+            value: pair_of(g0, b, x),
+            count: 2,
+        };
+    }
+    Told { value: 0, count: 0 }
+}
+
+// The cell that comes next, where the reader stands between cells.
+fn told_at(text: &[u8], at: usize, st: State) -> Told
+    requires { ⌜ length (now text) ≤ limit ⌝ }
+    ensures { λ r. ⌜ ((r .count ≡ 0 → ⊥) → Hands (now (text .entry)) at (stateOf st) (r .value) (r .count)) ⌝ }
+{
+    let phase = st.phase;
+    if let Phase::Plain = phase {
+        if at < text.len() {
+            return cell_next(text, at, st.g0, st.g2);
+        }
+    }
+    Told { value: 0, count: 0 }
+}
+
+// The step from a place, a byte at a time.
+fn step_on(text: &[u8], from: usize, handed: usize, state: State) -> Stepped
+    requires { ⌜ handed ≤ from ⌝ }
+    ensures { λ r. ⌜ told r ≡ onward cursorOf (stepFrom (now (text .entry)) from (stateOf state) handed) ⌝ }
+{
+    let mut at = from;
+    let mut st = state;
     while at < text.len() {
         let b = text[at];
         match feed(st, b) {
@@ -405,4 +501,34 @@ pub fn step(text: &[u8], c: Cursor) -> Stepped
         }
     }
     Stepped::Final(finish(text.len(), handed, st))
+}
+
+// The step from any cursor over a text.
+pub fn step(text: &[u8], c: Cursor) -> Stepped
+    ensures { λ r. ⌜ told r ≡ stepOf (now (text .entry)) c ⌝ }
+{
+    if answer::over_limit(text.len()) {
+        return Stepped::Final(answer::too_long());
+    }
+    let at = c.at;
+    let handed = lesser(c.handed, at);
+    let state = c.state;
+    let t = told_at(text, at, state);
+    let count = t.count;
+    if count != 0 {
+        let end = at + count;
+        let one_more = handed + 1;
+        let cell = Marked {
+            value: t.value,
+            begin: at,
+            end,
+        };
+        let next = Cursor {
+            at: end,
+            handed: one_more,
+            state,
+        };
+        return Stepped::Cell(Given { cell, next });
+    }
+    step_on(text, at, handed, state)
 }

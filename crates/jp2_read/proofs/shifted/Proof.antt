@@ -1,6 +1,6 @@
 use borrow.Author.Tests.{lt-ltb, le-ltb}
-use borrow.Author.Needs.{needs}
 use Rattle.jp2.specs.Rule.{shiftedDoes}
+use borrow.Author.Needs.{needs}
 use Rattle.jp2_read.proofs.shifted.Statement.{statement}
 use Rattle.jp2_read.proofs.shifted.Tie as tie
 
@@ -8,15 +8,12 @@ returns : tie.Need-returns
 unfolding shiftedDoes
 returns c = rw (lt-ltb _ _ (c .if1 .taken))
 
-mul-t7 : tie.Need-mul-t7
-mul-t7 c = search needs
-
-add-t9 : tie.Need-add-t9
-add-t9 c = search needs
+cell-of-requires : tie.Need-cell-of-requires
+cell-of-requires c κs = search needs
 
 returns-2 : tie.Need-returns-2
 unfolding shiftedDoes
-returns-2 c = rw (le-ltb _ _ (c .if1 .left))
+returns-2 c = rw (le-ltb _ _ (c .before .if1 .left), c .cell-of .ensures)
 
 pub shifted-spec : {M : Type 1} → statement M
-shifted-spec = tie.close (tie.spec returns mul-t7 add-t9 returns-2)
+shifted-spec = tie.close (tie.spec returns cell-of-requires returns-2)

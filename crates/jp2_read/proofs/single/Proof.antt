@@ -1,6 +1,6 @@
 use borrow.Author.Tests.{eq-eqb, ne-eqb}
-use borrow.Author.Needs.{needs}
 use Rattle.jp2.specs.Rule.{singleDoes}
+use borrow.Author.Needs.{needs}
 use Rattle.jp2_read.proofs.single.Statement.{statement}
 use Rattle.jp2_read.proofs.single.Tie as tie
 
@@ -21,20 +21,15 @@ uncleared-requires c κs = search needs
 after-single-requires : tie.Need-after-single-requires
 after-single-requires c κs = search needs
 
-cast-t11 : tie.Need-cast-t11
-cast-t11 c = search needs
-
-mul-t12 : tie.Need-mul-t12
-mul-t12 c = search needs
-
-add-t14 : tie.Need-add-t14
-add-t14 c = search needs
+cell-of-requires : tie.Need-cell-of-requires
+cell-of-requires c κs = search needs
 
 returns-3 : tie.Need-returns-3
 unfolding singleDoes
 returns-3 c =
-    let k = c .before .before .before in
-    rw (ne-eqb _ _ (k .before .if1 .left), ne-eqb _ _ (k .if2 .left), ← c .before .before .carried .ensures, ← c .before .uncleared .ensures, ← c .after-single .ensures)
+    let a = c .before in
+    let k = a .before .before .before in
+    rw (ne-eqb _ _ (k .before .if1 .left), ne-eqb _ _ (k .if2 .left), ← a .before .before .carried .ensures, ← a .before .uncleared .ensures, ← a .after-single .ensures, c .cell-of .ensures)
 
 pub single-spec : {M : Type 1} → statement M
 single-spec =
@@ -45,7 +40,5 @@ single-spec =
     carried-requires
     uncleared-requires
     after-single-requires
-    cast-t11
-    mul-t12
-    add-t14
+    cell-of-requires
     returns-3)

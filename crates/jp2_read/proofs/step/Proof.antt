@@ -1,145 +1,75 @@
-use Prim.Native.Nat.{_-_, _≤_}
-use mathlib.Core.Path.{_≡_, refl, sym, ap, _∙_}
+use Prim.Native.Nat.{_≤_}
+use mathlib.Core.Path.{_≡_, sym, ap, _∙_}
 use native.Mathlib.Omega.{arith}
 use denote.Ref.{now}
-use lib.ListN.{length, drop}
-use borrow.Author.Needs.{needs}
-use borrow.Author.Tests.{ltb-true}
-use Rattle.reading.specs.Spans.{markedAs}
-use Rattle.reading.specs.Stepping.{final, onward, nextFrom, nextAt}
-use Rattle.reading.proofs.Steps.{Going, going-give, going-go, going-bad, going-end, step-long}
+use borrow.Author.Tests.{ltb-true, ltb-false}
+use Rattle.reading.specs.Stepping.{final, onward, nextAt}
+use Rattle.reading.proofs.Steps.{step-long}
 use Rattle.jp2.specs.Rule.{jp2}
 use Rattle.jp2.specs.Spans.{spanIn}
 use Rattle.jp2_read.specs.Cursor.{stateOf, spotOf, cursorOf}
-use Rattle.jp2_read.proofs.Moves.{cell-told, moved, least-at}
+use Rattle.jp2_read.specs.Passing.{stepFrom}
+use Rattle.jp2_read.proofs.Moves.{cell-told, least-at}
+use borrow.Author.Needs.{needs}
 use Rattle.jp2_read.proofs.step.Statement.{statement}
 use Rattle.jp2_read.proofs.step.Tie as tie
 
-abbrev Inv-loop : tie.InvT-loop
-Inv-loop text at₀ handed st₀ at st =
-    Going jp2 spanIn text at handed (stateOf st) (nextFrom jp2 spanIn (length text) (drop at₀ text) (record { at = at₀; handed = handed; state = stateOf st₀ }))
-    × (handed ≤ at)
+counted : (c : tie.After-lesser) → c .lesser .result ≤ c .before .before .before .before .args .c .at
+counted c = rw (c .lesser .ensures) (least-at _ _)
 
-abbrev μ-loop : tie.MeasureT-loop
-μ-loop text at₀ handed st₀ at st = length text - at
-
--- the loop's step is the one from the cursor
+-- the step that is to be found is the one from the cursor
 asked :
-    (c : tie.After-lesser Inv-loop μ-loop) →
+    (c : tie.After-lesser) →
     let a = c .before .before .before .before .args in
-    nextFrom jp2 spanIn (length (now (a .text))) (drop (a .c .at) (now (a .text))) (record { at = a .c .at; handed = c .lesser .result; state = stateOf (a .c .state) })
-    ≡ nextAt jp2 spanIn (now (a .text)) (spotOf (a .c))
-unfolding nextAt
+    stepFrom (now (a .text)) (a .c .at) (stateOf (a .c .state)) (c .lesser .result) ≡ nextAt jp2 spanIn (now (a .text)) (spotOf (a .c))
+unfolding stepFrom nextAt
 asked c = let o = c .before .before in rw (c .lesser .ensures, sym (o .over-limit .ensures) ∙ c .before .if1 .left)
 
-over-limit-requires : tie.Need-over-limit-requires Inv-loop μ-loop
+over-limit-requires : tie.Need-over-limit-requires
 over-limit-requires c κs = search needs
 
-too-long-requires : tie.Need-too-long-requires Inv-loop μ-loop
+too-long-requires : tie.Need-too-long-requires
 too-long-requires c κs = search needs
 
-returns : tie.Need-returns Inv-loop μ-loop
+returns : tie.Need-returns
 returns c =
     let o = c .before .before in
     ap final (c .too-long .ensures) ∙ ap (onward cursorOf) (sym (step-long jp2 spanIn _ (ltb-true _ _ (sym (o .over-limit .ensures) ∙ c .before .if1 .taken)) _))
 
-lesser-requires : tie.Need-lesser-requires Inv-loop μ-loop
+lesser-requires : tie.Need-lesser-requires
 lesser-requires c κs = search needs
 
-loop-holds : tie.Need-loop-holds Inv-loop μ-loop
-loop-holds c = (record { so = refl }, rw (c .before .lesser .ensures) (least-at _ _))
+told-at-requires : tie.Need-told-at-requires
+told-at-requires c κs = let e = c .before .before in ltb-false _ _ (sym (e .before .over-limit .ensures) ∙ e .if1 .left)
 
-shared-slice-read-b : tie.Need-shared-slice-read-b Inv-loop μ-loop
-shared-slice-read-b c = search needs
+add-end : tie.Need-add-end
+add-end c = omega (arith, c .before .told-at .ensures (c .if2 .taken) .within)
 
-feed-requires : tie.Need-feed-requires Inv-loop μ-loop
-feed-requires c κs = search needs
+add-one-more : tie.Need-add-one-more
+add-one-more c = let t = c .before in
+    let h = t .told-at .ensures (c .if2 .taken) in
+    omega (arith, h .some, h .within, counted (t .before .before))
 
-enum-known-value : tie.Need-enum-known-value Inv-loop μ-loop
-enum-known-value c = search needs
+returns-2 : tie.Need-returns-2
+returns-2 c = let t = c .before in cell-told (sym (t .told-at .ensures (c .if2 .taken) .so _) ∙ asked (t .before .before))
 
-width-requires : tie.Need-width-requires Inv-loop μ-loop
-width-requires c κs = search needs
+step-on-requires : tie.Need-step-on-requires
+step-on-requires c κs = counted (c .before .before .before)
 
-add-mark : tie.Need-add-mark Inv-loop μ-loop
-add-mark c = search needs
-
-mark-requires : tie.Need-mark-requires Inv-loop μ-loop
-mark-requires c κs = search needs
-
-add-t21 : tie.Need-add-t21 Inv-loop μ-loop
-add-t21 c = search needs
-
-add-t22 : tie.Need-add-t22 Inv-loop μ-loop
-add-t22 c = search needs
-
-returns-2 : tie.Need-returns-2 Inv-loop μ-loop
-unfolding spanIn
-returns-2 c =
-    let w = c .before in
-    let k = w .before in
-    let f = k .before .before .before in
-    let l = f .before .before .before in
-    rw (c .mark .ensures ∙ ap (markedAs _) (sym (w .width .ensures _)))
-    (cell-told (going-give (l .loop .inv .0) (f .before .before .loop-test .taken) (moved (f .feed .ensures) (k .before .value .given .1)) ∙ asked (l .before .before)))
-
-enum-known-state : tie.Need-enum-known-state Inv-loop μ-loop
-enum-known-state c = search needs
-
-add-at : tie.Need-add-at Inv-loop μ-loop
-add-at c = search needs
-
-loop-less : tie.Need-loop-less Inv-loop μ-loop
-loop-less c = search needs
-
-loop-again : tie.Need-loop-again Inv-loop μ-loop
-loop-again c =
-    let f = c .before .before .before in
-    (going-go (f .before .before .before .loop .inv .0) (f .before .before .loop-test .taken) (moved (f .feed .ensures) (c .before .state .given .1)), omega arith)
-
-enum-known-why : tie.Need-enum-known-why Inv-loop μ-loop
-enum-known-why c = search needs
-
-returns-3 : tie.Need-returns-3 Inv-loop μ-loop
-returns-3 c =
-    let f = c .before .before .before in
-    let l = f .before .before .before in
-    ap (onward cursorOf)
-    (going-bad (l .loop .inv .0) (f .before .before .loop-test .taken) (moved (f .feed .ensures) (c .before .why .given .1)) ∙ asked (l .before .before))
-
-finish-requires : tie.Need-finish-requires Inv-loop μ-loop
-finish-requires c κs = search needs
-
-returns-4 : tie.Need-returns-4 Inv-loop μ-loop
-returns-4 c =
-    let l = c .before .before in
-    ap final (c .finish .ensures) ∙ ap (onward cursorOf) (going-end (l .loop .inv .0) (c .before .loop-test .left) ∙ asked (l .before .before))
+returns-3 : tie.Need-returns-3
+returns-3 c = c .step-on .ensures ∙ ap (onward cursorOf) (asked (c .before .before .before .before))
 
 pub step-spec : {M : Type 1} → statement M
 step-spec =
     tie.close
     (tie.spec
-    Inv-loop
-    μ-loop
     over-limit-requires
     too-long-requires
     returns
     lesser-requires
-    loop-holds
-    shared-slice-read-b
-    feed-requires
-    enum-known-value
-    width-requires
-    add-mark
-    mark-requires
-    add-t21
-    add-t22
+    told-at-requires
+    add-end
+    add-one-more
     returns-2
-    enum-known-state
-    add-at
-    loop-less
-    loop-again
-    enum-known-why
-    returns-3
-    finish-requires
-    returns-4)
+    step-on-requires
+    returns-3)
