@@ -8,13 +8,12 @@ use native.Mathlib.Nat.{mod-eq-of-lt}
 use lib.ListN.{length, getD}
 use lib.Dec.{leb, eqb, lit<}
 use borrow.Author.Tests.{lt-ltb, ltb-true}
-use Rattle.answer.proofs.Below.{allBelow, below, same, same-eq}
 use Rattle.bits.specs.Bits.{bits}
 use Rattle.base64.specs.Letters.{valueOf, setB, slash}
 use Rattle.reading.specs.Reading.{give, go}
 use Rattle.reading.specs.Spans.{upTo}
 use Rattle.reading.proofs.Steps.{Going, going-give, going-go}
-use Rattle.utf7.specs.Sets.{alphanumeric, setD, setO, direct}
+use Rattle.utf7.specs.Sets.{direct}
 use Rattle.utf7.specs.Rule.{opening, unitDoes, mayEnd, outsideDoes, lowDoes, byteDoes, utf7}
 use Rattle.utf7.specs.Spans.{spanIn}
 use Rattle.utf7.proofs.Round.{byte-run, byte-opening, close-run, self-walk}
@@ -25,14 +24,6 @@ use Rattle.utf7_read.specs.declared.State.{State}
 use Rattle.utf7_read.specs.declared.State.the-variants.{Outside, Opening, Run}
 use Rattle.utf7_read.specs.declared.Ahead.{Ahead}
 use Rattle.utf7_read.proofs.Moves.{letter-go, letter-give}
-
--- the test of a byte, by computing it
-direct-tests : allBelow (λ k. same ((((((leb 32 k && leb k 125) && not (eqb k 43)) && not (eqb k 92)) || eqb k 9) || eqb k 10) || eqb k 13) (direct k)) 256 ≡ true
-unfolding allBelow direct setD setO alphanumeric
-direct-tests = refl
-
-pub direct-test : (b : ℕ) → b < 256 → ((((((leb 32 b && leb b 125) && not (eqb b 43)) && not (eqb b 92)) || eqb b 9) || eqb b 10) || eqb b 13) ≡ direct b
-direct-test b h = sym (same-eq _ _ (below (λ k. same ((((((leb 32 k && leb k 125) && not (eqb k 43)) && not (eqb k 92)) || eqb k 9) || eqb k 10) || eqb k 13) (direct k)) 256 direct-tests b h))
 
 module _ {text : List ℕ} where
   -- the loop of the step from a place, before its first byte

@@ -244,13 +244,6 @@ struct Place {
     state: State,
 }
 
-// Outside a run the byte stands for itself. Tests are eager, so that they compile to no branch.
-fn is_plain(b: u8) -> bool
-    ensures { λ r. ⌜ r ≡ direct b ⌝ }
-{
-    (32 <= b) & (b <= 125) & (b != b'+') & (b != b'\\') | (b == 9) | (b == 10) | (b == 13)
-}
-
 // The '-' comes that ends a run with n left-over bits of value v, and it may end.
 fn closes(text: &[u8], at: usize, n: u32, v: u32) -> bool
     requires { ⌜ v < 2 ^ n ⌝ }
@@ -312,7 +305,7 @@ fn is_alone(text: &[u8], at: usize, st: State) -> bool
 {
     if let State::Outside = st {
         if at < text.len() {
-            return is_plain(text[at]);
+            return utf7::is_direct_byte(text[at]);
         }
     }
     false
