@@ -4,6 +4,7 @@ use mathlib.Core.Bool.{true}
 use native.Mathlib.Omega.{arith}
 use native.Mathlib.Nat.{zero-add}
 use Rattle.answer.proofs.Below.{both}
+use Rattle.utf7.specs.Sets.{own}
 use Rattle.utf7.specs.declared.Style.the-variants.{Body}
 use Rattle.utf7_write.specs.Ahead.{Ahead, Own}
 use Rattle.utf7_write.proofs.Ahead.{ahead-none, ahead-more}
@@ -33,6 +34,7 @@ loop-less : tie.Need-loop-less Inv-loop μ-loop
 loop-less c = search needs
 
 loop-again : tie.Need-loop-again Inv-loop μ-loop
+unfolding own
 loop-again c =
     let l = c .before .before in (
       λ e.
