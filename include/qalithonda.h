@@ -90,7 +90,8 @@ typedef struct {
 /* ---- UTF-7 ---- */
 
 /*
- * Reads a text to cells. A text of n bytes has at most n cells.
+ * Reads a text to cells. A text of n bytes has at most n cells. The call needs some 130 KiB of
+ * stack.
  * Accepted: the count of cells, which are in `cells`.
  * Refused: 16 (text); 1, 2, 3, 4; 9 (cells).
  */
@@ -296,7 +297,7 @@ typedef struct {
 
 /*
  * Open a page on the bytes of a letter as they arrived. Keep these bytes for `save`.
- * qalithonda_jp2_open needs some 260 KiB of stack.
+ * Opening UTF-7 needs some 130 KiB of stack, opening JP-2 some 260 KiB.
  * Accepted: the count of cells.
  * Refused: 16 (arrived, text, history); the faults of reading: 1, 2, 3, 4 in UTF-7, and
  * 1, 3, 5, 6, 7, 8 in JP-2; 9 (text).

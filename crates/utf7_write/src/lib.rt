@@ -502,7 +502,7 @@ fn write_all(style: Style, cells: &[u32], out: &mut [u8]) -> usize
     at
 }
 
-// Whether the 32 cells from a place on are units: joined by their bits, none is above the limit.
+// Whether the 128 cells from a place on are units: joined by their bits, none is above the limit.
 fn units_ahead(cells: &[u32], i: usize) -> bool
     requires { ⌜ i + 128 ≤ length (now cells) ⌝ }
     ensures { λ r. ⌜ (r ≡ true → Ahead IsUnit (now (cells .entry)) i 128) ⌝ }
