@@ -2,3 +2,4 @@ pub mod Once
 pub mod Put
 pub mod Laid
 pub mod Below
+pub mod Ahead

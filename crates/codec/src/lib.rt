@@ -87,8 +87,8 @@ pub fn first_unwritable(kind: Kind, cells: &[u32]) -> usize
     ensures { λ r. ⌜ r ≡ firstUnwritable kind (now (cells .entry)) ⌝ }
 {
     match kind {
-        Kind::Utf7Header => utf7_write::first_over(cells),
-        Kind::Utf7Body => utf7_write::first_over(cells),
+        Kind::Utf7Header => utf7::first_over(cells),
+        Kind::Utf7Body => utf7::first_over(cells),
         Kind::Jp2 => jp2::first_foreign(cells),
     }
 }

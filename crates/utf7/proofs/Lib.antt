@@ -7,3 +7,4 @@ pub mod Spans
 pub mod Needed
 pub mod Lines
 pub mod ReadsBack
+pub mod Over

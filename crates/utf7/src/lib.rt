@@ -1,7 +1,12 @@
 // UTF-7 (RFC 2152) as document 01 states it: definitions, laws, and the tests that tell its sets apart.
 ghost use mathlib.Core.Path.{_≡_};
+ghost use mathlib.Core.Bool.{true};
+ghost use Prim.Native.Nat.{_+_, _≤_};
+ghost use lib.ListN.{length, drop};
+ghost use Rattle.answer.specs.Ahead.{Ahead};
 ghost use Rattle.utf7.specs.declared.Style.the-variants.{Header, Name};
 ghost use Rattle.utf7.specs.Sets.{member, lineBlanks, direct, signOf, lastOf, own};
+ghost use Rattle.utf7.specs.Writing.{IsUnit, firstOver};
 
 // "Writing has two styles", and mailbox names are a third.
 pub enum Style {
@@ -140,4 +145,45 @@ fn is_name(u: u32) -> bool
         return false;
     }
     u != 38
+}
+
+// Whether the 128 cells from a place on are units: joined by their bits, none is above the limit.
+fn units_ahead(cells: &[u32], i: usize) -> bool
+    requires { ⌜ i + 128 ≤ length (now cells) ⌝ }
+    ensures { λ r. ⌜ (r ≡ true → Ahead IsUnit (now (cells .entry)) i 128) ⌝ }
+{
+    let mut all: u32 = 0;
+    for k in 0..128 {
+        all = all | cells[i + k];
+    }
+    all <= 65535
+}
+
+// The index of the first cell that is no unit, or the length.
+pub fn first_over(cells: &[u32]) -> usize
+    ensures { λ r. ⌜ r ≡ firstOver (now (cells .entry)) ⌝ }
+{
+    let mut i: usize = 0;
+    while 128 <= cells.len() - i {
+        if !units_ahead(cells, i) {
+            return first_over_from(cells, i);
+        }
+        i += 128;
+    }
+    first_over_from(cells, i)
+}
+
+// The same, where the cells before a place are units.
+fn first_over_from(cells: &[u32], from: usize) -> usize
+    requires { ⌜ (from ≤ length (now cells)) × (from + firstOver (drop from (now cells)) ≡ firstOver (now cells)) ⌝ }
+    ensures { λ r. ⌜ r ≡ firstOver (now (cells .entry)) ⌝ }
+{
+    let mut i = from;
+    while i < cells.len() {
+        if 65535 < cells[i] {
+            return i;
+        }
+        i += 1;
+    }
+    i
 }

@@ -14,7 +14,8 @@ use Rattle.utf7.specs.Sets.{signOf, own}
 use Rattle.utf7.specs.Writing.{Piece, self, sign, stretch, extend, pieces, spell, spellAll, writing}
 use Rattle.utf7.specs.declared.Style.{Style}
 use Rattle.utf7.proofs.Pieces.{length-run}
-use Rattle.utf7_write.specs.Ahead.{Ahead, Own, Narrowed}
+use Rattle.answer.specs.Ahead.{Ahead}
+use Rattle.utf7_write.specs.Ahead.{Own, Narrowed}
 use Rattle.utf7_write.specs.Begun.{Reach, Begun}
 use Rattle.utf7_write.proofs.Two.{Two, put-two}
 use Rattle.utf7_write.proofs.Several.{put-several, put-block}

@@ -17,8 +17,9 @@ use Rattle.utf7.specs.Writing.{pieces, spell, spellAll, writing}
 use Rattle.utf7.specs.declared.Style.{Style}
 use Rattle.utf7.specs.declared.Style.the-variants.{Header, Body, Name}
 use Rattle.utf7.proofs.Sets.{own-byte}
-use Rattle.utf7_write.specs.Ahead.{Ahead, Own, ownBit, OwnFrom, narrow, Narrowed}
-use Rattle.utf7_write.proofs.Ahead.{ahead-next}
+use Rattle.answer.specs.Ahead.{Ahead}
+use Rattle.utf7_write.specs.Ahead.{Own, ownBit, OwnFrom, narrow, Narrowed}
+use Rattle.answer.proofs.Ahead.{ahead-next}
 use Rattle.utf7_write.proofs.Stretches.{own-high}
 
 -- a choice, and what each style's choices come to, computed at every byte

@@ -1,5 +1,3 @@
-pub mod Ahead
-pub mod Over
 pub mod Two
 pub mod Stretches
 pub mod Values

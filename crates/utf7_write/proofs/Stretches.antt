@@ -17,8 +17,9 @@ use Rattle.utf7.specs.declared.Style.{Style}
 use Rattle.utf7.proofs.Sets.{own-byte, own-sign, sign-byte}
 use Rattle.utf7.proofs.Pieces.{length-run}
 use Rattle.utf7_write.specs.Stretch.{other, stretchLength}
-use Rattle.utf7_write.specs.Ahead.{Ahead, High}
-use Rattle.utf7_write.proofs.Ahead.{ahead-next}
+use Rattle.answer.specs.Ahead.{Ahead}
+use Rattle.utf7_write.specs.Ahead.{High}
+use Rattle.answer.proofs.Ahead.{ahead-next}
 
 bool-false : (t : Bool) → (t ≡ true → ⊥) → t ≡ false
 bool-false true f = absurd (f refl)

@@ -1,4 +1,4 @@
--- What holds of each of several elements, one after another: what the writer's private functions find out of a block.
+-- What the writer's private functions find out of the cells and bytes of a block.
 use Prim.Native.Nat.{ℕ, _+_, _/_, _%_, _^_, _<_}
 use mathlib.Core.Path.{_≡_}
 use mathlib.Core.Bool.{true, cond}
@@ -7,10 +7,6 @@ use lib.ListN.{getD}
 use lib.Dec.{ltb}
 use Rattle.utf7.specs.Sets.{own}
 use Rattle.utf7.specs.declared.Style.{Style}
-
--- of the n elements from a place on
-abbrev pub Ahead : (ℕ → Type 0) → List ℕ → ℕ → ℕ → Type 0
-Ahead P us i n = (m : ℕ) → m < n → P (getD us (i + m) 0)
 
 -- 128 or more, and so neither written as itself nor a sign
 abbrev pub High : ℕ → Type 0

@@ -19,7 +19,8 @@ ghost use Rattle.utf7.specs.declared.Style.the-variants.{Header, Body, Name};
 ghost use Rattle.utf7.specs.Writing.{IsUnit, spell, stretch, writing, firstOver, writeInto};
 ghost use Rattle.utf7_write.specs.Stretch.{other, stretchLength};
 ghost use Rattle.utf7_write.specs.Values.{values, fourOf};
-ghost use Rattle.utf7_write.specs.Ahead.{Ahead, High, Own, ownBit, OwnFrom, narrow, Narrowed};
+ghost use Rattle.answer.specs.Ahead.{Ahead};
+ghost use Rattle.utf7_write.specs.Ahead.{High, Own, ownBit, OwnFrom, narrow, Narrowed};
 ghost use Rattle.utf7_write.specs.Begun.{Begun};
 
 // The unit belongs to a run.
@@ -299,40 +300,18 @@ fn put_block(block: [u8; 16], out: &mut [u8], at: usize)
     }
 }
 
-// The 32 cells from a place on as bytes.
-fn long_ahead(cells: &[u32], i: usize) -> [u8; 32]
-    requires { ⌜ i + 32 ≤ length (now cells) ⌝ }
-    ensures { λ r. ⌜ Narrowed (now (cells .entry)) i r 32 ⌝ }
-{
-    let mut bytes = [0u8; 32];
-    for k in 0..32 {
-        bytes[k] = byte_of(cells[i + k]);
-    }
-    bytes
-}
-
-// Whether body style writes all of 32 bytes as themselves.
-fn all_direct(bytes: [u8; 32]) -> bool
-    ensures { λ r. ⌜ (r ≡ true → Ahead (Own Body) bytes 0 32) ⌝ }
+// Whether body style writes all of sixteen bytes as themselves.
+fn all_direct(bytes: [u8; 16]) -> bool
+    ensures { λ r. ⌜ (r ≡ true → Ahead (Own Body) bytes 0 16) ⌝ }
 {
     let mut direct = true;
-    for k in 0..32 {
+    for k in 0..16 {
         direct = direct & utf7::is_direct_byte(bytes[k]);
     }
     direct
 }
 
-// 32 bytes go to the output at once.
-fn put_long(bytes: [u8; 32], out: &mut [u8], at: usize)
-    requires { ⌜ at + 32 ≤ length (now out) ⌝ }
-    ensures { λ _. ⌜ now (out .exit) ≡ paste (now (out .entry)) at bytes 32 ⌝ }
-{
-    for k in 0..32 {
-        out[at + k] = bytes[k];
-    }
-}
-
-// Copies blocks of 32 cells that body style writes as themselves; the place of the first cell that is not copied.
+// Copies blocks that body style writes as themselves; the place of the first cell that is not copied.
 fn copy_blocks(cells: &[u32], from: usize, out: &mut [u8], to: usize) -> usize
     requires { ⌜ (from ≤ length (now cells)) × (to + (length (now cells) - from) ≤ length (now out)) ⌝ }
     ensures { λ r. ⌜ (from ≤ r) × (r ≤ length (now (cells .entry))) × Ahead (Own Body) (now (cells .entry)) from (r - from)
@@ -340,14 +319,14 @@ fn copy_blocks(cells: &[u32], from: usize, out: &mut [u8], to: usize) -> usize
 {
     let mut j = from;
     let mut at = to;
-    while 32 <= cells.len() - j {
-        let bytes = long_ahead(cells, j);
+    while 16 <= cells.len() - j {
+        let bytes = bytes_ahead(cells, j);
         if !all_direct(bytes) {
             return j;
         }
-        put_long(bytes, out, at);
-        j += 32;
-        at += 32;
+        put_block(bytes, out, at);
+        j += 16;
+        at += 16;
     }
     j
 }
@@ -402,7 +381,7 @@ fn write_one(style: Style, u: u32, out: &mut [u8])
     out[4] = 45;
 }
 
-// Whether the style has long stretches of units that are written as themselves, for which blocks of 32 pay.
+// Whether the style has long stretches of units that are written as themselves, for which a loop by itself pays.
 fn is_long(style: Style) -> bool
     ensures { λ r. ⌜ (r ≡ true → style ≡ Body) ⌝ }
 {
@@ -502,47 +481,6 @@ fn write_all(style: Style, cells: &[u32], out: &mut [u8]) -> usize
     at
 }
 
-// Whether the 128 cells from a place on are units: joined by their bits, none is above the limit.
-fn units_ahead(cells: &[u32], i: usize) -> bool
-    requires { ⌜ i + 128 ≤ length (now cells) ⌝ }
-    ensures { λ r. ⌜ (r ≡ true → Ahead IsUnit (now (cells .entry)) i 128) ⌝ }
-{
-    let mut all: u32 = 0;
-    for k in 0..128 {
-        all = all | cells[i + k];
-    }
-    all <= 65535
-}
-
-// The index of the first cell that is no unit, or the length.
-pub fn first_over(cells: &[u32]) -> usize
-    ensures { λ r. ⌜ r ≡ firstOver (now (cells .entry)) ⌝ }
-{
-    let mut i: usize = 0;
-    while 128 <= cells.len() - i {
-        if !units_ahead(cells, i) {
-            return first_over_from(cells, i);
-        }
-        i += 128;
-    }
-    first_over_from(cells, i)
-}
-
-// The same, where the cells before a place are units.
-fn first_over_from(cells: &[u32], from: usize) -> usize
-    requires { ⌜ (from ≤ length (now cells)) × (from + firstOver (drop from (now cells)) ≡ firstOver (now cells)) ⌝ }
-    ensures { λ r. ⌜ r ≡ firstOver (now (cells .entry)) ⌝ }
-{
-    let mut i = from;
-    while i < cells.len() {
-        if 65535 < cells[i] {
-            return i;
-        }
-        i += 1;
-    }
-    i
-}
-
 // Writes cells into an output. All cells are judged before a byte is written; n of them need at most 5n bytes, so that with such room none is counted.
 pub fn write(style: Style, cells: &[u32], out: &mut [u8]) -> Answer
     ensures { λ r. ⌜ leaves r (now (out .exit)) ≡ writeInto style (now (cells .entry)) (now (out .entry)) ⌝ }
@@ -550,7 +488,7 @@ pub fn write(style: Style, cells: &[u32], out: &mut [u8]) -> Answer
     if answer::over_limit(cells.len()) {
         return answer::too_long();
     }
-    let over = first_over(cells);
+    let over = utf7::first_over(cells);
     if over < cells.len() {
         return Answer::Refused(Refusal::Unwritable, over);
     }

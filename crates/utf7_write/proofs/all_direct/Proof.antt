@@ -6,17 +6,18 @@ use native.Mathlib.Nat.{zero-add}
 use Rattle.answer.proofs.Below.{both}
 use Rattle.utf7.specs.Sets.{own}
 use Rattle.utf7.specs.declared.Style.the-variants.{Body}
-use Rattle.utf7_write.specs.Ahead.{Ahead, Own}
-use Rattle.utf7_write.proofs.Ahead.{ahead-none, ahead-more}
+use Rattle.answer.specs.Ahead.{Ahead}
+use Rattle.utf7_write.specs.Ahead.{Own}
+use Rattle.answer.proofs.Ahead.{ahead-none, ahead-more}
 use borrow.Author.Needs.{needs}
 use Rattle.utf7_write.proofs.all_direct.Statement.{statement}
 use Rattle.utf7_write.proofs.all_direct.Tie as tie
 
 abbrev Inv-loop : tie.InvT-loop
-Inv-loop bytes direct₀ k₀ direct k = (direct ≡ true → Ahead (Own Body) bytes 0 k) × (k ≤ 32)
+Inv-loop bytes direct₀ k₀ direct k = (direct ≡ true → Ahead (Own Body) bytes 0 k) × (k ≤ 16)
 
 abbrev μ-loop : tie.MeasureT-loop
-μ-loop bytes direct₀ k₀ direct k = 32 - k
+μ-loop bytes direct₀ k₀ direct k = 16 - k
 
 loop-holds : tie.Need-loop-holds Inv-loop μ-loop
 loop-holds c = (λ _. ahead-none (Own Body) (c .args .t1) 0, omega arith)
@@ -46,7 +47,7 @@ loop-again c =
 returns : tie.Need-returns Inv-loop μ-loop
 returns c =
     let l = c .before in
-    let e : l .loop .k ≡ 32 = omega (arith, c .loop-test .left) in
+    let e : l .loop .k ≡ 16 = omega (arith, c .loop-test .left) in
     rw e at (l .loop .inv .0)
 
 pub all-direct-spec : {M : Type 1} → statement M

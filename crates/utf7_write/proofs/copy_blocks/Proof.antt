@@ -5,8 +5,9 @@ use lib.ListN.{length, take, drop, length-drop}
 use lib.Seq.{paste, paste-zero, length-paste, drop-drop}
 use borrow.Author.Tests.{not-false}
 use Rattle.utf7.specs.declared.Style.the-variants.{Body}
-use Rattle.utf7_write.specs.Ahead.{Ahead, Own}
-use Rattle.utf7_write.proofs.Ahead.{ahead-join}
+use Rattle.answer.specs.Ahead.{Ahead}
+use Rattle.utf7_write.specs.Ahead.{Own}
+use Rattle.answer.proofs.Ahead.{ahead-join}
 use Rattle.utf7_write.proofs.Blocks.{own-cells, same-cells}
 use Rattle.utf7_write.proofs.Several.{paste-paste}
 use borrow.Author.Needs.{needs}
@@ -34,22 +35,22 @@ same l =
 abbrev loop-of : tie.Else1 Inv-loop μ-loop → tie.At-loop Inv-loop μ-loop
 loop-of e = e .before .before .before .before
 
-inside : (e : tie.Else1 Inv-loop μ-loop) → loop-of e .loop .j + 32 ≤ length (start (loop-of e) .args .cells .now)
+inside : (e : tie.Else1 Inv-loop μ-loop) → loop-of e .loop .j + 16 ≤ length (start (loop-of e) .args .cells .now)
 inside e = omega (arith, e .before .before .before .loop-test .taken)
 
-whole : (e : tie.Else1 Inv-loop μ-loop) → length (e .before .before .long-ahead .result) ≡ 32
-whole e = omega (arith, e .before .before .long-ahead .ok)
+whole : (e : tie.Else1 Inv-loop μ-loop) → length (e .before .before .bytes-ahead .result) ≡ 16
+whole e = omega (arith, e .before .before .bytes-ahead .ok)
 
 block :
     (e : tie.Else1 Inv-loop μ-loop) → let l = loop-of e in let us = start l .args .cells .now in
-    Ahead (Own Body) us (l .loop .j) 32 × (take 32 (e .before .before .long-ahead .result) ≡ take 32 (drop (l .loop .j) us))
+    Ahead (Own Body) us (l .loop .j) 16 × (take 16 (e .before .before .bytes-ahead .result) ≡ take 16 (drop (l .loop .j) us))
 block e =
     let l = loop-of e in
     let us = start l .args .cells .now in
-    let g = e .before .before .long-ahead in
+    let g = e .before .before .bytes-ahead in
     let a = e .before .all-direct .ensures (not-false _ (e .if1 .left)) in (
-      own-cells Body us (l .loop .j) (g .result) 32 (g .ensures) 32 (omega arith) a,
-      same-cells Body us (l .loop .j) (g .result) 32 (inside e) (whole e) (g .ensures) 32 (omega arith) a,
+      own-cells Body us (l .loop .j) (g .result) 16 (g .ensures) 16 (omega arith) a,
+      same-cells Body us (l .loop .j) (g .result) 16 (inside e) (whole e) (g .ensures) 16 (omega arith) a,
     )
 
 loop-holds : tie.Need-loop-holds Inv-loop μ-loop
@@ -61,8 +62,8 @@ loop-holds c =
 sub-loop : tie.Need-sub-loop Inv-loop μ-loop
 sub-loop c = search needs
 
-long-ahead-requires : tie.Need-long-ahead-requires Inv-loop μ-loop
-long-ahead-requires c κs = search needs
+bytes-ahead-requires : tie.Need-bytes-ahead-requires Inv-loop μ-loop
+bytes-ahead-requires c κs = search needs
 
 all-direct-requires : tie.Need-all-direct-requires Inv-loop μ-loop
 all-direct-requires c κs = search needs
@@ -73,8 +74,8 @@ same-length c = same (c .before .before .before .before)
 returns : tie.Need-returns Inv-loop μ-loop
 returns c = search needs
 
-put-long-requires : tie.Need-put-long-requires Inv-loop μ-loop
-put-long-requires c κs =
+put-block-requires : tie.Need-put-block-requires Inv-loop μ-loop
+put-block-requires c κs =
     let h = same (loop-of (c .before)) in
     let i = inside (c .before) in
     omega arith
@@ -96,15 +97,15 @@ loop-again c =
     let a = start l .args in
     let us = a .cells .now in
     let n = l .loop .j - a .from in
-    let k : l .loop .j + 32 - a .from ≡ n + 32 = omega arith in
+    let k : l .loop .j + 16 - a .from ≡ n + 16 = omega arith in
     let j : a .from + n ≡ l .loop .j = omega arith in
     let i = inside e in (
       omega arith,
       i,
       omega arith,
-      rw k (ahead-join (Own Body) us (a .from) n 32 (l .loop .inv .3) (rw j (block e .0))),
+      rw k (ahead-join (Own Body) us (a .from) n 16 (l .loop .inv .3) (rw j (block e .0))),
       rw k
-          (w .put-long .ensures ∙ paste-paste (a .out .now) (a .to) (drop (a .from) us) n 32 (e .before .before .long-ahead .result) (l .loop .inv .4) (l .loop .inv .2) (omega arith) (omega (arith, length-drop (a .from) us)) (block e .1 ∙ rw (drop-drop n (a .from) us, j))),
+          (w .put-block .ensures ∙ paste-paste (a .out .now) (a .to) (drop (a .from) us) n 16 (e .before .before .bytes-ahead .result) (l .loop .inv .4) (l .loop .inv .2) (omega arith) (omega (arith, length-drop (a .from) us)) (block e .1 ∙ rw (drop-drop n (a .from) us, j))),
     )
 
 same-length-2 : tie.Need-same-length-2 Inv-loop μ-loop
@@ -121,11 +122,11 @@ copy-blocks-spec =
     μ-loop
     loop-holds
     sub-loop
-    long-ahead-requires
+    bytes-ahead-requires
     all-direct-requires
     same-length
     returns
-    put-long-requires
+    put-block-requires
     add-j
     add-at
     loop-less

@@ -2,8 +2,9 @@ use Prim.Native.Nat.{_+_, _-_, _≤_}
 use mathlib.Core.Path.{_≡_}
 use mathlib.Core.Bool.{true, false≢true}
 use native.Mathlib.Omega.{arith}
-use Rattle.utf7_write.specs.Ahead.{Ahead, High}
-use Rattle.utf7_write.proofs.Ahead.{ahead-none, flag-more}
+use Rattle.answer.specs.Ahead.{Ahead}
+use Rattle.utf7_write.specs.Ahead.{High}
+use Rattle.answer.proofs.Ahead.{ahead-none, flag-more}
 use borrow.Author.Needs.{needs}
 use Rattle.utf7_write.proofs.high_ahead.Statement.{statement}
 use Rattle.utf7_write.proofs.high_ahead.Tie as tie

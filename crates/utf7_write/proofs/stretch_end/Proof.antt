@@ -4,7 +4,8 @@ use native.Mathlib.Omega.{arith}
 use lib.ListN.{length, drop}
 use borrow.Author.Tests.{not-true, not-false}
 use Rattle.utf7_write.specs.Stretch.{stretchLength}
-use Rattle.utf7_write.specs.Ahead.{Ahead, High}
+use Rattle.answer.specs.Ahead.{Ahead}
+use Rattle.utf7_write.specs.Ahead.{High}
 use Rattle.utf7_write.proofs.Stretches.{stretch-end, stretch-here, stretch-more, stretch-block}
 use borrow.Author.Needs.{needs}
 use Rattle.utf7_write.proofs.stretch_end.Statement.{statement}

@@ -8,7 +8,7 @@ use native.Mathlib.Omega.{arith}
 use lib.ListN.{getD}
 use lib.Dec.{ltb, eqb}
 use borrow.Author.Tests.{ltb-true, ltb-false, eqb-true, eqb-false}
-use Rattle.utf7_write.specs.Ahead.{Ahead}
+use Rattle.answer.specs.Ahead.{Ahead}
 
 module _ (P : ℕ → Type 0) (us : List ℕ) (i : ℕ) where
   pub ahead-none : Ahead P us i 0

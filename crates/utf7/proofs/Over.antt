@@ -9,9 +9,9 @@ use lib.ListN.{length, getD, drop, drop-of-length-le}
 use lib.Seq.{drop-cons}
 use lib.Bits.{bitOr, or-add-and, and-le-l, and-le-r}
 use borrow.Author.Tests.{lt-ltb, le-ltb}
 use Rattle.utf7.specs.Writing.{IsUnit, firstOver}
-use Rattle.utf7_write.specs.Ahead.{Ahead}
-use Rattle.utf7_write.proofs.Ahead.{ahead-more, ahead-next}
+use Rattle.answer.specs.Ahead.{Ahead}
+use Rattle.answer.proofs.Ahead.{ahead-more, ahead-next}
 
 -- what stands at a place, or that nothing does
 module _ (us : List ℕ) (i : ℕ) where

@@ -2,13 +2,13 @@ use Prim.Native.Nat.{_-_, _^_, _<_, _≤_}
 use mathlib.Core.Path.{_≡_}
 use native.Mathlib.Omega.{arith}
 use borrow.Author.Tests.{leb-true}
 use Rattle.utf7.specs.Writing.{IsUnit}
-use Rattle.utf7_write.specs.Ahead.{Ahead}
-use Rattle.utf7_write.proofs.Ahead.{ahead-none}
-use Rattle.utf7_write.proofs.Over.{joined-more}
+use Rattle.answer.specs.Ahead.{Ahead}
+use Rattle.answer.proofs.Ahead.{ahead-none}
+use Rattle.utf7.proofs.Over.{joined-more}
 use borrow.Author.Needs.{needs}
-use Rattle.utf7_write.proofs.units_ahead.Statement.{statement}
-use Rattle.utf7_write.proofs.units_ahead.Tie as tie
+use Rattle.utf7.proofs.units_ahead.Statement.{statement}
+use Rattle.utf7.proofs.units_ahead.Tie as tie
 
 abbrev Inv-loop : tie.InvT-loop
 Inv-loop cells i all₀ k₀ all k = (all < 2 ^ 16 → Ahead IsUnit cells i k) × (k ≤ 128)

@@ -2,11 +2,11 @@ use Prim.Native.Nat.{_+_, _-_, _≤_}
 use mathlib.Core.Path.{_≡_}
 use native.Mathlib.Omega.{arith}
 use lib.ListN.{length, drop}
 use Rattle.utf7.specs.Writing.{firstOver}
-use Rattle.utf7_write.proofs.Over.{over-end, over-here, over-more}
+use Rattle.utf7.proofs.Over.{over-end, over-here, over-more}
 use borrow.Author.Needs.{needs}
-use Rattle.utf7_write.proofs.first_over_from.Statement.{statement}
-use Rattle.utf7_write.proofs.first_over_from.Tie as tie
+use Rattle.utf7.proofs.first_over_from.Statement.{statement}
+use Rattle.utf7.proofs.first_over_from.Tie as tie
 
 abbrev Inv-loop : tie.InvT-loop
 Inv-loop cells from i₀ i = (i + firstOver (drop i cells) ≡ firstOver cells) × (i ≤ length cells)

@@ -3,11 +3,11 @@ use mathlib.Core.Path.{_≡_}
 use native.Mathlib.Omega.{arith}
 use lib.ListN.{length, drop}
 use borrow.Author.Tests.{not-false}
 use Rattle.utf7.specs.Writing.{firstOver}
-use Rattle.utf7_write.proofs.Over.{over-block}
+use Rattle.utf7.proofs.Over.{over-block}
 use borrow.Author.Needs.{needs}
-use Rattle.utf7_write.proofs.first_over.Statement.{statement}
-use Rattle.utf7_write.proofs.first_over.Tie as tie
+use Rattle.utf7.proofs.first_over.Statement.{statement}
+use Rattle.utf7.proofs.first_over.Tie as tie
 
 abbrev Inv-loop : tie.InvT-loop
 Inv-loop cells i₀ i = (i ≤ length cells) × (i + firstOver (drop i cells) ≡ firstOver cells)
