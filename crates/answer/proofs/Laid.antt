@@ -7,11 +7,7 @@ use native.Mathlib.Nat.{add-zero}
 use native.Mathlib.Numerals.{add-one}
 use lib.ListN.{length, getD, take, set, length-append, length-set}
 use lib.Seq.{length-take-le, take-take, take-append-add, take-suc, take-suc-set}
-
--- cs stands behind the first n places, which are as they were; what lies further on is free
-pub record Laid (cs : List ℕ) (n : ℕ) (out out' : List ℕ) : Type 0 where
-  pub same : length out' ≡ length out
-  pub front : take (n + length cs) out' ≡ take n out ++ cs
+pub use Rattle.answer.specs.Inner.{Laid}
 
 pub laid-none : (n : ℕ) (out : List ℕ) → Laid [] n out out
 laid-none n out = record { same = refl; front = rw add-zero (sym (append-nil (take n out))) }

@@ -9,14 +9,7 @@ use lib.ListN.{length, getD, take, drop, set, length-append, length-drop, length
 use lib.Seq.{length-take-le, take-at, drop-at, drop-drop, take-add, getD-drop, take-length, take-all, take-suc, drop-cons, set-at, append-snoc}
 use borrow.Rule.Slice.PartMut.{putMid}
 use Rattle.answer.specs.Output.{filled}
-
--- the first `at` places hold the front of a text; the rest of the output is as it was; `todo` is still to be put
-pub record Put (text out₀ out : List ℕ) (at : ℕ) (todo : List ℕ) : Type 0 where
-  pub room : length text ≤ length out₀
-  pub upto : at ≤ length text
-  pub left : drop at text ≡ todo
-  pub front : out ≡ take at text ++ drop at out₀
-  pub same : length out ≡ length out₀
+pub use Rattle.answer.specs.Inner.{Put}
 
 pub put-start : (text out : List ℕ) → length text ≤ length out → Put text out out 0 text
 put-start text out h = record { room = h; upto = omega arith; left = refl; front = refl; same = refl }

@@ -2,3 +2,4 @@ pub mod Answer
 pub mod Output
 pub mod Lists
 pub mod Ahead
+pub mod Inner

@@ -7,7 +7,7 @@ use lib.Dec.{eqb}
 use Rattle.jp2.specs.declared.Designation.{Designation}
 
 abbrev pub designation : ℕ → List ℕ → ℕ → ℕ → Designation
-designation number escape length to = record { number = number; escape = escape; length = length; to = to }
+designation number escape size to = record { number = number; escape = escape; length = size; to = to }
 
 -- in the order of the document; an escape of three bytes has 0 as its fourth
 unfoldable pub designations : List Designation

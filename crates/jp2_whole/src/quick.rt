@@ -9,7 +9,7 @@ ghost use lib.ListN.{length, take, drop};
 ghost use lib.Dec.{eqb, leb, ltb};
 ghost use Rattle.answer.specs.Output.{filled};
 ghost use Rattle.reading.specs.Reading.{reading};
-ghost use Rattle.reading.proofs.Filling.{Filling};
+ghost use Rattle.reading.specs.Inner.{Filling};
 ghost use Rattle.jp2.specs.Rule.{graphic, plain, state, cellOf, jp2};
 ghost use Rattle.jp2.specs.Writable.{ascii};
 ghost use Rattle.jp2_whole.specs.Quick.{codeOf, Sends, Found, Plains, Stretch};

@@ -22,7 +22,7 @@ editedAs page text used done =
 
 -- a page of this length on which nothing was done; of length 0, the page of a refused open
 abbrev pub freshPage : Kind → ℕ → Page
-freshPage kind length = record { kind = kind; opening = length; length = length; used = 0; done = 0 }
+freshPage kind size = record { kind = kind; opening = size; length = size; used = 0; done = 0 }
 
 -- the arrived bytes where no step stands, else the cells written
 abbrev pub savedIn : Page → List ℕ → List ℕ → List ℕ → Outcome

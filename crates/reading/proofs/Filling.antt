@@ -16,12 +16,8 @@ use Rattle.answer.specs.declared.Refusal.the-variants.{NoRoom}
 use Rattle.answer.proofs.Once.{number-pos}
 use Rattle.answer.proofs.Put.{Put, put-start, put-as, put-lt, put-next, put-done}
 use Rattle.reading.specs.Reading.{Does, give, go, bad, onRead, Ending, accepted, fault, Rule, Reading, closing, verdictOf, onEnding, readFrom, reading, readInto}
+pub use Rattle.reading.specs.Inner.{Filling}
 use Rattle.reading.proofs.Laws.{Kept, SoundEnd, good-reading, read-by, read-end, Left, left-start, left-give, left-go}
-
--- n cells of a text stand in an output that has room for all
-pub record Filling {S : Type 0} (rule : Rule S) (s : List ℕ) (at : ℕ) (st : S) (n : ℕ) (out₀ out : List ℕ) : Type 0 where
-  pub left : Left rule s at st n
-  pub put : Put (reading rule s .cells) out₀ out n (readFrom rule (drop at s) at st .cells)
 
 pub filling-start :
     {S : Type 0} (rule : Rule S) (s out : List ℕ) → length (reading rule s .cells) ≤ length out → Filling rule s 0 (rule .start) 0 out out

@@ -8,14 +8,9 @@ use lib.ListN.{length, getD, take, drop, set}
 use lib.Seq.{take-add, take-at, take-length}
 use Rattle.answer.proofs.Laid.{Laid, laid-one}
 use Rattle.reading.specs.Reading.{give, go, Rule, Reading, readFrom, reading}
+pub use Rattle.reading.specs.Inner.{Front}
 use Rattle.reading.proofs.Laws.{Left, left-start, left-go}
 use Rattle.reading.proofs.Strides.{Stride, left-stride, stride-give}
-
--- the first n places hold the cells so far
-pub record Front {S : Type 0} (rule : Rule S) (s : List ℕ) (at : ℕ) (st : S) (n : ℕ) (buf : List ℕ) : Type 0 where
-  pub left : Left rule s at st n
-  pub room : length s ≤ length buf
-  pub front : take n buf ≡ take n (reading rule s .cells)
 
 pub front-start : {S : Type 0} (rule : Rule S) (s buf : List ℕ) → length s ≤ length buf → Front rule s 0 (rule .start) 0 buf
 front-start rule s buf h = record { left = left-start rule s; room = h; front = refl }

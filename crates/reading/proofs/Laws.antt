@@ -10,6 +10,7 @@ use Rattle.answer.specs.Answer.{numbered}
 use Rattle.answer.specs.Lists.{Each}
 use Rattle.answer.proofs.Put.{tail-at}
 use Rattle.reading.specs.Reading.{Does, give, go, bad, Ending, accepted, fault, Rule, Reading, onRead, closing, verdictOf, readFrom, reading}
+pub use Rattle.reading.specs.Inner.{Left}
 
 -- what a rule keeps: the start is sound, a byte goes from sound to sound and gives a good cell, and no fault has the number 0
 abbrev pub SoundDoes : {S : Type 0} → (S → Type 0) → (ℕ → Type 0) → Does S → Type 0
@@ -59,14 +60,6 @@ module _ {S : Type 0} (rule : Rule S) (s : List ℕ) (at : ℕ) (st : S) where
   pub read-end : length s ≤ at → readFrom rule (drop at s) at st ≡ record { cells = []; ending = rule .end at st }
   unfolding readFrom
   read-end h = rw (drop-of-length-le s h)
-
--- a reader at a place, in a state, after n cells of a text: what is left of the reading is that of what is left of the text
-pub record Left {S : Type 0} (rule : Rule S) (s : List ℕ) (at : ℕ) (st : S) (n : ℕ) : Type 0 where
-  pub within : at ≤ length s
-  pub few : n ≤ at
-  pub inside : n ≤ length (reading rule s .cells)
-  pub cells : drop n (reading rule s .cells) ≡ readFrom rule (drop at s) at st .cells
-  pub ending : reading rule s .ending ≡ readFrom rule (drop at s) at st .ending
 
 pub left-start : {S : Type 0} (rule : Rule S) (s : List ℕ) → Left rule s 0 (rule .start) 0
 unfolding reading

@@ -2,3 +2,4 @@ pub mod Reading
 pub mod Spans
 pub mod Stepping
 pub mod Matching
+pub mod Inner

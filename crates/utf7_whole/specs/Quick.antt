@@ -6,7 +6,7 @@ use mathlib.Core.List.{List, [], _∷_, _++_, map}
 use lib.ListN.{length, getD}
 use lib.Seq.{slice}
 use lib.Dec.{eqb}
-use Rattle.answer.proofs.Laid.{Laid}
+use Rattle.answer.specs.Inner.{Laid}
 use Rattle.bits.specs.Bits.{bitsOf, full, leftOver}
 use Rattle.base64.specs.Letters.{valueOf, setB, slash}
 use Rattle.utf7.specs.Rule.{mayEnd}

@@ -3,7 +3,7 @@ use Prim.Native.Nat.{ℕ, _+_, _-_, _≤_}
 use mathlib.Core.Path.{_≡_}
 use mathlib.Core.List.{List}
 use lib.ListN.{length, drop}
-use Rattle.answer.proofs.Put.{Put}
+use Rattle.answer.specs.Inner.{Put}
 use Rattle.utf7.specs.Writing.{writing}
 use Rattle.utf7.specs.declared.Style.{Style}
 
