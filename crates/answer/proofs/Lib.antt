@@ -3,3 +3,4 @@ pub mod Put
 pub mod Laid
 pub mod Below
 pub mod Ahead
+pub mod Cases

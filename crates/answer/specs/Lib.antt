@@ -3,3 +3,5 @@ pub mod Output
 pub mod Lists
 pub mod Ahead
 pub mod Inner
+pub mod Texts
+pub mod Cases

@@ -1,8 +1,11 @@
 -- "Set B: letters, digits, +, /, with their RFC 2045 values 0 to 63"; in mailbox names "`,` replaces `/`": an alphabet is given by its last letter.
 use Prim.Native.Nat.{ℕ, _+_, _-_, _<_}
 use mathlib.Core.Path.{_≡_}
-use mathlib.Core.Bool.{Bool, false, cond, _&&_}
+use mathlib.Core.Bool.{Bool, cond, _&&_}
+use mathlib.Core.List.{List, [], _∷_, _++_}
+use lib.ListN.{getD}
 use lib.Dec.{leb, ltb, eqb}
+use Rattle.answer.specs.Texts.{bytesOf}
 
 -- from one code to another, both included
 abbrev pub within : ℕ → ℕ → ℕ → Bool
@@ -31,11 +34,17 @@ unfoldable pub letterOf : ℕ → ℕ → ℕ
 letterOf last x =
     cond (ltb x 26) (x + 65) (cond (ltb x 52) (x - 26 + 97) (cond (ltb x 62) (x - 52 + 48) (cond (eqb x 62) 43 last)))
 
+-- the letters one by one, as RFC 2045's table has them, in the order of their values
+abbrev pub alphabet : ℕ → List ℕ
+alphabet last = bytesOf "ABCDEFGHIJKLMNOPQRSTUVWXYZabcdefghijklmnopqrstuvwxyz0123456789+" ++ last ∷ []
+
 -- document 02, order 4, of an alphabet: "a value turned into its letter and back is the same value, and [..] no other byte has one"
 pub record ByRule (last : ℕ) : Type 0 where
+  -- the rule gives the letters of the table
+  pub listed : (x : ℕ) → x < 64 → letterOf last x ≡ getD (alphabet last) x 0
   -- to the letter and back
   pub letter-and-back : (x : ℕ) → x < 64 → valueOf last (letterOf last x) ≡ x
   -- with the law above: a byte has the value x exactly if it is the letter of x
   pub only-letters : (b x : ℕ) → x < 64 → valueOf last b ≡ x → b ≡ letterOf last x
-  -- any other byte has 64
-  pub no-letter : (b : ℕ) → setB last b ≡ false → valueOf last b ≡ 64
+  -- a byte that is none of the 64 has no value
+  pub no-letter : (b : ℕ) → ((x : ℕ) → x < 64 → getD (alphabet last) x 0 ≡ b → ⊥) → valueOf last b ≡ 64
