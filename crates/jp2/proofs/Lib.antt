@@ -11,3 +11,4 @@ pub mod Size
 pub mod Counts
 pub mod Foreign
 pub mod ReadsBack
+pub mod Cases

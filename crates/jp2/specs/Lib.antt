@@ -4,3 +4,4 @@ pub mod Spans
 pub mod Writable
 pub mod Writing
 pub mod Tally
+pub mod Cases
