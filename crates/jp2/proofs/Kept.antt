@@ -14,9 +14,8 @@ use Rattle.reading.proofs.Laws.{SoundDoes, SoundEnd, Kept, good-reading}
 use Rattle.jp2.specs.Table.{rowAt, isList, rowOfEscape, rowBegunBy}
 use Rattle.jp2.specs.Rule.{Phase, plain, return, first, shifted, escape, State, state, designated, graphic, cellOf, singleDoes, firstDoes, secondDoes, betweenDoes, shiftedDoes, escapeDoes, inPhase, byteDoes, endPhase, endsIn, jp2}
 use Rattle.jp2.specs.Writable.{pairSet, shiftSet, ascii, codes}
-use Rattle.jp2.proofs.Table.{begun-starts, begun-short}
+use Rattle.jp2.proofs.Table.{table-rule, row-to, begun-starts, begun-short}
 use Rattle.jp2.proofs.Sets.{Writable, single, baseSet, either, graphic-range, codes-pair, codes-shift, cell-writable}
-use Rattle.jp2.proofs.Rows.{row-ruled}
 
 -- the numbers that G2 may have: nothing is in it at first
 abbrev pub inG2 : ℕ → Bool
@@ -62,8 +61,7 @@ module _ (g0 g2 : ℕ) (h0 : baseSet g0 ≡ true) (h2 : inG2 g2 ≡ true) where
 
   sound-row : (i : ℕ) → i < 9 → SoundState (designated g0 g2 (rowAt i))
   sound-row i h =
-      let r = row-ruled i h in
-      rw (r .goes-to) (sound-designated (shiftSet (rowAt i .number)) (rowAt i .number) refl (r .belongs))
+      rw (row-to i h) (sound-designated (shiftSet (rowAt i .number)) (rowAt i .number) refl (table-rule i h .belongs))
 
   keeps-escape : (bytes : List ℕ) → 0 < length bytes → Keeps (escapeDoes g0 g2 bytes)
   unfolding escapeDoes

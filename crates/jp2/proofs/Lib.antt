@@ -1,7 +1,8 @@
 pub mod Search
 pub mod Begins
-pub mod Table
 pub mod Sets
+pub mod Sends
+pub mod Table
 pub mod Rows
 pub mod Kept
 pub mod Spans

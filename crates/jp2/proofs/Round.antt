@@ -16,7 +16,8 @@ use Rattle.jp2.specs.Rule.{State, plain, first, shifted, escape, state, 
 use Rattle.jp2.specs.Writable.{setOf, codeOf, pairSet, shiftSet, ascii, writable}
 use Rattle.jp2.specs.Writing.{Force, force, designating, spell, forceAfter, writeFrom, writing}
 use Rattle.jp2.proofs.Sets.{Writable, single, differs, graphic-range, graphic-ascii, pair-apart, Kind, of-ascii, of-roman, of-pair, of-shift, kind-of}
-use Rattle.jp2.proofs.Rows.{row-found, phaseOf, byte-between, set-walk}
+use Rattle.jp2.proofs.Sends.{phaseOf, byte-between}
+use Rattle.jp2.proofs.Rows.{row-found, set-walk}
 use Rattle.jp2.proofs.Ends.{Rests, Last, last-ends}
 
 -- what the bytes of a cell do

@@ -11,7 +11,8 @@ use Rattle.jp2.specs.Table.{designations, rowAt, sent, firstWhere, rowOf
 use Rattle.jp2.specs.Writable.{setOf, codeOf, pairSet, shiftSet, writable}
 use Rattle.jp2.specs.Writing.{Force, force, designating, spell, forceAfter, writeFrom, writing}
 use Rattle.jp2.proofs.Sets.{Writable}
-use Rattle.jp2.proofs.Rows.{row-found, row-number, row-ruled}
+use Rattle.jp2.proofs.Table.{table-rule}
+use Rattle.jp2.proofs.Rows.{row-found, row-number}
 
 cut : (t : Bool) (l : List ℕ) → length (cond t [] l) ≤ length l
 cut true l = omega arith
@@ -34,7 +35,7 @@ spell-size f n c known =
     spell-by (shiftSet n) (designating (f .g2) n) (designating (f .g0) n) (27 ∷ 78 ∷ c ∷ []) (cond (pairSet n) (c / 256 ∷ c % 256 ∷ []) (c ∷ [])) d
     (designating-size (f .g2) n) (designating-size (f .g0) n) (lit≤ tt)
     (cond-case (λ (l : List ℕ). length l ≤ 2) (pairSet n) {a = c / 256 ∷ c % 256 ∷ []} {b = c ∷ []} (λ _. lit≤ tt) (λ _. lit≤ tt))
-    (rw (row-number n known) at (row-ruled (rowOfNumber n) known .room))
+    (rw (row-number n known) at (table-rule (rowOfNumber n) known .room))
 
 from-size : (vs : List ℕ) (f : Force) → Each Writable vs → length (writeFrom vs f) ≤ 6 * length vs + 3
 unfolding writeFrom writable rowOfNumber firstWhere designations

@@ -1,91 +1,94 @@
 -- The rule of the table of designations, proved at all nine rows by one computed test. Assumes nothing.
-use Prim.Native.Nat.{ℕ, _<_, _≤_}
+use Prim.Native.Nat.{ℕ, zero, suc, _+_, _<_, _≤_}
 use mathlib.Core.Path.{_≡_, refl, sym, ap, _∙_}
 use mathlib.Core.Bool.{Bool, true, false, cond, _&&_, _||_}
-use mathlib.Core.List.{List, [], _∷_}
-use mathlib.Core.Logic.{_⊎_, inl, inr, ⊎-elim}
+use mathlib.Core.List.{List, [], _∷_, map}
 use native.Mathlib.Omega.{arith}
 use lib.ListN.{length, getD}
 use lib.Seq.{length-take-le, getD-take}
 use lib.Dec.{leb, ltb, eqb}
 use borrow.Author.Tests.{eqb-true, ltb-true, leb-true, eq-eqb}
 use Rattle.answer.proofs.Below.{both, allBelow, below}
+use Rattle.reading.proofs.Walk.{Walk, walk-read}
 use Rattle.jp2.specs.declared.Designation.{Designation}
 use Rattle.jp2.specs.Table.{designations, noRow, rowAt, sent, begins, isList, firstWhere, rowOfNumber, rowOfEscape, rowBegunBy}
+use Rattle.jp2.specs.Rule.{state, designated, jp2}
+use Rattle.jp2.specs.Writable.{pairSet, shiftSet}
+use Rattle.jp2.specs.Tally.{sets, sum}
+use Rattle.jp2.specs.TableRule.{TableRule}
 use Rattle.jp2.proofs.Search.{found-passes, found-first}
 use Rattle.jp2.proofs.Begins.{begins-length, begins-first}
+use Rattle.jp2.proofs.Sets.{baseSet}
+use Rattle.jp2.proofs.Sends.{sends, phaseOf, sends-walk}
 
 -- nine rows
 pub rows : length designations ≡ 9
 unfolding designations
 rows = refl
 
--- what holds of a row
-pub record Row (i : ℕ) : Type 0 where
-  -- a search by its number, and one by its escape, find it
-  pub by-number : rowOfNumber (rowAt i .number) ≡ i
-  pub by-escape : rowOfEscape (sent (rowAt i)) ≡ i
-  -- its escape begins no other row's
-  pub alone : (j : ℕ) → j < 9 → begins (sent (rowAt i)) (sent (rowAt j)) ≡ true → i ≡ j
-  -- 0 is no set's number, and every escape starts with ESC
-  pub some : 0 < rowAt i .number
-  pub starts : getD (sent (rowAt i)) 0 0 ≡ 27
-  -- three or four bytes of four are sent
-  pub least : 3 ≤ rowAt i .length
-  pub most : rowAt i .length ≤ 4
-  pub four : length (rowAt i .escape) ≡ 4
-  pub side : (rowAt i .to ≡ 0) ⊎ (rowAt i .to ≡ 2)
-
-abbrev tests : ℕ → List Bool
-tests i =
-    eqb (rowOfNumber (rowAt i .number)) i
-    ∷ eqb (rowOfEscape (sent (rowAt i))) i
-    ∷ allBelow (λ j. cond (begins (sent (rowAt i)) (sent (rowAt j))) (eqb i j) true) 9
-    ∷ ltb 0 (rowAt i .number)
-    ∷ eqb (getD (sent (rowAt i)) 0 0) 27
-    ∷ leb 3 (rowAt i .length)
-    ∷ leb (rowAt i .length) 4
-    ∷ eqb (length (rowAt i .escape)) 4
-    ∷ (eqb (rowAt i .to) 0 || eqb (rowAt i .to) 2)
+abbrev tests : Designation → ℕ → List Bool
+tests d i =
+    eqb (rowOfNumber (d .number)) i
+    ∷ eqb (rowOfEscape (sent d)) i
+    ∷ allBelow (λ j. cond (begins (sent d) (sent (rowAt j))) (eqb i j) true) 9
+    ∷ ltb 0 (d .number)
+    ∷ eqb (getD (sent d) 0 0) 27
+    ∷ leb 3 (d .length)
+    ∷ leb (d .length) 4
+    ∷ eqb (length (d .escape)) 4
+    ∷ (shiftSet (d .number) || baseSet (d .number))
+    ∷ eqb (d .to) (cond (shiftSet (d .number)) 2 0)
+    ∷ sends (sent d) i
+    ∷ leb (length (sent d) + cond (shiftSet (d .number)) 3 2) 6
+    ∷ eqb (sum (map (λ set. cond (eqb (d .number) set) 1 0) sets)) 1
     ∷ []
 
 abbrev passes : List Bool → Bool
 passes [] = true
 passes (t ∷ ts) = t && passes ts
 
-abbrev Passes : List Bool → Type 0
-Passes [] = Unit
-Passes (t ∷ ts) = (t ≡ true) × Passes ts
+pass : (ts : List Bool) → passes ts ≡ true → (k : ℕ) → getD ts k true ≡ true
+pass [] e k = refl
+pass (t ∷ ts) e zero = both t (passes ts) e .0
+pass (t ∷ ts) e (suc k) = pass ts (both t (passes ts) e .1) k
 
-each : (ts : List Bool) → passes ts ≡ true → Passes ts
-each [] e = tt
-each (t ∷ ts) e = let q = both t (passes ts) e in (q .0, each ts (q .1))
+-- the one computed test of the nine rows
+all-pass : (i : ℕ) → i < 9 → (k : ℕ) → getD (tests (rowAt i) i) k true ≡ true
+unfolding designations begins firstWhere rowOfNumber rowOfEscape rowBegunBy allBelow shiftSet pairSet
+all-pass i h = pass (tests (rowAt i) i) (below (λ j. passes (tests (rowAt j) j)) 9 refl i h)
 
-all-pass : (i : ℕ) → i < 9 → Passes (tests i)
-unfolding designations begins firstWhere rowOfNumber rowOfEscape allBelow
-all-pass i h = each (tests i) (below (λ k. passes (tests k)) 9 refl i h)
+-- a row leads from between cells to its set in its place
+pub row-walk :
+    (g0 g2 i : ℕ) → i < 9 → (cr : Bool) →
+    Walk jp2 (state g0 g2 (phaseOf cr)) (sent (rowAt i)) [] (designated g0 g2 (rowAt i))
+row-walk g0 g2 i h cr = sends-walk g0 g2 i h cr (sent (rowAt i)) (all-pass i h 10)
 
-either : (s t : Bool) → (s || t) ≡ true → (s ≡ true) ⊎ (t ≡ true)
-either true t e = inl refl
-either false t e = inr e
-
-zero-or-two : (n : ℕ) → (eqb n 0 || eqb n 2) ≡ true → (n ≡ 0) ⊎ (n ≡ 2)
-zero-or-two n e = ⊎-elim (λ z. inl (eqb-true n 0 z)) (λ z. inr (eqb-true n 2 z)) (either (eqb n 0) (eqb n 2) e)
-
-pub table-rule : (i : ℕ) → i < 9 → Row i
+pub table-rule : TableRule
 table-rule i h =
     let p = all-pass i h in
     record {
-      by-number = eqb-true _ _ (p .0);
-      by-escape = eqb-true _ _ (p .1 .0);
-      alone = λ j k e. eqb-true i j (rw e at (below _ 9 (p .1 .1 .0) j k));
-      some = ltb-true _ _ (p .1 .1 .1 .0);
-      starts = eqb-true _ _ (p .1 .1 .1 .1 .0);
-      least = leb-true _ _ (p .1 .1 .1 .1 .1 .0);
-      most = leb-true _ _ (p .1 .1 .1 .1 .1 .1 .0);
-      four = eqb-true _ _ (p .1 .1 .1 .1 .1 .1 .1 .0);
-      side = zero-or-two _ (p .1 .1 .1 .1 .1 .1 .1 .1 .0);
+      by-number = eqb-true _ _ (p 0);
+      by-escape = eqb-true _ _ (p 1);
+      alone = λ j k e. eqb-true i j (rw e at (below _ 9 (p 2) j k));
+      some = ltb-true _ _ (p 3);
+      starts = eqb-true _ _ (p 4);
+      least = leb-true _ _ (p 5);
+      most = leb-true _ _ (p 6);
+      four = eqb-true _ _ (p 7);
+      belongs = p 8;
+      side = eqb-true _ _ (p 9);
+      reads = λ g0 g2 at cr rest. walk-read (row-walk g0 g2 i h cr) rest at _ refl;
+      room = leb-true _ _ (p 11);
+      once = eqb-true _ _ (p 12);
     }
+
+-- a row goes to G2 where its set is one for ESC N
+by-side : (t : Bool) → eqb (cond t 2 0) 2 ≡ t
+by-side true = refl
+by-side false = refl
+
+pub row-to : (i : ℕ) → i < 9 → eqb (rowAt i .to) 2 ≡ shiftSet (rowAt i .number)
+row-to i h = rw (table-rule i h .side) (by-side (shiftSet (rowAt i .number)))
 
 -- a row in hand: its length and bytes are those of what it sends
 module _ {i : ℕ} {d : Designation} (h : i < 9) (e : d ≡ rowAt i) where

@@ -51,7 +51,8 @@ mark value begin end = record { value = value; begin = begin; end = end }
 -- one cell of each set, in the order of document 01's table, and its text
 abbrev pub everySet : List ℕ
 everySet =
-    0x00060041 ∷ 0x000E0041 ∷ 0x002A2121 ∷ 0x00572121 ∷ 0x003A2121 ∷ 0x00952121 ∷ 0x009F2121 ∷ 0x00640041 ∷ 0x007E0041 ∷ []
+    0x00060041 ∷ 0x000E0041 ∷ 0x002A2121 ∷ 0x00572121 ∷ 0x003A2121 ∷ 0x00952121 ∷ 0x009F2121 ∷ 0x00640041
+    ∷ 0x007E0041 ∷ []
 
 abbrev pub everyEscape : List ℕ
 everyEscape = bytes "A␛(JA␛$@!!␛$B!!␛$A!!␛$(C!!␛$(D!!␛.A␛NA␛.F␛NA␛(B"
@@ -59,9 +60,9 @@ everyEscape = bytes "A␛(JA␛$@!!␛$B!!␛$A!!␛$(C!!␛$(D!!␛.A␛NA␛.F
 -- cells of each set, of the first 1, of the next in rising number 2, and so on
 abbrev pub ranked : List ℕ
 ranked =
-    replicate 1 (cellOf 6 0x41) ++ replicate 2 (cellOf 14 0x41) ++ replicate 3 (cellOf 42 0x2121) ++ replicate 4 (cellOf 58 0x2121)
-    ++ replicate 5 (cellOf 87 0x2121) ++ replicate 6 (cellOf 100 0x41) ++ replicate 7 (cellOf 126 0x41)
-    ++ replicate 8 (cellOf 149 0x2121) ++ replicate 9 (cellOf 159 0x2121)
+    replicate 1 (cellOf 6 0x41) ++ replicate 2 (cellOf 14 0x41) ++ replicate 3 (cellOf 42 0x2121)
+    ++ replicate 4 (cellOf 58 0x2121) ++ replicate 5 (cellOf 87 0x2121) ++ replicate 6 (cellOf 100 0x41)
+    ++ replicate 7 (cellOf 126 0x41) ++ replicate 8 (cellOf 149 0x2121) ++ replicate 9 (cellOf 159 0x2121)
 
 abbrev pub cases : List Case
 cases =

@@ -4,4 +4,5 @@ pub mod Spans
 pub mod Writable
 pub mod Writing
 pub mod Tally
+pub mod TableRule
 pub mod Cases

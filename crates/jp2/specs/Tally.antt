@@ -18,6 +18,10 @@ countOf set (v ∷ vs) = cond (eqb (setOf v) set) 1 0 + countOf set vs
 abbrev pub countsOf : List ℕ → List ℕ
 countsOf cells = map (λ set. countOf set cells) sets
 
+abbrev pub sum : List ℕ → ℕ
+sum [] = 0
+sum (x ∷ xs) = x + sum xs
+
 -- the answer, and the counts: "A refused tally has nine zeros."
 pub record Counts : Type 0 where
   pub verdict : Verdict

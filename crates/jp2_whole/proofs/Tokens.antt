@@ -18,11 +18,11 @@ use Rattle.jp2.specs.Table.{designations, noRow, rowAt, sent, begins}
 use Rattle.jp2.specs.Rule.{State, plain, return, shifted, escape, state, graphic, cellOf, singleDoes, betweenDoes, byteDoes, endsIn, jp2}
 use Rattle.jp2.specs.Writable.{ascii}
 use Rattle.jp2.proofs.Sets.{single, differs}
-use Rattle.jp2.proofs.Rows.{byte-between, row-walk}
+use Rattle.jp2.proofs.Sends.{byte-between}
 use Rattle.jp2.proofs.Round.{byte-first, byte-second, byte-n, byte-shifted}
 use Rattle.jp2.specs.declared.Designation.{Designation}
 use Rattle.jp2.proofs.Search.{at-any}
-use Rattle.jp2.proofs.Table.{rows, table-rule, row-size}
+use Rattle.jp2.proofs.Table.{rows, row-walk, table-rule, row-size}
 use Rattle.jp2_whole.specs.Quick.{codeOf, Sends, Designates, Found, Plains, Stretch}
 
 -- the state between cells
