@@ -1,13 +1,12 @@
 -- The code's phases, states and moves are those of the definitions. Assumes nothing.
-use Prim.Native.Nat.{ℕ, _<_, _≤_}
+use Prim.Native.Nat.{ℕ, _<_}
 use mathlib.Core.Path.{_≡_, refl, sym, ap, _∙_}
 use mathlib.Core.Bool.{Bool, true, false, cond, _&&_, and-false}
 use mathlib.Core.List.{List, [], _∷_}
 use native.Mathlib.Omega.{arith}
 use lib.ListN.{length, getD}
-use lib.Dec.{ltb, eqb}
-use borrow.Author.Tests.{le-ltb, ltb-false, ne-eqb}
-use Rattle.answer.proofs.Below.{cond-case}
+use lib.Dec.{eqb}
+use borrow.Author.Tests.{ne-eqb}
 use Rattle.reading.specs.Reading.{Does}
 use Rattle.reading.specs.Stepping.{Spot, Next, cell, onward}
 use Rattle.reading.specs.declared.Marked.{Marked}
@@ -15,7 +14,7 @@ use Rattle.jp2.specs.Table.{begins, isList}
 use Rattle.jp2.specs.Rule as rule
 use Rattle.jp2.specs.Rule.{plain, return, first, shifted, escape}
 use Rattle.jp2.proofs.Kept.{Short, SoundPhase, SoundState}
-use Rattle.jp2_read.specs.Cursor.{phaseOf, stateOf, inEscape, phaseFor, least, spotOf, cursorOf, doesOf}
+use Rattle.jp2_read.specs.Cursor.{phaseOf, stateOf, inEscape, phaseFor, spotOf, cursorOf, doesOf}
 use Rattle.jp2_read.specs.declared.Phase.{Phase}
 use Rattle.jp2_read.specs.declared.Phase.the-variants.{Plain, Return, First, Shifted, Escape, Escape1, Escape2}
 use Rattle.jp2_read.specs.declared.State.{State}
@@ -74,8 +73,8 @@ sound-back shifted g0 g2 h = refl
 sound-back (escape bytes) g0 g2 h = escape-back bytes h
 
 -- a cursor means the spot that it was made for
-pub sound-cursor : (p : Spot rule.State) → SoundState (p .state) → p .handed ≤ p .at → spotOf (cursorOf p) ≡ p
-sound-cursor p h k = rw (le-ltb (p .at) (p .handed) k, sound-back (p .state .phase) (p .state .g0) (p .state .g2) (h .within))
+pub sound-cursor : (p : Spot rule.State) → SoundState (p .state) → spotOf (cursorOf p) ≡ p
+sound-cursor p h = rw (sound-back (p .state .phase) (p .state .g0) (p .state .g2) (h .within))
 
 -- two bytes are a list of two by their tests
 both-tests : (s t : Bool) → (cond s (cond t true false) false && true) ≡ (s && t)
@@ -92,6 +91,3 @@ two-bytes (a ∷ b ∷ c ∷ more) h = absurd (omega arith)
 
 pub not-two : (bytes : List ℕ) → (length bytes ≡ 2 → ⊥) → isList bytes (27 ∷ 78 ∷ []) ≡ false
 not-two bytes h = rw (ne-eqb (length bytes) 2 h, and-false (begins bytes (27 ∷ 78 ∷ [])))
-
-pub least-at : (a b : ℕ) → least a b ≤ b
-least-at a b = cond-case (λ (k : ℕ). k ≤ b) (ltb b a) (λ t. omega arith) (λ t. omega (arith, ltb-false b a t))

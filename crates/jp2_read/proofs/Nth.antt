@@ -6,7 +6,7 @@ use lib.ListN.{length, getD}
 use Rattle.answer.specs.Answer.{limit, tooLong}
 use Rattle.reading.specs.Reading.{verdictOf, reading}
 use Rattle.reading.specs.Spans.{noMark, markedIn}
-use Rattle.reading.specs.Stepping.{cell, final}
+use Rattle.reading.specs.Stepping.{inText, cell, final}
 use Rattle.reading.proofs.Cursors as cursors
 use Rattle.reading.proofs.Cursors.{Cursors, cursorAfter}
 use Rattle.jp2.specs.Rule.{jp2}
@@ -25,7 +25,7 @@ jp2-cursors =
       kept = jp2-kept;
       spot = spotOf;
       cursor = cursorOf;
-      back = λ p h. sound-cursor p (h .0) (h .1);
+      back = sound-cursor;
     }
 
 module _ (text : List ℕ) where
@@ -44,5 +44,5 @@ module _ (text : List ℕ) where
   step-over = cursors.step-over jp2-cursors text
 
   -- the repair that `step` does first changes nothing at a cursor that steps lead to
-  pub repair-identity : (n : ℕ) → cursorOf (spotOf (after n)) ≡ after n
+  pub repair-identity : (n : ℕ) → cursorOf (inText text (spotOf (after n))) ≡ after n
   repair-identity = cursors.repair-identity jp2-cursors text

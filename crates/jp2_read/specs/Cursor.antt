@@ -1,11 +1,9 @@
 -- What a cursor's numbers denote, and what a step from any cursor gives.
 use Prim.Native.Nat.{ℕ}
-use mathlib.Core.Bool.{cond}
 use mathlib.Core.List.{List, [], _∷_}
-use lib.Dec.{ltb}
 use Rattle.answer.specs.Answer.{numberOf, inNumbers}
 use Rattle.reading.specs.Reading.{Does, give, go, bad}
-use Rattle.reading.specs.Stepping.{Spot, Next, cell, final, onward, nextAt}
+use Rattle.reading.specs.Stepping.{Spot, inText, Next, cell, final, onward, nextAt}
 use Rattle.jp2.specs.Rule as rule
 use Rattle.jp2.specs.Rule.{plain, return, first, shifted, escape, jp2}
 use Rattle.jp2.specs.Spans.{spanIn}
@@ -48,12 +46,9 @@ phaseFor (escape bytes) = inEscape bytes
 abbrev pub stateFor : rule.State → State
 stateFor st = record { g0 = st .g0; g2 = st .g2; phase = phaseFor (st .phase) }
 
-abbrev pub least : ℕ → ℕ → ℕ
-least a b = cond (ltb b a) b a
-
--- where any cursor stands; it has handed out no more cells than bytes lie before it
+-- where a cursor's numbers say that it stands
 abbrev pub spotOf : Cursor → Spot rule.State
-spotOf c = record { at = c .at; handed = least (c .handed) (c .at); state = stateOf (c .state) }
+spotOf c = record { at = c .at; handed = c .handed; state = stateOf (c .state) }
 
 -- the cursor that stands there
 abbrev pub cursorOf : Spot rule.State → Cursor
@@ -65,7 +60,7 @@ told (Cell given) = cell (given .cell) (given .next)
 told (Final answer) = final (inNumbers answer)
 
 abbrev pub stepOf : List ℕ → Cursor → Next Cursor
-stepOf text c = onward cursorOf (nextAt jp2 spanIn text (spotOf c))
+stepOf text c = onward cursorOf (nextAt jp2 spanIn text (inText text (spotOf c)))
 
 -- the code's move as what a byte does
 abbrev pub doesOf : Move → Does rule.State

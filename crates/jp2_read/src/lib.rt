@@ -15,7 +15,7 @@ ghost use Rattle.reading.specs.Stepping.{onward, atStart};
 ghost use Rattle.jp2.specs.Table.{rowAt, isList};
 ghost use Rattle.jp2.specs.Rule.{plain, return, state, cellOf, graphic, designated, inPhase, endPhase, jp2, singleDoes, firstDoes, secondDoes, betweenDoes, shiftedDoes, escapeDoes, byteDoes, endsIn};
 ghost use Rattle.jp2.specs.Spans.{phaseSpan};
-ghost use Rattle.jp2_read.specs.Cursor.{phaseOf, stateOf, inEscape, stateFor, doesOf, cursorOf, least, told, stepOf};
+ghost use Rattle.jp2_read.specs.Cursor.{phaseOf, stateOf, inEscape, stateFor, doesOf, cursorOf, told, stepOf};
 ghost use Rattle.jp2_read.specs.Passing.{stepFrom, Hands};
 
 // Where a reader stands to cells and escapes.
@@ -340,15 +340,6 @@ pub fn finish(size: usize, handed: usize, st: State) -> Answer
     }
 }
 
-fn lesser(a: usize, b: usize) -> usize
-    ensures { λ r. ⌜ r ≡ least a b ⌝ }
-{
-    if b < a {
-        return b;
-    }
-    a
-}
-
 // How many bytes the cell has that a byte in this phase completes.
 fn width(st: State) -> usize
     ensures { λ r. ⌜ Takes (phaseSpan (phaseOf (st .phase))) r ⌝ }
@@ -510,8 +501,8 @@ pub fn step(text: &[u8], c: Cursor) -> Stepped
     if answer::over_limit(text.len()) {
         return Stepped::Final(answer::too_long());
     }
-    let at = c.at;
-    let handed = lesser(c.handed, at);
+    let at = reading::lesser(c.at, text.len());
+    let handed = reading::lesser(c.handed, at);
     let state = c.state;
     let t = told_at(text, at, state);
     let count = t.count;

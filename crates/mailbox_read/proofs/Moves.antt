@@ -8,9 +8,8 @@ use native.Mathlib.Nat.{mod-lt, mod-eq-of-lt}
 use lib.ListN.{length}
 use lib.Pow.{pow-pos, pow-add, shr-lt}
 use lib.Dec.{ltb, eqb}
-use borrow.Author.Tests.{lt-ltb, le-ltb, ltb-false}
+use borrow.Author.Tests.{lt-ltb, le-ltb}
 use Rattle.answer.specs.declared.Refusal.the-variants.{NeedlessShift}
-use Rattle.answer.proofs.Below.{cond-case}
 use Rattle.bits.specs.Bits.{bits, number}
 use Rattle.bits.proofs.Bits.{length-bits, number-bits, bits-append, bits-take, bits-drop, bits-mod, zero-bits, spelled}
 use Rattle.reading.specs.Reading.{Does, go, bad}
@@ -19,7 +18,7 @@ use Rattle.reading.specs.declared.Marked.{Marked}
 use Rattle.utf7.specs.Sets.{printable}
 use Rattle.mailbox.specs.Rule.{Shift, outside, opening, run, givesUnit, unitDoes, closeDoes}
 use Rattle.mailbox.proofs.Kept.{SoundShift}
-use Rattle.mailbox_read.specs.Cursor.{shiftOf, stateOf, least, spotOf, cursorOf, Settled, SettledMove, doesOf, Moves}
+use Rattle.mailbox_read.specs.Cursor.{shiftOf, stateOf, spotOf, cursorOf, Settled, SettledMove, doesOf, Moves}
 use Rattle.mailbox_read.specs.declared.State.{State}
 use Rattle.mailbox_read.specs.declared.State.the-variants.{Outside, Opening, Run}
 use Rattle.mailbox_read.specs.declared.Move.{Move}
@@ -38,8 +37,8 @@ shift-back (opening after) h = refl
 shift-back (run pending) h = rw (mod-eq-of-lt h, spelled pending (length pending) (number pending) refl refl)
 
 -- a cursor means the spot that it was made for
-pub settled-cursor : (p : Spot Shift) → p .handed ≤ p .at → SoundShift (p .state) → spotOf (cursorOf p) ≡ p
-settled-cursor p h k = rw (le-ltb (p .at) (p .handed) h, shift-back (p .state) k)
+pub settled-cursor : (p : Spot Shift) → SoundShift (p .state) → spotOf (cursorOf p) ≡ p
+settled-cursor p h = rw (shift-back (p .state) h)
 
 -- what an arm that found the move `m` knows
 pub moved : {r m : Move} {does : Does Shift} → Moves r does → r ≡ m → (does ≡ doesOf m) × SettledMove m
@@ -103,6 +102,3 @@ pub cell-told :
     {m : Marked} {at handed : ℕ} {st : State} {x : Next (Spot Shift)} → Settled st → cell m (record { at = at; handed = handed; state = shiftOf st }) ≡ x →
     cell m (record { at = at; handed = handed; state = st }) ≡ onward cursorOf x
 cell-told {st = st} h e = rw (← e, settled-back st h)
-
-pub least-at : (a b : ℕ) → least a b ≤ b
-least-at a b = cond-case (λ (k : ℕ). k ≤ b) (ltb b a) (λ t. omega arith) (λ t. omega (arith, ltb-false b a t))

@@ -1,14 +1,12 @@
 -- What a cursor's numbers denote, and what a step from any cursor gives.
 use Prim.Native.Nat.{ℕ, _%_, _^_, _<_}
-use mathlib.Core.Bool.{cond}
 use mathlib.Core.Path.{_≡_}
 use mathlib.Core.List.{List}
 use lib.ListN.{length}
-use lib.Dec.{ltb}
 use Rattle.bits.specs.Bits.{bits, number}
 use Rattle.answer.specs.Answer.{numberOf, inNumbers}
 use Rattle.reading.specs.Reading.{Does, give, go, bad}
-use Rattle.reading.specs.Stepping.{Spot, Next, cell, final, onward, nextAt}
+use Rattle.reading.specs.Stepping.{Spot, inText, Next, cell, final, onward, nextAt}
 use Rattle.mailbox.specs.Rule.{Shift, outside, opening, run, mailbox}
 use Rattle.mailbox.specs.Spans.{spanIn}
 use Rattle.mailbox_read.specs.declared.State.{State}
@@ -30,12 +28,9 @@ stateOf (outside after) = Outside after
 stateOf (opening after) = Opening after
 stateOf (run pending) = Run (length pending) (number pending)
 
-abbrev pub least : ℕ → ℕ → ℕ
-least a b = cond (ltb b a) b a
-
--- where any cursor stands; it has handed out no more cells than bytes lie before it
+-- where a cursor's numbers say that it stands
 abbrev pub spotOf : Cursor → Spot Shift
-spotOf c = record { at = c .at; handed = least (c .handed) (c .at); state = shiftOf (c .state) }
+spotOf c = record { at = c .at; handed = c .handed; state = shiftOf (c .state) }
 
 -- the cursor that stands there
 abbrev pub cursorOf : Spot Shift → Cursor
@@ -47,7 +42,7 @@ told (Cell given) = cell (given .cell) (given .next)
 told (Final answer) = final (inNumbers answer)
 
 abbrev pub stepOf : List ℕ → Cursor → Next Cursor
-stepOf text c = onward cursorOf (nextAt mailbox spanIn text (spotOf c))
+stepOf text c = onward cursorOf (nextAt mailbox spanIn text (inText text (spotOf c)))
 
 -- numbers that are just those of their bits
 abbrev pub Settled : State → Type 0

@@ -16,7 +16,7 @@ ghost use Rattle.reading.specs.Matching.{readsAs};
 ghost use Rattle.utf7.specs.Sets.{printable};
 ghost use Rattle.mailbox.specs.Rule.{mailbox, outsideDoes, unitDoes, closeDoes, lowDoes, byteDoes, endsIn};
 ghost use Rattle.mailbox.specs.Spans.{spanIn};
-ghost use Rattle.mailbox_read.specs.Cursor.{shiftOf, cursorOf, least, told, stepOf, Settled, Moves};
+ghost use Rattle.mailbox_read.specs.Cursor.{shiftOf, cursorOf, told, stepOf, Settled, Moves};
 
 // Where a reader stands to runs.
 pub enum State {
@@ -178,15 +178,6 @@ fn settled(st: State) -> State
     }
 }
 
-fn lesser(a: usize, b: usize) -> usize
-    ensures { λ r. ⌜ r ≡ least a b ⌝ }
-{
-    if b < a {
-        return b;
-    }
-    a
-}
-
 // How many bytes the cell has that a byte completes: in a run the letters that hold its bits.
 fn width(st: State, b: u8) -> usize
     requires { ⌜ Settled st ⌝ }
@@ -217,8 +208,8 @@ pub fn step(text: &[u8], c: Cursor) -> Stepped
     if answer::over_limit(text.len()) {
         return Stepped::Final(answer::too_long());
     }
-    let mut at = c.at;
-    let handed = lesser(c.handed, at);
+    let mut at = reading::lesser(c.at, text.len());
+    let handed = reading::lesser(c.handed, at);
     let given = c.state;
     let mut st = settled(given);
     while at < text.len() {

@@ -8,13 +8,13 @@ use native.Mathlib.Numerals.{add-one}
 use lib.ListN.{length, getD, drop, length-drop, drop-of-length-le}
 use lib.Seq.{drop-cons}
 use lib.Dec.{ltb}
-use borrow.Author.Tests.{lt-ltb, le-ltb}
+use borrow.Author.Tests.{lt-ltb, le-ltb, ltb-false}
 use Rattle.answer.specs.Answer.{numbered, limit, tooLong}
 use Rattle.answer.proofs.Below.{cond-case}
 use Rattle.answer.proofs.Put.{head-at, tail-at}
 use Rattle.reading.specs.Reading.{Does, give, go, bad, Rule, closing, verdictOf, reading}
 use Rattle.reading.specs.Spans.{Span, Marking, markedAs, noMark, onMarked, markedFrom, markedIn}
-use Rattle.reading.specs.Stepping.{Spot, Next, cell, final, onNext, onSpot, nextFrom, nextAt, atStart, afterSteps}
+use Rattle.reading.specs.Stepping.{Spot, least, inText, Next, cell, final, onNext, onSpot, nextFrom, nextAt, atStart, afterSteps}
 use Rattle.reading.specs.declared.Marked.{Marked}
 use Rattle.reading.proofs.Spans.{marked-by}
 use Rattle.reading.proofs.Laws.{Kept, SoundDoes, Left, left-start, left-more, left-give, left-go, left-bad, left-end}
@@ -44,42 +44,58 @@ module _ {S : Type 0} {rule : Rule S} {marking : Marking S} {s : List ℕ} {at n
   unfolding nextFrom
   going-end h = rw (drop-of-length-le s h) at (g .so)
 
--- a spot that a reader can stand at: its state is sound, and it has handed out no more cells than bytes lie before it
-abbrev pub SoundSpot : {S : Type 0} → (S → Type 0) → Spot S → Type 0
-SoundSpot Sound p = Sound (p .state) × (p .handed ≤ p .at)
+-- a spot that a reader of a text can stand at: its state is sound, it has handed out no more cells than bytes lie before it, and those are of the text
+abbrev pub SoundSpot : {S : Type 0} → (S → Type 0) → ℕ → Spot S → Type 0
+SoundSpot Sound size p = Sound (p .state) × (p .handed ≤ p .at) × (p .at ≤ size)
+
+pub least-at : (a b : ℕ) → least a b ≤ b
+least-at a b = cond-case (λ (k : ℕ). k ≤ b) (ltb b a) (λ t. omega arith) (λ t. omega (arith, ltb-false b a t))
+
+-- of any numbers a reader stands in its text, with no more cells handed out than bytes lie before it; where they say so, it stands where they say
+module _ {S : Type 0} (s : List ℕ) (p : Spot S) where
+  pub stands-in-text : (inText s p .handed ≤ inText s p .at) × (inText s p .at ≤ length s)
+  stands-in-text = (least-at _ _, least-at _ _)
+
+  pub in-text : p .handed ≤ p .at → p .at ≤ length s → inText s p ≡ p
+  in-text h k = rw (le-ltb (length s) (p .at) k, le-ltb (p .at) (p .handed) h)
 
 -- a step goes from such a spot to such a spot
 module _ {S : Type 0} {rule : Rule S} (marking : Marking S) {Sound : S → Type 0} {Good : ℕ → Type 0} (kept : Kept rule Sound Good) where
-  abbrev SoundNext : Next (Spot S) → Type 0
-  SoundNext (cell m p) = SoundSpot Sound p
-  SoundNext (final a) = Unit
+  -- a place with so many bytes of the text before it, and more
+  abbrev Before : ℕ → ℕ → Spot S → Type 0
+  Before size more p = Sound (p .state) × (p .handed ≤ p .at) × (p .at + more ≤ size)
+
+  abbrev SoundNext : ℕ → Next (Spot S) → Type 0
+  SoundNext size (cell m p) = SoundSpot Sound size p
+  SoundNext size (final a) = Unit
 
   sound-does :
-      (m : Does S) (s : Span) (p : Spot S) (rest : Spot S → Next (Spot S)) → SoundDoes Sound Good m → p .handed ≤ p .at →
-      ((q : Spot S) → SoundSpot Sound q → SoundNext (rest q)) → SoundNext (onNext m s p rest)
-  sound-does (give v st) s p rest h k ih = (h .1, omega arith)
-  sound-does (go st) s p rest h k ih = ih _ (h, omega arith)
-  sound-does (bad k) s p rest h l ih = tt
+      (size more : ℕ) (m : Does S) (s : Span) (p : Spot S) (rest : Spot S → Next (Spot S)) → SoundDoes Sound Good m → Before size (suc more) p →
+      ((q : Spot S) → Before size more q → SoundNext size (rest q)) → SoundNext size (onNext m s p rest)
+  sound-does size more (give v st) s p rest h k ih = (h .1, omega (arith, k .1), omega (arith, k .2))
+  sound-does size more (go st) s p rest h k ih = ih _ (h, omega (arith, k .1), omega (arith, k .2))
+  sound-does size more (bad k) s p rest h l ih = tt
 
-  pub sound-next : (size : ℕ) (bs : List ℕ) (p : Spot S) → SoundSpot Sound p → SoundNext (nextFrom rule marking size bs p)
+  sound-next : (size : ℕ) (bs : List ℕ) (p : Spot S) → Before size (length bs) p → SoundNext size (nextFrom rule marking size bs p)
   unfolding nextFrom
   sound-next size [] p h = tt
   sound-next size (b ∷ bs) p h =
-      sound-does (rule .byte (p .state) b) (marking (p .state) b (p .at)) p (nextFrom rule marking size bs) (kept .keeps (p .state) b (h .0)) (h .1) (sound-next size bs)
+      sound-does size (length bs) (rule .byte (p .state) b) (marking (p .state) b (p .at)) p (nextFrom rule marking size bs) (kept .keeps (p .state) b (h .0)) h (sound-next size bs)
 
-  sound-stands : (x : Next (Spot S)) (p : Spot S) → SoundNext x → SoundSpot Sound p → SoundSpot Sound (onSpot x p)
-  sound-stands (cell m q) p h k = h
-  sound-stands (final a) p h k = k
+  sound-stands : (size : ℕ) (x : Next (Spot S)) (p : Spot S) → SoundNext size x → SoundSpot Sound size p → SoundSpot Sound size (onSpot x p)
+  sound-stands size (cell m q) p h k = h
+  sound-stands size (final a) p h k = k
 
   -- wherever steps from the start lead
-  pub sound-after : (s : List ℕ) (n : ℕ) → SoundSpot Sound (afterSteps (nextAt rule marking s) (atStart rule) n)
+  pub sound-after : (s : List ℕ) (n : ℕ) → SoundSpot Sound (length s) (afterSteps (nextAt rule marking s) (atStart rule) n)
   unfolding afterSteps nextAt
-  sound-after s zero = (kept .starts, omega arith)
+  sound-after s zero = (kept .starts, omega arith, omega arith)
   sound-after s (suc n) =
       let p = afterSteps (nextAt rule marking s) (atStart rule) n in
       let h = sound-after s n in
-      sound-stands (nextAt rule marking s p) p
-      (cond-case SoundNext (ltb limit (length s)) (λ _. tt) (λ _. sound-next (length s) (drop (p .at) s) p h)) h
+      let k : Before (length s) (length (drop (p .at) s)) p = (h .0, h .1, omega (arith, h .2, length-drop (p .at) s)) in
+      sound-stands (length s) (nextAt rule marking s p) p
+      (cond-case (SoundNext (length s)) (ltb limit (length s)) (λ _. tt) (λ _. sound-next (length s) (drop (p .at) s) p k)) h
 
 -- stepping through a text from the start
 module _ {S : Type 0} (rule : Rule S) (marking : Marking S) (s : List ℕ) where

@@ -3,11 +3,11 @@
 use Prim.Native.Nat.{ℕ, zero, suc, _+_}
 use mathlib.Core.Bool.{cond}
 use mathlib.Core.List.{List, [], _∷_}
-use lib.ListN.{length, drop}
+use lib.ListN.{length, getD, drop}
 use lib.Dec.{ltb}
 use Rattle.answer.specs.Answer.{Verdict, numbered, limit, tooLong}
-use Rattle.reading.specs.Reading.{Does, give, go, bad, Rule, closing}
-use Rattle.reading.specs.Spans.{Span, markedAs, Marking}
+use Rattle.reading.specs.Reading.{Does, give, go, bad, Rule, Reading, closing, verdictOf}
+use Rattle.reading.specs.Spans.{Span, markedAs, noMark, Marking}
 use Rattle.reading.specs.declared.Marked.{Marked}
 
 -- where a reader stands: the place of the next byte, how many cells were handed out, and the state
@@ -15,6 +15,14 @@ pub record Spot (S : Type 0) : Type 0 where
   pub at : ℕ
   pub handed : ℕ
   pub state : S
+
+abbrev pub least : ℕ → ℕ → ℕ
+least a b = cond (ltb b a) b a
+
+-- where a reader of any numbers stands in a text: past the end it stands at the end, and it has handed out no more cells than bytes lie before it
+abbrev pub inText : {S : Type 0} → List ℕ → Spot S → Spot S
+inText text p =
+    record { at = least (p .at) (length text); handed = least (p .handed) (least (p .at) (length text)); state = p .state }
 
 -- what a step gives: a cell and where the reader then stands, or the final answer
 pub data Next (P : Type 0) : Type 0 where
@@ -47,6 +55,18 @@ module _ {S : Type 0} (rule : Rule S) (marking : Marking S) where
 module _ {S : Type 0} (rule : Rule S) where
   abbrev pub atStart : Spot S
   atStart = record { at = 0; handed = 0; state = rule .start }
+
+-- "Each step hands out the next cell complete before the first fault", and of a text over the limit none;
+abbrev pub cellsOf : List ℕ → List Marked → List Marked
+cellsOf text marked = cond (ltb limit (length text)) [] marked
+
+-- "after those, and at once for 16, every step gives the answer of reading the whole text with room enough"
+abbrev pub answerOf : List ℕ → Reading → Verdict
+answerOf text r = cond (ltb limit (length text)) tooLong (verdictOf r)
+
+-- what the n-th step gives, counted from 0: of the cells that are handed out cell n, and where the reader then stands, or the answer
+abbrev pub nthOf : {P : Type 0} → List Marked → Verdict → ℕ → P → Next P
+nthOf cells answer n p = cond (ltb n (length cells)) (cell (getD cells n noMark) p) (final answer)
 
 -- where a reader stands after some steps: it stays where a step gives no cell
 module _ {P : Type 0} (step : P → Next P) (start : P) where

@@ -1,6 +1,7 @@
-// What reading a text byte by byte means, over any rule: definitions in specs/, laws in proofs/. The code is that of a cell with its bytes.
+// What reading a text byte by byte means, over any rule: definitions in specs/, laws in proofs/. The code is that of a cell with its bytes, and of where a cursor of any numbers stands.
 ghost use mathlib.Core.Path.{_≡_};
 ghost use Rattle.reading.specs.Spans.{markedAs, lastBytes};
+ghost use Rattle.reading.specs.Stepping.{least};
 
 // A cell, and where its bytes in the text begin and end: from `begin` to just before `end`.
 pub struct Marked {
@@ -25,4 +26,14 @@ pub fn mark(value: u32, count: usize, end: usize) -> Marked
         begin: end - count,
         end,
     }
+}
+
+// A number, or the most that it may be.
+pub fn lesser(a: usize, b: usize) -> usize
+    ensures { λ r. ⌜ r ≡ least a b ⌝ }
+{
+    if b < a {
+        return b;
+    }
+    a
 }

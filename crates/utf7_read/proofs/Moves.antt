@@ -8,20 +8,21 @@ use native.Mathlib.Nat.{mod-lt, mod-eq-of-lt}
 use lib.ListN.{length}
 use lib.Pow.{pow-pos, pow-add, shr-lt}
 use lib.Dec.{ltb, eqb}
-use borrow.Author.Tests.{lt-ltb, le-ltb, ltb-false}
-use Rattle.answer.proofs.Below.{cond-case}
+use borrow.Author.Tests.{lt-ltb, le-ltb}
 use Rattle.bits.specs.Bits.{bits, number}
-use Rattle.bits.proofs.Bits.{length-bits, number-bits, bits-append, bits-take, bits-drop, bits-mod, zero-bits, spelled}
-use Rattle.reading.specs.Reading.{Does, accepted, fault}
+use Rattle.bits.proofs.Bits.{number-lt, length-bits, number-bits, bits-append, bits-take, bits-drop, bits-mod, zero-bits, spelled}
+use Rattle.reading.specs.Reading.{Does, give, go, bad, accepted, fault}
+use Rattle.reading.proofs.Laws.{SoundDoes}
 use Rattle.reading.specs.Stepping.{Spot, Next, cell, onward}
 use Rattle.reading.specs.declared.Marked.{Marked}
-use Rattle.utf7.specs.Rule.{Shift, outside, opening, run, unitDoes, mayEnd, endsIn}
-use Rattle.utf7.proofs.Kept.{SoundShift}
-use Rattle.utf7_read.specs.Cursor.{shiftOf, stateOf, least, spotOf, cursorOf, Settled, SettledMove, doesOf, Moves}
+use Rattle.utf7.specs.Rule.{Shift, outside, opening, run, unitDoes, mayEnd, byteDoes, endsIn}
+use Rattle.utf7.specs.Writing.{IsUnit}
+use Rattle.utf7.proofs.Kept.{SoundShift, utf7-kept}
+use Rattle.utf7_read.specs.Cursor.{shiftOf, stateOf, spotOf, cursorOf, Settled, onState, toldMove, moveOf, doesOf, SettledDoes, Moves}
 use Rattle.utf7_read.specs.declared.State.{State}
 use Rattle.utf7_read.specs.declared.State.the-variants.{Outside, Opening, Run}
 use Rattle.utf7_read.specs.declared.Move.{Move}
-use Rattle.utf7_read.specs.declared.Move.the-variants.{Give, Go}
+use Rattle.utf7_read.specs.declared.Move.the-variants.{Give, Go, Bad}
 
 -- a settled state is the state of its shift
 pub settled-back : (st : State) → Settled st → stateOf (shiftOf st) ≡ st
@@ -36,12 +37,42 @@ shift-back opening h = refl
 shift-back (run pending) h = rw (mod-eq-of-lt h, spelled pending (length pending) (number pending) refl refl)
 
 -- a cursor means the spot that it was made for
-pub settled-cursor : (p : Spot Shift) → p .handed ≤ p .at → SoundShift (p .state) → spotOf (cursorOf p) ≡ p
-settled-cursor p h k = rw (le-ltb (p .at) (p .handed) h, shift-back (p .state) k)
+pub settled-cursor : (p : Spot Shift) → SoundShift (p .state) → spotOf (cursorOf p) ≡ p
+settled-cursor p h = rw (shift-back (p .state) h)
 
 -- what an arm that found the move `m` knows
-pub moved : {r m : Move} {does : Does Shift} → Moves r does → r ≡ m → (does ≡ doesOf m) × SettledMove m
+pub moved : {r m : Move} {does : Does Shift} → Moves r does → r ≡ m → (does ≡ doesOf m) × SettledDoes (toldMove m)
 moved h e = (sym (h .so) ∙ ap doesOf e, rw e at (h .settled))
+
+-- such a move in numbers
+pub move-told : (r : Move) (does : Does Shift) → Moves r does → toldMove r ≡ onState stateOf does
+move-told (Give v st) does h = rw (← h .so, settled-back st (h .settled))
+move-told (Go st) does h = rw (← h .so, settled-back st (h .settled))
+move-told (Bad why) does h = rw (← h .so)
+
+-- and back, from a byte's move in any state
+sound-shift : (st : State) → SoundShift (shiftOf st)
+sound-shift Outside = tt
+sound-shift Opening = tt
+sound-shift (Run n v) = rw (length-bits (n % 16) v) (omega arith)
+
+settled-state : (shift : Shift) → SoundShift shift → Settled (stateOf shift)
+settled-state outside h = tt
+settled-state opening h = tt
+settled-state (run pending) h = (h, number-lt pending)
+
+state-back :
+    (does : Does Shift) → SoundDoes SoundShift IsUnit does →
+    (onState shiftOf (onState stateOf does) ≡ does) × SettledDoes (onState stateOf does)
+state-back (give v shift) h = (rw (shift-back shift (h .1)), settled-state shift (h .1))
+state-back (go shift) h = (rw (shift-back shift h), settled-state shift h)
+state-back (bad k) h = (refl, tt)
+
+pub byte-moves : (st : State) (b : ℕ) {r : Move} → toldMove r ≡ moveOf st b → Moves r (byteDoes (shiftOf st) b)
+unfolding moveOf
+byte-moves st b e =
+    let h = state-back (byteDoes (shiftOf st) b) (utf7-kept .keeps (shiftOf st) b (sound-shift st)) in
+    record { so = ap (onState shiftOf) e ∙ h .0; settled = rw e (h .1) }
 
 -- a letter's six bits behind the pending ones: too few for a unit, or sixteen and some
 module _ (n v x : ℕ) (few : n < 16) (fits : v < 2 ^ n) (letter : x < 64) where
@@ -94,6 +125,3 @@ pub cell-told :
     {m : Marked} {at handed : ℕ} {st : State} {x : Next (Spot Shift)} → Settled st → cell m (record { at = at; handed = handed; state = shiftOf st }) ≡ x →
     cell m (record { at = at; handed = handed; state = st }) ≡ onward cursorOf x
 cell-told {st = st} h e = rw (← e, settled-back st h)
-
-pub least-at : (a b : ℕ) → least a b ≤ b
-least-at a b = cond-case (λ (k : ℕ). k ≤ b) (ltb b a) (λ t. omega arith) (λ t. omega (arith, ltb-false b a t))

@@ -1,15 +1,13 @@
 -- What a cursor's numbers denote, and what a step from any cursor gives.
 use Prim.Native.Nat.{ℕ, _%_, _^_, _<_}
-use mathlib.Core.Bool.{cond}
 use mathlib.Core.Path.{_≡_}
 use mathlib.Core.List.{List}
 use lib.ListN.{length}
-use lib.Dec.{ltb}
 use Rattle.bits.specs.Bits.{bits, number}
 use Rattle.answer.specs.Answer.{numberOf, inNumbers}
 use Rattle.reading.specs.Reading.{Does, give, go, bad}
-use Rattle.reading.specs.Stepping.{Spot, Next, cell, final, onward, nextAt}
-use Rattle.utf7.specs.Rule.{Shift, outside, opening, run, utf7}
+use Rattle.reading.specs.Stepping.{Spot, inText, Next, cell, final, onward, nextAt}
+use Rattle.utf7.specs.Rule.{Shift, outside, opening, run, byteDoes, utf7}
 use Rattle.utf7.specs.Spans.{spanIn}
 use Rattle.utf7_read.specs.declared.State.{State}
 use Rattle.utf7_read.specs.declared.State.the-variants.{Outside, Opening, Run}
@@ -30,12 +28,9 @@ stateOf outside = Outside
 stateOf opening = Opening
 stateOf (run pending) = Run (length pending) (number pending)
 
-abbrev pub least : ℕ → ℕ → ℕ
-least a b = cond (ltb b a) b a
-
--- where any cursor stands; it has handed out no more cells than bytes lie before it
+-- where a cursor's numbers say that it stands
 abbrev pub spotOf : Cursor → Spot Shift
-spotOf c = record { at = c .at; handed = least (c .handed) (c .at); state = shiftOf (c .state) }
+spotOf c = record { at = c .at; handed = c .handed; state = shiftOf (c .state) }
 
 -- the cursor that stands there
 abbrev pub cursorOf : Spot Shift → Cursor
@@ -47,7 +42,7 @@ told (Cell given) = cell (given .cell) (given .next)
 told (Final answer) = final (inNumbers answer)
 
 abbrev pub stepOf : List ℕ → Cursor → Next Cursor
-stepOf text c = onward cursorOf (nextAt utf7 spanIn text (spotOf c))
+stepOf text c = onward cursorOf (nextAt utf7 spanIn text (inText text (spotOf c)))
 
 -- numbers that are just those of their bits
 abbrev pub Settled : State → Type 0
@@ -55,17 +50,30 @@ Settled Outside = Unit
 Settled Opening = Unit
 Settled (Run n v) = (n < 16) × (v < 2 ^ n)
 
-abbrev pub SettledMove : Move → Type 0
-SettledMove (Give v st) = Settled st
-SettledMove (Go st) = Settled st
-SettledMove (Bad why) = Unit
+-- the same, to a state that is written otherwise
+abbrev pub onState : {S T : Type 0} → (S → T) → Does S → Does T
+onState f (give v st) = give v (f st)
+onState f (go st) = go (f st)
+onState f (bad k) = bad k
 
+-- a move as document 01 numbers it, and the move of a byte from any state
+abbrev pub toldMove : Move → Does State
+toldMove (Give v st) = give v st
+toldMove (Go st) = go st
+toldMove (Bad why) = bad (numberOf why)
+
+unfoldable pub moveOf : State → ℕ → Does State
+moveOf st b = onState stateOf (byteDoes (shiftOf st) b)
+
+-- the code's move is what a byte does, and its numbers are just those of their bits
 abbrev pub doesOf : Move → Does Shift
-doesOf (Give v st) = give v (shiftOf st)
-doesOf (Go st) = go (shiftOf st)
-doesOf (Bad why) = bad (numberOf why)
+doesOf move = onState shiftOf (toldMove move)
 
--- the code's move is what a byte does
+abbrev pub SettledDoes : Does State → Type 0
+SettledDoes (give v st) = Settled st
+SettledDoes (go st) = Settled st
+SettledDoes (bad k) = Unit
+
 pub record Moves (move : Move) (does : Does Shift) : Type 0 where
   pub so : doesOf move ≡ does
-  pub settled : SettledMove move
+  pub settled : SettledDoes (toldMove move)

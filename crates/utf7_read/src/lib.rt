@@ -16,7 +16,7 @@ ghost use Rattle.base64.specs.Letters.{setB, slash};
 ghost use Rattle.utf7.specs.Sets.{direct};
 ghost use Rattle.utf7.specs.Rule.{utf7, outsideDoes, unitDoes, mayEnd, endDoes, lowDoes, byteDoes, endsIn};
 ghost use Rattle.utf7.specs.Spans.{spanIn};
-ghost use Rattle.utf7_read.specs.Cursor.{shiftOf, cursorOf, least, told, stepOf, Settled, Moves};
+ghost use Rattle.utf7_read.specs.Cursor.{shiftOf, cursorOf, told, stepOf, Settled, toldMove, moveOf, Moves};
 ghost use Rattle.utf7_read.specs.Passing.{stepFrom, Leads, Gets};
 ghost use Rattle.utf7_read.specs.declared.State.the-variants.{Outside, Run};
 
@@ -180,7 +180,7 @@ fn settled(st: State) -> State
 
 // What a byte does in any state.
 pub fn byte_does(st: State, b: u8) -> Move
-    ensures { λ r. ⌜ Moves r (byteDoes (shiftOf st) b) ⌝ }
+    ensures { λ r. ⌜ toldMove r ≡ moveOf st b ⌝ }
 {
     feed(settled(st), b)
 }
@@ -190,15 +190,6 @@ pub fn ends_in(size: usize, handed: usize, st: State) -> Answer
     ensures { λ r. ⌜ inNumbers r ≡ closing (endsIn size (shiftOf st)) handed ⌝ }
 {
     finish(size, handed, settled(st))
-}
-
-fn lesser(a: usize, b: usize) -> usize
-    ensures { λ r. ⌜ r ≡ least a b ⌝ }
-{
-    if b < a {
-        return b;
-    }
-    a
 }
 
 // How many bytes the cell has that this byte completes: in a run the letters that hold its bits.
@@ -421,8 +412,8 @@ pub fn step(text: &[u8], c: Cursor) -> Stepped
     if answer::over_limit(text.len()) {
         return Stepped::Final(answer::too_long());
     }
-    let at = c.at;
-    let handed = lesser(c.handed, at);
+    let at = reading::lesser(c.at, text.len());
+    let handed = reading::lesser(c.handed, at);
     let given = c.state;
     let a = get_ahead(text, at, settled(given));
     let state = a.state;

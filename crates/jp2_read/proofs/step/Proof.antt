@@ -3,27 +3,31 @@ use mathlib.Core.Path.{_≡_, sym, ap, _∙_}
 use native.Mathlib.Omega.{arith}
 use denote.Ref.{now}
 use borrow.Author.Tests.{ltb-true, ltb-false}
-use Rattle.reading.specs.Stepping.{final, onward, nextAt}
-use Rattle.reading.proofs.Steps.{step-long}
+use Rattle.reading.specs.Stepping.{inText, final, onward, nextAt}
+use Rattle.reading.proofs.Steps.{least-at, step-long}
 use Rattle.jp2.specs.Rule.{jp2}
 use Rattle.jp2.specs.Spans.{spanIn}
 use Rattle.jp2_read.specs.Cursor.{stateOf, spotOf, cursorOf}
 use Rattle.jp2_read.specs.Passing.{stepFrom}
-use Rattle.jp2_read.proofs.Moves.{cell-told, least-at}
+use Rattle.jp2_read.proofs.Moves.{cell-told}
 use borrow.Author.Needs.{needs}
 use Rattle.jp2_read.proofs.step.Statement.{statement}
 use Rattle.jp2_read.proofs.step.Tie as tie
 
-counted : (c : tie.After-lesser) → c .lesser .result ≤ c .before .before .before .before .args .c .at
-counted c = rw (c .lesser .ensures) (least-at _ _)
+counted : (c : tie.After-lesser2) → c .lesser2 .result ≤ c .before .lesser .result
+counted c = rw (c .lesser2 .ensures) (least-at _ _)
 
 -- the step that is to be found is the one from the cursor
 asked :
-    (c : tie.After-lesser) →
-    let a = c .before .before .before .before .args in
-    stepFrom (now (a .text)) (a .c .at) (stateOf (a .c .state)) (c .lesser .result) ≡ nextAt jp2 spanIn (now (a .text)) (spotOf (a .c))
+    (c : tie.After-lesser2) →
+    let l = c .before in
+    let a = l .before .before .before .before .args in
+    stepFrom (now (a .text)) (l .lesser .result) (stateOf (a .c .state)) (c .lesser2 .result)
+    ≡ nextAt jp2 spanIn (now (a .text)) (inText (now (a .text)) (spotOf (a .c)))
 unfolding stepFrom nextAt
-asked c = let o = c .before .before in rw (c .lesser .ensures, sym (o .over-limit .ensures) ∙ c .before .if1 .left)
+asked c =
+    let l = c .before in
+    rw (c .lesser2 .ensures, l .lesser .ensures, sym (l .before .before .over-limit .ensures) ∙ l .before .if1 .left)
 
 over-limit-requires : tie.Need-over-limit-requires
 over-limit-requires c κs = search needs
@@ -39,8 +43,11 @@ returns c =
 lesser-requires : tie.Need-lesser-requires
 lesser-requires c κs = search needs
 
+lesser-requires-2 : tie.Need-lesser-requires-2
+lesser-requires-2 c κs = search needs
+
 told-at-requires : tie.Need-told-at-requires
-told-at-requires c κs = let e = c .before .before in ltb-false _ _ (sym (e .before .over-limit .ensures) ∙ e .if1 .left)
+told-at-requires c κs = let e = c .before .before .before in ltb-false _ _ (sym (e .before .over-limit .ensures) ∙ e .if1 .left)
 
 add-end : tie.Need-add-end
 add-end c = omega (arith, c .before .told-at .ensures (c .if2 .taken) .within)
@@ -67,6 +74,7 @@ step-spec =
     too-long-requires
     returns
     lesser-requires
+    lesser-requires-2
     told-at-requires
     add-end
     add-one-more

@@ -7,13 +7,13 @@ use lib.ListN.{length, drop}
 use borrow.Author.Needs.{needs}
 use borrow.Author.Tests.{ltb-true}
 use Rattle.reading.specs.Spans.{markedAs}
-use Rattle.reading.specs.Stepping.{Spot, Next, final, onward, nextFrom, nextAt}
-use Rattle.reading.proofs.Steps.{Going, going-give, going-go, going-bad, going-end, step-long}
+use Rattle.reading.specs.Stepping.{Spot, inText, Next, final, onward, nextFrom, nextAt}
+use Rattle.reading.proofs.Steps.{least-at, Going, going-give, going-go, going-bad, going-end, step-long}
 use Rattle.mailbox.specs.Rule.{Shift, mailbox}
 use Rattle.mailbox.specs.Spans.{spanIn}
 use Rattle.mailbox_read.specs.Cursor.{shiftOf, cursorOf, spotOf, Settled}
 use Rattle.mailbox_read.specs.declared.State.{State}
-use Rattle.mailbox_read.proofs.Moves.{moved, cell-told, least-at}
+use Rattle.mailbox_read.proofs.Moves.{moved, cell-told}
 use Rattle.mailbox_read.proofs.step.Statement.{statement}
 use Rattle.mailbox_read.proofs.step.Tie as tie
 
@@ -30,11 +30,14 @@ abbrev μ-loop : tie.MeasureT-loop
 -- it is the one from the cursor
 asked :
     (c : tie.After-settled Inv-loop μ-loop) →
-    let a = c .before .before .before .before .before .args in
-    sought (now (a .text)) (a .c .at) (c .before .lesser .result) (c .settled .result) ≡ nextAt mailbox spanIn (now (a .text)) (spotOf (a .c))
+    let l = c .before .before in
+    let a = l .before .before .before .before .args in
+    sought (now (a .text)) (l .lesser .result) (c .before .lesser2 .result) (c .settled .result)
+    ≡ nextAt mailbox spanIn (now (a .text)) (inText (now (a .text)) (spotOf (a .c)))
 unfolding sought nextAt
 asked c =
-    rw (c .before .lesser .ensures, c .settled .ensures .1, sym (c .before .before .before .over-limit .ensures) ∙ c .before .before .if1 .left)
+    let l = c .before .before in
+    rw (c .before .lesser2 .ensures, l .lesser .ensures, c .settled .ensures .1, sym (l .before .before .over-limit .ensures) ∙ l .before .if1 .left)
 
 over-limit-requires : tie.Need-over-limit-requires Inv-loop μ-loop
 over-limit-requires c κs = search needs
@@ -50,12 +53,15 @@ returns c =
 lesser-requires : tie.Need-lesser-requires Inv-loop μ-loop
 lesser-requires c κs = search needs
 
+lesser-requires-2 : tie.Need-lesser-requires-2 Inv-loop μ-loop
+lesser-requires-2 c κs = search needs
+
 settled-requires : tie.Need-settled-requires Inv-loop μ-loop
 settled-requires c κs = search needs
 
 loop-holds : tie.Need-loop-holds Inv-loop μ-loop
 unfolding sought
-loop-holds c = (record { so = refl }, c .settled .ensures .0, rw (c .before .lesser .ensures) (least-at _ _))
+loop-holds c = (record { so = refl }, c .settled .ensures .0, rw (c .before .lesser2 .ensures) (least-at _ _))
 
 shared-slice-read-b : tie.Need-shared-slice-read-b Inv-loop μ-loop
 shared-slice-read-b c = search needs
@@ -136,6 +142,7 @@ step-spec =
     too-long-requires
     returns
     lesser-requires
+    lesser-requires-2
     settled-requires
     loop-holds
     shared-slice-read-b

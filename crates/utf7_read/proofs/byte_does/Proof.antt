@@ -1,4 +1,6 @@
 use borrow.Author.Needs.{needs}
+use Rattle.utf7_read.specs.Cursor.{moveOf}
+use Rattle.utf7_read.proofs.Moves.{move-told}
 use Rattle.utf7_read.proofs.byte_does.Statement.{statement}
 use Rattle.utf7_read.proofs.byte_does.Tie as tie
 
@@ -9,7 +11,8 @@ feed-requires : tie.Need-feed-requires
 feed-requires c κs = c .settled .ensures .0
 
 returns : tie.Need-returns
-returns c = rw (← c .before .settled .ensures .1) (c .feed .ensures)
+unfolding moveOf
+returns c = rw (← c .before .settled .ensures .1) (move-told _ _ (c .feed .ensures))
 
 pub byte-does-spec : {M : Type 1} → statement M
 byte-does-spec = tie.close (tie.spec settled-requires feed-requires returns)

@@ -3,32 +3,32 @@ use mathlib.Core.Path.{_≡_, sym, ap, _∙_}
 use native.Mathlib.Omega.{arith}
 use denote.Ref.{now}
 use borrow.Author.Tests.{ltb-true}
-use Rattle.reading.specs.Stepping.{final, onward, nextAt}
-use Rattle.reading.proofs.Steps.{step-long}
+use Rattle.reading.specs.Stepping.{inText, final, onward, nextAt}
+use Rattle.reading.proofs.Steps.{least-at, step-long}
 use Rattle.utf7.specs.Rule.{utf7}
 use Rattle.utf7.specs.Spans.{spanIn}
 use Rattle.utf7_read.specs.Cursor.{cursorOf, spotOf}
 use Rattle.utf7_read.specs.Passing.{stepFrom, reached}
-use Rattle.utf7_read.proofs.Moves.{cell-told, least-at}
+use Rattle.utf7_read.proofs.Moves.{cell-told}
 use borrow.Author.Needs.{needs}
 use Rattle.utf7_read.proofs.step.Statement.{statement}
 use Rattle.utf7_read.proofs.step.Tie as tie
 
-counted : (c : tie.After-settled) → c .before .lesser .result ≤ c .before .before .before .before .before .args .c .at
-counted c = rw (c .before .lesser .ensures) (least-at _ _)
+counted : (c : tie.After-settled) → c .before .lesser2 .result ≤ c .before .before .lesser .result
+counted c = rw (c .before .lesser2 .ensures) (least-at _ _)
 
 -- the step from where the reader got to is the one from the cursor
 got :
     (c : tie.After-get-ahead) →
     let l = c .before .before in
-    let a = l .before .before .before .before .args in
-    reached (now (a .text)) (c .get-ahead .result) (l .lesser .result) ≡ nextAt utf7 spanIn (now (a .text)) (spotOf (a .c))
+    let a = l .before .before .before .before .before .args in
+    reached (now (a .text)) (c .get-ahead .result) (l .lesser2 .result) ≡ nextAt utf7 spanIn (now (a .text)) (inText (now (a .text)) (spotOf (a .c)))
 unfolding stepFrom nextAt
 got c =
     let s = c .before in
     let l = s .before in
     sym (c .get-ahead .ensures .same _)
-    ∙ rw (l .lesser .ensures, s .settled .ensures .1, sym (l .before .before .over-limit .ensures) ∙ l .before .if1 .left)
+    ∙ rw (l .lesser2 .ensures, l .before .lesser .ensures, s .settled .ensures .1, sym (l .before .before .before .over-limit .ensures) ∙ l .before .before .if1 .left)
 
 over-limit-requires : tie.Need-over-limit-requires
 over-limit-requires c κs = search needs
@@ -43,6 +43,9 @@ returns c =
 
 lesser-requires : tie.Need-lesser-requires
 lesser-requires c κs = search needs
+
+lesser-requires-2 : tie.Need-lesser-requires-2
+lesser-requires-2 c κs = search needs
 
 settled-requires : tie.Need-settled-requires
 settled-requires c κs = search needs
@@ -75,6 +78,7 @@ step-spec =
     too-long-requires
     returns
     lesser-requires
+    lesser-requires-2
     settled-requires
     get-ahead-requires
     mark-requires

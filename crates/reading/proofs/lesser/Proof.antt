@@ -1,6 +1,6 @@
 use borrow.Author.Tests.{lt-ltb, le-ltb}
-use Rattle.utf7_read.proofs.lesser.Statement.{statement}
-use Rattle.utf7_read.proofs.lesser.Tie as tie
+use Rattle.reading.proofs.lesser.Statement.{statement}
+use Rattle.reading.proofs.lesser.Tie as tie
 
 returns : tie.Need-returns
 returns c = simp (lt-ltb _ _ (c .if1 .taken))
