@@ -1,7 +1,7 @@
 -- What the worked page of document 01 asks of the codec, computed. Assumes nothing.
 use Prim.Native.Nat.{ℕ}
 use mathlib.Core.Path.{_≡_, refl}
-use mathlib.Core.Bool.{true}
+use mathlib.Core.Bool.{true, false}
 use mathlib.Core.List.{List, [], _∷_}
 use Rattle.bits.specs.Bits.{bits, number, allZero, bitsOf, groups, full, filler}
 use Rattle.base64.specs.Letters.{valueOf, setB, letterOf}
@@ -23,6 +23,10 @@ cellsRead = 0x41 ∷ 0x2262 ∷ 0x391 ∷ 0x2E ∷ []
 abbrev pub cellsEdited : List ℕ
 cellsEdited = 0x41 ∷ 0x3D ∷ 0x391 ∷ 0x2E ∷ []
 
+-- with a cell at 1 that UTF-7 cannot write
+abbrev pub cellsGreat : List ℕ
+cellsGreat = 0x41 ∷ 0x10000 ∷ 0x391 ∷ 0x2E ∷ []
+
 abbrev pub written : List ℕ
 written = 65 ∷ 61 ∷ 43 ∷ 65 ∷ 53 ∷ 69 ∷ 45 ∷ 46 ∷ []
 
@@ -34,6 +38,10 @@ pub letter-reads-as : readsAs Utf7Body letter cellsRead ≡ true
 unfolding sameCells readsIn
 letter-reads-as = rw letter-reads
 
+pub letter-reads-other : readsAs Utf7Body letter cellsEdited ≡ false
+unfolding sameCells readsIn
+letter-reads-other = rw letter-reads
+
 pub sign-writable : firstUnwritable Utf7Body (0x3D ∷ []) ≡ 1
 unfolding firstOver firstUnwritable
 sign-writable = refl
@@ -41,6 +49,10 @@ sign-writable = refl
 pub edited-writable : firstUnwritable Utf7Body cellsEdited ≡ 4
 unfolding firstOver firstUnwritable
 edited-writable = refl
+
+pub great-unwritable : firstUnwritable Utf7Body cellsGreat ≡ 1
+unfolding firstOver firstUnwritable
+great-unwritable = refl
 
 pub edited-writes : writingIn Utf7Body cellsEdited ≡ written
 unfolding bits number allZero bitsOf groups full filler letterOf alphanumeric setD setO direct own pieces letters spell spellAll writing writingIn

@@ -1,1 +1,2 @@
 pub mod OnPages
+pub mod Runs

@@ -1,24 +1,35 @@
--- Document 01's worked page, "Body page on P2, one cell at 1 replaced by 003D", and pages damaged by hand, computed. Assumes nothing.
+-- Document 01's worked page, "Body page on P2, one cell at 1 replaced by 003D", pages damaged by hand, the order of the
+-- refusals and what a replace records, computed. Assumes nothing.
 use Prim.Native.Nat.{ℕ}
 use mathlib.Core.Path.{_≡_, refl}
 use mathlib.Core.List.{List, [], _∷_, _++_}
+use native.Mathlib.Omega.{arith}
 use lib.ListN.{replicate}
+use borrow.Author.Tests.{le-ltb}
 use Rattle.answer.specs.Answer.{numbered, limit}
+use Rattle.reading.specs.Reading.{fault}
 use Rattle.codec.specs.declared.Kind.the-variants.{Utf7Body}
-use Rattle.codec.proofs.Worked.{letter, cellsRead, cellsEdited, written, letter-reads, letter-reads-as, sign-writable, edited-writable, edited-writes}
+use Rattle.codec.specs.Kinds.{firstUnwritable}
+use Rattle.codec.proofs.Worked.{letter, cellsRead, cellsEdited, cellsGreat, written, letter-reads, letter-reads-as, letter-reads-other, sign-writable, great-unwritable, edited-writable, edited-writes}
 use Rattle.ledger.specs.Words.{recordsIn, reached, lengthsFit, partAt, zeros}
 use Rattle.ledger.specs.Page.{State, stateOf, framed, reachedAtDone, fitting, records, Outcome}
 use Rattle.ledger.specs.Calls.{undoLast, undoParted, undoOf, redoNext, redoParted, redoOf, replaceFitting, replaceSound, replaceParted, replaceOf, savedAs, saveStanding, saveParted, saveOf, openRead, openOf}
 
 -- a body page of four cells, with its words used and done, beside these buffers
 abbrev pub page : ℕ → ℕ → List ℕ → List ℕ → State
-page used done text history = stateOf (record { kind = Utf7Body; opening = 4; length = 4; used = used; done = done }) text history
+page used done text history =
+    stateOf (record { kind = Utf7Body; opening = 4; length = 4; used = used; done = done }) text history
 
 abbrev pub accepts : ℕ → State → List ℕ → Outcome
 accepts count s out = record { verdict = numbered 0 count; state = s; output = out }
 
 abbrev pub step : List ℕ
 step = 1 ∷ 1 ∷ 1 ∷ 0x2262 ∷ 0x3D ∷ []
+
+-- "a refused open gives the kind with four zeros"
+abbrev pub nothingOpened : State
+nothingOpened =
+    stateOf (record { kind = Utf7Body; opening = 0; length = 0; used = 0; done = 0 }) (replicate 3 9) (replicate 3 9)
 
 -- each call is made on the state that the one before it leaves, in buffers of five cells and five words
 abbrev pub onOpen : State
@@ -32,6 +43,9 @@ onUndo = page 5 0 (cellsRead ++ 0 ∷ []) step
 
 pub record Worked : Type 0 where
   pub opens : openOf Utf7Body letter (replicate 5 9) (replicate 5 9) ≡ accepts 4 onOpen []
+  pub opens-short :
+      openOf Utf7Body letter (replicate 3 9) (replicate 3 9)
+      ≡ record { verdict = numbered 9 4; state = nothingOpened; output = [] }
   pub replaces : replaceOf onOpen 1 1 (0x3D ∷ []) ≡ accepts 4 onReplace []
   pub saves : saveOf onReplace letter (replicate 9 9) ≡ accepts 8 onReplace (written ++ 9 ∷ [])
   pub undoes : undoOf onReplace ≡ accepts 4 onUndo []
@@ -45,6 +59,7 @@ unfolding limit recordsIn reached lengthsFit partAt zeros framed reachedAtDone f
 worked =
     record {
       opens = rw letter-reads;
+      opens-short = rw letter-reads;
       replaces = rw sign-writable;
       saves = rw (edited-writable, edited-writes);
       undoes = refl;
@@ -62,7 +77,14 @@ pub record Damaged : Type 0 where
   pub undone-cut : undoOf (page 4 0 (cellsRead ++ 0 ∷ []) (1 ∷ 1 ∷ 1 ∷ 0x2262 ∷ [])) .verdict ≡ numbered 14 0
   pub undone-beyond : undoOf (page 5 0 (cellsRead ++ 0 ∷ []) (4 ∷ 1 ∷ 1 ∷ 0x2262 ∷ 0x3D ∷ [])) .verdict ≡ numbered 14 0
   pub undone-too-long : undoOf (page 5 0 cellsRead (0 ∷ 0 ∷ 2 ∷ 0x3D ∷ 0x3D ∷ [])) .verdict ≡ numbered 14 0
-  pub other-length : undoOf (page 5 5 (cellsEdited ++ 0 ∷ []) (1 ∷ 0 ∷ 2 ∷ 0x3D ∷ 0x3D ∷ [])) .verdict ≡ numbered 14 0
+  pub other-length :
+      undoOf (page 5 5 (cellsEdited ++ 0 ∷ 0 ∷ 0 ∷ []) (1 ∷ 0 ∷ 2 ∷ 0x3D ∷ 0x3D ∷ [])) .verdict ≡ numbered 14 0
+  pub opening-beyond :
+      undoOf
+      (stateOf (record { kind = Utf7Body; opening = 6; length = 4; used = 5; done = 5 }) (cellsRead ++ 0 ∷ [])
+      (0 ∷ 2 ∷ 0 ∷ 0x41 ∷ 0x41 ∷ []))
+      .verdict
+      ≡ numbered 14 0
 
 pub damaged : Damaged
 unfolding limit recordsIn reached lengthsFit partAt zeros framed reachedAtDone fitting records undoLast undoParted undoOf
@@ -75,4 +97,51 @@ damaged =
       undone-beyond = refl;
       undone-too-long = refl;
       other-length = refl;
+      opening-beyond = refl;
+    }
+
+-- where two refusals hold, the one that comes first in document 01's order is given
+pub record Ordered : Type 0 where
+  -- "Replace: 14, 11, 10, 9, 12"
+  pub replace-14 : replaceOf (page 0 0 (cellsRead ++ 7 ∷ []) []) 5 0 (0x3D ∷ []) .verdict ≡ numbered 14 0
+  pub replace-11 : replaceOf (page 0 0 cellsRead []) 5 0 cellsGreat .verdict ≡ numbered 11 4
+  pub replace-10 : replaceOf (page 0 0 cellsRead []) 0 0 cellsGreat .verdict ≡ numbered 10 1
+  pub replace-9 : replaceOf (page 0 0 cellsRead []) 0 0 (0x3D ∷ []) .verdict ≡ numbered 9 5
+  -- "Undo, redo: 14, 13"
+  pub undo-14 : undoOf (page 0 0 (cellsRead ++ 7 ∷ []) []) .verdict ≡ numbered 14 0
+  pub redo-14 : redoOf (page 0 0 (cellsRead ++ 7 ∷ []) []) .verdict ≡ numbered 14 0
+  -- "Save: 14, then 15 where no step stands or 10 where one does, then 9"
+  pub save-14 : saveOf (page 0 0 (cellsEdited ++ 7 ∷ []) []) letter [] .verdict ≡ numbered 14 0
+  pub save-15 : saveOf (page 0 0 cellsEdited []) letter [] .verdict ≡ numbered 15 0
+  pub save-10 : saveOf (page 5 5 cellsGreat (1 ∷ 1 ∷ 1 ∷ 0x2262 ∷ 0x10000 ∷ [])) letter [] .verdict ≡ numbered 10 1
+  -- "9 only for a text with no fault"
+  pub open-fault : openRead Utf7Body [] [] (fault 2 2) (0x41 ∷ []) .verdict ≡ numbered 2 2
+
+pub ordered : Ordered
+unfolding limit recordsIn reached lengthsFit partAt zeros framed reachedAtDone fitting records undoParted undoOf redoParted redoOf replaceFitting replaceSound replaceParted replaceOf savedAs saveStanding saveParted saveOf openRead
+ordered =
+    record {
+      replace-14 = refl;
+      replace-11 = refl;
+      replace-10 = rw great-unwritable;
+      replace-9 = rw sign-writable;
+      undo-14 = refl;
+      redo-14 = refl;
+      save-14 = refl;
+      save-15 = rw letter-reads-other;
+      save-10 = rw great-unwritable;
+      open-fault = refl;
+    }
+
+-- what is recorded: "room of dropped steps is used again", and "Removing nothing and adding nothing is a step too."
+pub record Recorded : Type 0 where
+  pub room-again : replaceOf onUndo 1 1 (0x3D ∷ []) ≡ accepts 4 onReplace []
+  pub nothing : replaceOf onOpen 1 0 [] ≡ accepts 4 (page 3 3 (cellsRead ++ 0 ∷ []) (1 ∷ 0 ∷ 0 ∷ 0 ∷ 0 ∷ [])) []
+
+pub recorded : Recorded
+unfolding limit recordsIn reached lengthsFit partAt zeros framed reachedAtDone fitting records replaceFitting replaceSound replaceParted replaceOf
+recorded =
+    record {
+      room-again = rw sign-writable;
+      nothing = rw (le-ltb (firstUnwritable Utf7Body []) 0 (omega arith));
     }

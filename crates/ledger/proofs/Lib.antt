@@ -11,3 +11,4 @@ pub mod Opens
 pub mod Demand
 pub mod Limit
 pub mod Example
+pub mod Refusals

@@ -5,3 +5,4 @@ pub mod Calls
 pub mod Ledger
 pub mod Running
 pub mod Demand
+pub mod Refusals

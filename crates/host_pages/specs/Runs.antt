@@ -1,0 +1,60 @@
+-- Demand 3 through C: a host's list of calls after an accepted open.
+use Prim.Native.Nat.{ℕ}
+use mathlib.Core.Path.{_≡_}
+use mathlib.Core.Bool.{Bool, true}
+use mathlib.Core.List.{List, [], _∷_}
+use lib.Dec.{eqb}
+use Rattle.codec.specs.declared.Kind.{Kind}
+use Rattle.ledger.specs.Page.{State}
+use Rattle.ledger.specs.Calls.{openOf, replaceOf, undoOf, redoOf, saveOf}
+use Rattle.ledger.specs.Ledger.{Ledger, Call, replace, undo, redo, save, opened, fed}
+use Rattle.ledger.specs.Demand.{Promised}
+use Rattle.host_pages.specs.Pages.{hostPage, HostOutcome, hosted, onPage}
+use Rattle.host_pages.specs.declared.HostPage.{HostPage}
+
+-- the page that a host has in hand, and its buffers
+pub record HostState : Type 0 where
+  pub page : HostPage
+  pub text : List ℕ
+  pub history : List ℕ
+
+abbrev pub hostState : State → HostState
+hostState s = record { page = hostPage (s .page); text = s .text; history = s .history }
+
+abbrev pub leftBy : HostOutcome → HostState
+leftBy o = record { page = o .page; text = o .text; history = o .history }
+
+-- "0, accepted"
+abbrev pub hostTaken : HostOutcome → Bool
+hostTaken o = eqb (o .verdict .number) 0
+
+-- the calls, as the promises of the functions for hosts say them
+abbrev pub hostOutcome : HostState → Call → HostOutcome
+hostOutcome h (replace place count cells) =
+    onPage (h .page) (h .text) (h .history) [] cells (λ s. replaceOf s place count cells)
+hostOutcome h undo = onPage (h .page) (h .text) (h .history) [] [] undoOf
+hostOutcome h redo = onPage (h .page) (h .text) (h .history) [] [] redoOf
+hostOutcome h (save arrived out) = onPage (h .page) (h .text) (h .history) out arrived (λ s. saveOf s arrived out)
+
+-- each call is given the page and the buffers as the last one left them
+abbrev pub hostAfter : HostState → List Call → HostState
+hostAfter h [] = h
+hostAfter h (c ∷ cs) = hostAfter (leftBy (hostOutcome h c)) cs
+
+-- the ledger hears each call and whether the host was told 0
+abbrev pub hostHeard : Ledger → HostState → List Call → Ledger
+hostHeard l h [] = l
+hostHeard l h (c ∷ cs) = hostHeard (fed l c (hostTaken (hostOutcome h c))) (leftBy (hostOutcome h c)) cs
+
+-- what a host has in hand is a page with its buffers of which demand 3 holds, by the ledger that heard its calls
+pub record HostPromised (arrived : List ℕ) (h : HostState) (l : Ledger) : Type 0 where
+  pub state : State
+  pub in-hand : h ≡ hostState state
+  pub promised : Promised arrived state l
+
+abbrev pub HostDemand3 : Type 0
+HostDemand3 =
+    (kind : Kind) (arrived text history : List ℕ) → hostTaken (hosted (openOf kind arrived text history)) ≡ true →
+    (calls : List Call) →
+    HostPromised arrived (hostAfter (leftBy (hosted (openOf kind arrived text history))) calls)
+    (hostHeard (opened kind arrived) (leftBy (hosted (openOf kind arrived text history))) calls)
