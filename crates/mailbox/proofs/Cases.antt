@@ -5,11 +5,13 @@ use Rattle.answer.specs.Output.{deliver}
 use Rattle.bits.specs.Bits.{bits, number, allZero, bitsOf, groups, full, filler}
 use Rattle.base64.specs.Letters.{valueOf, setB, letterOf}
 use Rattle.reading.specs.Reading.{readFrom, reading, readInto}
+use Rattle.reading.specs.Spans.{markedFrom, markedIn}
 use Rattle.utf7.specs.Sets.{own}
 use Rattle.utf7.specs.Writing.{pieces, letters, spell, spellAll, writing, firstOver, writeInto}
 use Rattle.mailbox.specs.Rule.{outsideDoes, givesUnit, unitDoes, closeDoes, lowDoes, byteDoes, endsIn}
-use Rattle.mailbox.specs.Cases.{All, cases}
+use Rattle.mailbox.specs.Spans.{spanIn}
+use Rattle.mailbox.specs.Cases.{AllHold}
 
-pub hold : All cases
-unfolding limit deliver bits number allZero bitsOf groups full filler valueOf setB letterOf readFrom reading readInto own pieces letters spell spellAll writing firstOver writeInto outsideDoes givesUnit unitDoes closeDoes lowDoes byteDoes endsIn
-hold = (refl, (refl, (refl, (refl, (refl, ((λ _. refl), (refl, ((λ _. refl), ((λ _. refl), (refl, ((λ _. refl), ((λ _. refl), ((λ _. refl), ((λ _. refl), ((λ _. refl), tt)))))))))))))))
+pub hold : AllHold
+unfolding limit deliver bits number allZero bitsOf groups full filler valueOf setB letterOf readFrom reading readInto markedFrom markedIn own pieces letters spell spellAll writing firstOver writeInto outsideDoes givesUnit unitDoes closeDoes lowDoes byteDoes endsIn spanIn
+hold = (refl, (refl, (refl, (refl, (refl, ((λ _. refl), ((λ _. refl), ((λ _. refl), ((λ _. refl), ((λ _. refl), ((λ _. refl), ((λ _. refl), ((λ _. refl), (refl, ((λ _. refl), ((λ _. refl), (refl, ((λ _. refl), ((λ _. refl), ((λ _. refl), ((λ _. refl), ((λ _. refl), (refl, (refl, ((λ _. refl), tt)))))))))))))))))))))))))

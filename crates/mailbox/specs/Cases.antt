@@ -1,59 +1,56 @@
 -- Small cases of mailbox names, one table and what it states.
-use Prim.Native.Nat.{ℕ}
-use mathlib.Core.Path.{_≡_}
-use mathlib.Core.List.{List, [], _∷_, map}
-use lib.ListN.{length}
-use Rattle.answer.specs.Answer.{numbered}
-use Rattle.answer.specs.Output.{Outcome, refusing}
-use Rattle.reading.specs.Reading.{readInto}
+use mathlib.Core.List.{List, [], _∷_}
+use Rattle.answer.specs.Lists.{Each}
+use Rattle.reading.specs.Cases.{Case, reads, fails, stands, writes, unwritable, cell, Holds}
 use Rattle.utf7.specs.Writing.{writeInto}
+use Rattle.utf7.specs.declared.Style.{Style}
 use Rattle.utf7.specs.declared.Style.the-variants.{Name}
 use Rattle.mailbox.specs.Rule.{mailbox}
+use Rattle.mailbox.specs.Spans.{spanIn}
 
--- a name that reads as cells, one that is refused with a number and a place, cells that are written as a name
-pub data Case : Type 0 where
-  reads : List ℕ → List ℕ → Case
-  fails : List ℕ → ℕ → ℕ → Case
-  writes : List ℕ → List ℕ → Case
-
--- a call that is accepted and fills an output of just that length
-abbrev pub Fills : (List ℕ → Outcome) → List ℕ → Type 0
-Fills call result = call (map (λ _. 0) result) ≡ record { verdict = numbered 0 (length result); out = result }
-
-abbrev pub Holds : Case → Type 0
-Holds (reads text cells) = Fills (readInto mailbox text) cells
-Holds (fails text number place) = (out : List ℕ) → readInto mailbox text out ≡ refusing (numbered number place) out
-Holds (writes cells text) = Fills (writeInto Name cells) text
-
-abbrev pub All : List Case → Type 0
-All [] = Unit
-All (c ∷ cs) = Holds c × All cs
-
-abbrev pub cases : List Case
+abbrev pub cases : List (Case Style)
 cases =
     -- the empty name
-    reads [] []
-    -- "&ZeVnLIqe-", and back
-    ∷ reads (38 ∷ 90 ∷ 101 ∷ 86 ∷ 110 ∷ 76 ∷ 73 ∷ 113 ∷ 101 ∷ 45 ∷ []) (0x65E5 ∷ 0x672C ∷ 0x8A9E ∷ [])
-    ∷ writes (0x65E5 ∷ 0x672C ∷ 0x8A9E ∷ []) (38 ∷ 90 ∷ 101 ∷ 86 ∷ 110 ∷ 76 ∷ 73 ∷ 113 ∷ 101 ∷ 45 ∷ [])
-    -- "&-", and back
-    ∷ reads (38 ∷ 45 ∷ []) (0x26 ∷ [])
-    ∷ writes (0x26 ∷ []) (38 ∷ 45 ∷ [])
-    -- "&": nothing behind the sign
-    ∷ fails (38 ∷ []) 2 1
-    -- "&AKM-&-": the ampersand is no run
-    ∷ reads (38 ∷ 65 ∷ 75 ∷ 77 ∷ 45 ∷ 38 ∷ 45 ∷ []) (0xA3 ∷ 0x26 ∷ [])
-    -- "&AKM-&AKM-": a run directly after a run
-    ∷ fails (38 ∷ 65 ∷ 75 ∷ 77 ∷ 45 ∷ 38 ∷ 65 ∷ 75 ∷ 77 ∷ 45 ∷ []) 17 6
-    -- "&ACY-": a printable unit
-    ∷ fails (38 ∷ 65 ∷ 67 ∷ 89 ∷ 45 ∷ []) 17 3
-    -- "&,,8-" and "&,/8-": `,` replaces `/`
-    ∷ reads (38 ∷ 44 ∷ 44 ∷ 56 ∷ 45 ∷ []) (0xFFFF ∷ [])
-    ∷ fails (38 ∷ 44 ∷ 47 ∷ 56 ∷ 45 ∷ []) 3 2
-    -- "&AKN" and "&AKN!": a run left open, and a byte that is no letter
-    ∷ fails (38 ∷ 65 ∷ 75 ∷ 78 ∷ []) 7 4
-    ∷ fails (38 ∷ 65 ∷ 75 ∷ 78 ∷ 33 ∷ []) 3 4
-    -- "&A-" and "&B-": six left-over bits, zero and not
-    ∷ fails (38 ∷ 65 ∷ 45 ∷ []) 17 2
-    ∷ fails (38 ∷ 66 ∷ 45 ∷ []) 4 2
+    reads "" []
+    -- a run, and back
+    ∷ reads "&ZeVnLIqe-" (0x65E5 ∷ 0x672C ∷ 0x8A9E ∷ [])
+    ∷ writes Name (0x65E5 ∷ 0x672C ∷ 0x8A9E ∷ []) "&ZeVnLIqe-"
+    -- the ampersand, and back
+    ∷ reads "&-" (0x26 ∷ [])
+    ∷ writes Name (0x26 ∷ []) "&-"
+    -- 1, a byte of 128 or more: outside a run, directly after its sign, in it, and where it may not end
+    ∷ fails "a\u{80}" 1 1
+    ∷ fails "&\u{80}" 1 1
+    ∷ fails "&AKMÿ" 1 4
+    ∷ fails "&AKN\u{80}" 1 4
+    -- 2, nothing behind the sign, or neither a letter nor `-`, before 3
+    ∷ fails "&" 2 1
+    ∷ fails "&\t" 2 1
+    -- 3, a byte that is not 32 to 126: the earliest place decides
+    ∷ fails "a\t\u{80}" 3 1
+    ∷ fails "\u{7f}" 3 0
+    -- the ampersand is no run
+    ∷ reads "&AKM-&-" (0xA3 ∷ 0x26 ∷ [])
+    -- 17, a run directly after a run
+    ∷ fails "&AKM-&AKM-" 17 6
+    -- 17, a printable unit
+    ∷ fails "&ACY-" 17 3
+    -- `,` replaces `/`
+    ∷ reads "&,,8-" (0xFFFF ∷ [])
+    ∷ fails "&,/8-" 3 2
+    -- 7, a run left open, and 3, a byte that is no letter
+    ∷ fails "&AKN" 7 4
+    ∷ fails "&AKN!" 3 4
+    -- six left-over bits: 17 if zero, else 4
+    ∷ fails "&A-" 17 2
+    ∷ fails "&B-" 4 2
+    -- outside runs a cell's own byte, and the two bytes of `&-`
+    ∷ stands "a&-b" (cell 0x61 0 1 ∷ cell 0x26 1 3 ∷ cell 0x62 3 4 ∷ [])
+    -- in a run from the letter with the first bit to that with the last: neighbours share one
+    ∷ stands "&ZeVnLIqe-." (cell 0x65E5 1 4 ∷ cell 0x672C 3 7 ∷ cell 0x8A9E 6 9 ∷ cell 0x2E 10 11 ∷ [])
+    -- the first cell that is no unit
+    ∷ unwritable Name (0xFFFF ∷ 0x10000 ∷ 0x41 ∷ 0x10000 ∷ []) 1
     ∷ []
+
+abbrev pub AllHold : Type 0
+AllHold = Each (Holds mailbox spanIn writeInto) cases

@@ -3,3 +3,4 @@ pub mod Spans
 pub mod Stepping
 pub mod Matching
 pub mod Inner
+pub mod Cases

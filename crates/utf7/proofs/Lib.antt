@@ -8,3 +8,4 @@ pub mod Needed
 pub mod Lines
 pub mod ReadsBack
 pub mod Over
+pub mod Cases

@@ -3,3 +3,4 @@ pub mod Rule
 pub mod Spans
 pub mod Writing
 pub mod Lines
+pub mod Cases

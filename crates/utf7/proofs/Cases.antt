@@ -1,0 +1,17 @@
+-- The cases hold of the definitions that the promises cite, by computing them. Assumes nothing.
+use mathlib.Core.Path.{refl}
+use Rattle.answer.specs.Answer.{limit}
+use Rattle.answer.specs.Output.{deliver}
+use Rattle.bits.specs.Bits.{bits, number, allZero, bitsOf, groups, full, filler}
+use Rattle.base64.specs.Letters.{valueOf, setB, letterOf}
+use Rattle.reading.specs.Reading.{readFrom, reading, readInto}
+use Rattle.reading.specs.Spans.{markedFrom, markedIn}
+use Rattle.utf7.specs.Sets.{alphanumeric, setD, setO, direct, own}
+use Rattle.utf7.specs.Rule.{outsideDoes, unitDoes, mayEnd, endDoes, lowDoes, byteDoes, endsIn}
+use Rattle.utf7.specs.Spans.{spanIn}
+use Rattle.utf7.specs.Writing.{pieces, letters, spell, spellAll, writing, firstOver, writeInto}
+use Rattle.utf7.specs.Cases.{AllHold}
+
+pub hold : AllHold
+unfolding limit deliver bits number allZero bitsOf groups full filler valueOf setB letterOf readFrom reading readInto markedFrom markedIn alphanumeric setD setO direct own outsideDoes unitDoes mayEnd endDoes lowDoes byteDoes endsIn spanIn pieces letters spell spellAll writing firstOver writeInto
+hold = ((λ _. refl), ((λ _. refl), ((λ _. refl), ((λ _. refl), ((λ _. refl), ((λ _. refl), ((λ _. refl), ((λ _. refl), ((λ _. refl), ((λ _. refl), ((λ _. refl), ((λ _. refl), ((λ _. refl), (refl, (refl, (refl, (refl, (refl, (refl, (refl, (refl, ((λ _. refl), tt))))))))))))))))))))))
