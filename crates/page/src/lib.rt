@@ -279,13 +279,13 @@ pub fn replace(
 }
 
 // A page on which nothing was done.
-fn fresh(kind: Kind, length: usize) -> Page
-    ensures { λ r. ⌜ r ≡ freshPage kind length ⌝ }
+fn fresh(kind: Kind, size: usize) -> Page
+    ensures { λ r. ⌜ r ≡ freshPage kind size ⌝ }
 {
     Page {
         kind,
-        opening: length,
-        length,
+        opening: size,
+        length: size,
         used: 0,
         done: 0,
     }

@@ -10,14 +10,15 @@ use lib.Dec.{ltb, lit<}
 use borrow.Author.Tests.{ltb-true}
 use Rattle.answer.specs.Lists.{Each}
 use Rattle.answer.proofs.Below.{both, cond-case}
-use Rattle.bits.specs.Bits.{allZero, bitsOf, full, leftOver, filler}
+use Rattle.bits.specs.Bits.{allZero, bitsOf, groups, full, leftOver, filler}
 use Rattle.bits.proofs.Groups.{length-bitsOf, full-bits, full-left}
 use Rattle.base64.specs.Letters.{valueOf, setB, slash, letterOf}
 use Rattle.base64.proofs.Letters.{Sign, slash-sign, letter-value}
-use Rattle.reading.specs.Reading.{Does, Ending, Reading, accepted, onRead, readFrom}
+use Rattle.reading.specs.Reading.{Does, give, go, bad, Ending, Reading, accepted, onRead, readFrom, reading}
 use Rattle.reading.proofs.Walk.{walk-read, no-fault}
-use Rattle.utf7.specs.Rule.{Shift, outside, run, mayEnd, endDoes, lowDoes, byteDoes, endsIn, utf7}
+use Rattle.utf7.specs.Rule.{Shift, outside, opening, run, mayEnd, outsideDoes, endDoes, lowDoes, byteDoes, endsIn, utf7}
 use Rattle.utf7.specs.Writing.{letters}
+use Rattle.utf7.specs.Needed.{lettersFirst, Needed, OnRun, RunsNeeded}
 use Rattle.utf7.proofs.Round.{Letters, whole-run}
 
 -- zeros that fill the last group of six, and are fewer than six, are the filler
@@ -55,11 +56,11 @@ module _ (last : ℕ) (s : Sign last) where
       rw (← f, ← whole, ← append-nil (bitsOf 6 xs), full-bits 6 (lit< tt) xs [] (values-low ls h) (lit< tt)) (letters-back ls h)
 
 -- the bits of a run's letters
-abbrev pub runBits : List ℕ → List Bool
+abbrev runBits : List ℕ → List Bool
 runBits ls = bitsOf 6 (map (valueOf slash) ls)
 
 -- where a run is over: at the end, or before a byte that is no letter
-abbrev pub Over : List ℕ → Type 0
+abbrev Over : List ℕ → Type 0
 Over [] = Unit
 Over (b ∷ bs) = setB slash b ≡ false
 
@@ -82,10 +83,9 @@ unfolding readFrom
 ends-well [] at f o = run-ends at f
 ends-well (b ∷ rest) at f o = byte-ends b at f (readFrom utf7 rest (at + 1)) o
 
--- every run of an accepted text has exactly the letters that its units need
-pub run-letters-needed :
-    (ls rest : List ℕ) (at : ℕ) → 0 < length ls → Letters slash ls → Over rest → readFrom utf7 (43 ∷ (ls ++ rest)) at outside .ending ≡ accepted →
-    letters slash (bitsOf 16 (full 16 (runBits ls))) ≡ ls
+-- a run that is read from outside to its end, which is accepted
+run-letters-needed :
+    (ls rest : List ℕ) (at : ℕ) → 0 < length ls → Letters slash ls → Over rest → readFrom utf7 (43 ∷ (ls ++ rest)) at outside .ending ≡ accepted → Needed ls
 unfolding mayEnd
 run-letters-needed ls rest at some h o a =
     let bs = runBits ls in
@@ -93,3 +93,45 @@ run-letters-needed ls rest at some h o a =
     let e : mayEnd (leftOver 16 bs) ≡ true = ends-well rest _ (leftOver 16 bs) o (ap (λ (r : Reading). r .ending) (sym w) ∙ a) in
     let f = both (allZero (leftOver 16 bs)) _ e in
     letters-needed slash slash-sign ls (full 16 bs) (leftOver 16 bs) h (sym (full-left 16 bs)) (f .0) (ltb-true _ _ (f .1))
+
+-- the letters behind a sign, and what ends them
+record Behind (bs : List ℕ) : Type 0 where
+  rest : List ℕ
+  whole : lettersFirst bs ++ rest ≡ bs
+  all : Letters slash (lettersFirst bs)
+  over : Over rest
+
+behind : (bs : List ℕ) → Behind bs
+unfolding lettersFirst
+behind [] = record { rest = []; whole = refl; all = tt; over = tt }
+behind (b ∷ bs) = told (setB slash b) refl (behind bs)
+  where
+    told : (t : Bool) → setB slash b ≡ t → Behind bs → Behind (b ∷ bs)
+    told true e r = record { rest = r .rest; whole = rw (e, r .whole); all = rw e (e, r .all); over = r .over }
+    told false e r = record { rest = b ∷ bs; whole = rw e; all = rw e tt; over = e }
+
+opened-by : (ls rest : List ℕ) (at : ℕ) → Letters slash ls → Over rest → readFrom utf7 (ls ++ rest) (at + 1) opening .ending ≡ accepted → Needed ls
+unfolding readFrom byteDoes lowDoes outsideDoes letters bitsOf full groups filler
+opened-by [] rest at h o a = refl
+opened-by (b ∷ ls) rest at h o a = run-letters-needed (b ∷ ls) rest at (omega arith) h o a
+
+needed-does :
+    (m : Does Shift) (bs : List ℕ) (at : ℕ) → ((shift : Shift) → readFrom utf7 bs (at + 1) shift .ending ≡ accepted → RunsNeeded bs shift) →
+    onRead m at (readFrom utf7 bs (at + 1)) .ending ≡ accepted → OnRun m bs (RunsNeeded bs)
+needed-does (give v shift) bs at ih a = ih shift a
+needed-does (go outside) bs at ih a = (tt, ih outside a)
+needed-does (go opening) bs at ih a =
+    let r = behind bs in
+    (opened-by (lettersFirst bs) (r .rest) at (r .all) (r .over) (rw (r .whole) a), ih opening a)
+needed-does (go (run pending)) bs at ih a = (tt, ih (run pending) a)
+needed-does (bad k) bs at ih a = no-fault k at a
+
+needed-from : (bs : List ℕ) (at : ℕ) (shift : Shift) → readFrom utf7 bs at shift .ending ≡ accepted → RunsNeeded bs shift
+unfolding readFrom RunsNeeded
+needed-from [] at shift a = tt
+needed-from (b ∷ bs) at shift a = needed-does (byteDoes shift b) bs at (needed-from bs (at + 1)) a
+
+-- every run of an accepted text, wherever it stands, has exactly the letters that its units need
+pub runs-needed : (text : List ℕ) → reading utf7 text .ending ≡ accepted → RunsNeeded text outside
+unfolding reading
+runs-needed text a = needed-from text 0 outside a

@@ -1,8 +1,7 @@
 use Prim.Native.Nat.{ℕ, _-_, _<_, _≤_}
 use mathlib.Core.Path.{_≡_, sym, _∙_}
 use native.Mathlib.Omega.{arith}
-use lib.ListN as list
-use lib.ListN.{getD}
+use lib.ListN.{length, getD}
 use borrow.Author.Needs.{needs}
 use Rattle.jp2.specs.Table.{rowAt, sent}
 use Rattle.jp2.specs.declared.Designation.{Designation}
@@ -12,10 +11,10 @@ use Rattle.jp2.proofs.begins_row.Statement.{statement}
 use Rattle.jp2.proofs.begins_row.Tie as tie
 
 abbrev Inv-loop : tie.InvT-loop
-Inv-loop bytes i escape length k₀ k = Agree bytes (sent (rowAt i)) k
+Inv-loop bytes i escape n k₀ k = Agree bytes (sent (rowAt i)) k
 
 abbrev μ-loop : tie.MeasureT-loop
-μ-loop bytes i escape length k₀ k = list.length bytes - k
+μ-loop bytes i escape n k₀ k = length bytes - k
 
 row-at-requires : tie.Need-row-at-requires Inv-loop μ-loop
 row-at-requires c κs = search needs
@@ -37,7 +36,7 @@ module _ (c : tie.In-loop Inv-loop μ-loop) where
   most : d .length ≤ 4
   most = row-most (r .before .before .pre) (r .row-at .ensures)
 
-  size : list.length (sent (rowAt i)) ≡ d .length
+  size : length (sent (rowAt i)) ≡ d .length
   size = row-size (r .before .before .pre) (r .row-at .ensures)
 
   byte : (k : ℕ) → k < d .length → getD (sent (rowAt i)) k 0 ≡ getD (d .escape) k 0
