@@ -1,4 +1,4 @@
--- Texts in tables of cases, and in papers: a string's bytes.
+-- A string as the bytes that it stands for: texts of tables.
 use Prim.Native.Nat.{ℕ}
 use Prim.Native.Char.{code}
 use Prim.Native.String.{String, [], _∷_}

@@ -29,8 +29,8 @@ abbrev pub cell : ℕ → ℕ → ℕ → Marked
 cell value begin end = record { value = value; begin = begin; end = end }
 
 -- a call that is accepted and fills an output of just that length
-abbrev pub Fills : (List ℕ → Outcome) → List ℕ → Type 0
-Fills call result = call (map (λ _. 0) result) ≡ record { verdict = numbered 0 (length result); out = result }
+abbrev pub Accepts : (List ℕ → Outcome) → List ℕ → Type 0
+Accepts call result = call (map (λ _. 0) result) ≡ record { verdict = numbered 0 (length result); out = result }
 
 -- a call that is refused, whatever the output
 abbrev pub Refuses : (List ℕ → Outcome) → ℕ → ℕ → Type 0
@@ -38,8 +38,8 @@ Refuses call number place = (out : List ℕ) → call out ≡ refusing (numbered
 
 module _ {S K : Type 0} (rule : Rule S) (marking : Marking S) (write : K → List ℕ → List ℕ → Outcome) where
   abbrev pub Holds : Case K → Type 0
-  Holds (reads text cells) = Fills (readInto rule (bytesOf text)) cells
+  Holds (reads text cells) = Accepts (readInto rule (bytesOf text)) cells
   Holds (fails text number place) = Refuses (readInto rule (bytesOf text)) number place
   Holds (stands text marks) = markedIn rule marking (bytesOf text) ≡ marks
-  Holds (writes kind cells text) = Fills (write kind cells) (bytesOf text)
+  Holds (writes kind cells text) = Accepts (write kind cells) (bytesOf text)
   Holds (unwritable kind cells index) = Refuses (write kind cells) 10 index
