@@ -54,3 +54,13 @@ unfolding begins
 begins-first [] l h e = absurd (omega arith)
 begins-first (b ∷ bytes) [] h e = absurd (false≢true e)
 begins-first (b ∷ bytes) (a ∷ l) h e = eqb-true b a (guard (eqb b a) (begins bytes l) e .0)
+
+-- bytes that begin a list of their length are that list
+pub begins-whole : (bytes l : List ℕ) → begins bytes l ≡ true → length bytes ≡ length l → bytes ≡ l
+unfolding begins
+begins-whole [] [] e n = refl
+begins-whole [] (a ∷ l) e n = absurd (omega arith)
+begins-whole (b ∷ bytes) [] e n = absurd (false≢true e)
+begins-whole (b ∷ bytes) (a ∷ l) e n =
+    let q = guard (eqb b a) (begins bytes l) e in
+    rw (eqb-true b a (q .0), begins-whole bytes l (q .1) (omega arith))

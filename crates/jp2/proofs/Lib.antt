@@ -6,6 +6,7 @@ pub mod Table
 pub mod Rows
 pub mod Kept
 pub mod Spans
+pub mod Located
 pub mod Ends
 pub mod Round
 pub mod Size

@@ -33,7 +33,8 @@ sends (b ∷ rest) i = eqb b 27 && leads (27 ∷ []) rest i
 abbrev pub phaseOf : Bool → Phase
 phaseOf cr = cond cr return plain
 
-pub byte-between : (g0 g2 : ℕ) (cr : Bool) (b : ℕ) → b < 128 → byteDoes (state g0 g2 (phaseOf cr)) b ≡ betweenDoes g0 g2 cr b
+pub byte-between :
+    (g0 g2 : ℕ) (cr : Bool) (b : ℕ) → b < 128 → byteDoes (state g0 g2 (phaseOf cr)) b ≡ betweenDoes g0 g2 cr b
 unfolding byteDoes
 byte-between g0 g2 true b h = rw (lt-ltb b 128 h)
 byte-between g0 g2 false b h = rw (lt-ltb b 128 h)
@@ -63,14 +64,17 @@ module _ (g0 g2 i : ℕ) (known : i < 9) where
   leads-walk st b done (c ∷ rest) e t =
       let q = both (begun done) _ t in
       let r = both (ltb c 128) _ (q .1) in
-      goes (e ∙ begins-row done (q .0)) (leads-walk (state g0 g2 (escape done)) c (done ++ c ∷ []) rest (unfold byteDoes in rw (r .0)) (r .1))
+      goes (e ∙ begins-row done (q .0))
+      (leads-walk (state g0 g2 (escape done)) c (done ++ c ∷ []) rest (unfold byteDoes in rw (r .0)) (r .1))
 
   -- ESC between cells, also after CR
   esc : (cr : Bool) → byteDoes (state g0 g2 (phaseOf cr)) 27 ≡ escapeDoes g0 g2 (27 ∷ [])
   unfolding betweenDoes escapeDoes begins firstWhere designations rowOfEscape rowBegunBy
   esc cr = byte-between g0 g2 cr 27 (lit< tt)
 
-  pub sends-walk : (cr : Bool) (l : List ℕ) → sends l i ≡ true → Walk jp2 (state g0 g2 (phaseOf cr)) l [] (designated g0 g2 (rowAt i))
+  pub sends-walk :
+      (cr : Bool) (l : List ℕ) → sends l i ≡ true →
+      Walk jp2 (state g0 g2 (phaseOf cr)) l [] (designated g0 g2 (rowAt i))
   sends-walk cr [] t = absurd (false≢true t)
   sends-walk cr (b ∷ rest) t =
       let q = both (eqb b 27) _ t in

@@ -8,3 +8,4 @@ pub mod Steps
 pub mod Cursors
 pub mod Matches
 pub mod ReadsBack
+pub mod Located

@@ -4,3 +4,4 @@ pub mod Stepping
 pub mod Matching
 pub mod Inner
 pub mod Cases
+pub mod Located
