@@ -101,7 +101,7 @@ byte-leads (run pending) b true h s =
 byte-leads (opening after) b false h s = other-leads (opening after) b h
 byte-leads (run pending) b false h s = other-leads (run pending) b h
 
-name-marks : Marks mailbox spanIn SoundShift 2
+pub name-marks : Marks mailbox spanIn SoundShift 2
 name-marks = record { lead = lead; fresh = fresh; starts = (refl, refl); leads = λ shift b. byte-leads shift b _ refl }
 
 -- begin < end <= the text's length; a later cell neither begins nor ends before an earlier one; and cells share bytes only where both are of runs, for one

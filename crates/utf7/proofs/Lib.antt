@@ -9,3 +9,4 @@ pub mod Lines
 pub mod ReadsBack
 pub mod Over
 pub mod Cases
+pub mod Located
