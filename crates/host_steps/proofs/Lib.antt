@@ -1,1 +1,3 @@
 pub mod OnSteps
+pub mod Handed
+pub mod Numbers

@@ -2,14 +2,7 @@
 use host_numbers::Numbers;
 use host_numbers::in_numbers;
 ghost use mathlib.Core.Path.{_≡_};
-ghost use Rattle.reading.specs.Stepping.{atStart};
-ghost use Rattle.utf7.specs.Rule.{utf7};
-ghost use Rattle.utf7_read.specs.Cursor as u;
-ghost use Rattle.mailbox.specs.Rule.{mailbox};
-ghost use Rattle.mailbox_read.specs.Cursor as m;
-ghost use Rattle.jp2.specs.Rule.{jp2};
-ghost use Rattle.jp2_read.specs.Cursor as j;
-ghost use Rattle.host_steps.specs.Steps.{shiftIn, utf7In, utf7Out, utf7Told, nameShiftIn, mailboxIn, mailboxOut, mailboxTold, phaseIn, jp2In, phasedAt, jp2Out, jp2Told, handedOn};
+ghost use Rattle.host_steps.specs.Steps.{hostStart, hostStep, shiftIn, utf7In, utf7Out, utf7Host, utf7Told, nameShiftIn, mailboxIn, mailboxOut, mailboxHost, mailboxTold, phaseIn, jp2In, phasedAt, jp2Out, jp2Host, jp2Told};
 
 // A place in a UTF-7 text: its shift is 0 outside runs, 1 after a '+', else in a run with its pending bits, their count and value.
 #[repr(C)]
@@ -133,14 +126,14 @@ fn utf7_cursor_out(c: utf7_read::Cursor) -> HostUtf7Cursor
 }
 
 pub fn utf7_start() -> HostUtf7Cursor
-    ensures { λ r. ⌜ r ≡ utf7Out (u.cursorOf (atStart utf7)) ⌝ }
+    ensures { λ r. ⌜ r ≡ hostStart utf7Host ⌝ }
 {
     utf7_cursor_out(utf7_read::start())
 }
 
 // After the last cell the host's own cursor is given back.
 pub fn utf7_step(text: &[u8], cursor: HostUtf7Cursor) -> HostUtf7Step
-    ensures { λ r. ⌜ utf7Told r ≡ handedOn utf7Out cursor (u.stepOf (now (text .entry)) (utf7In cursor)) ⌝ }
+    ensures { λ r. ⌜ utf7Told r ≡ hostStep utf7Host (now (text .entry)) cursor ⌝ }
 {
     let found = utf7_read::step(text, utf7_cursor_in(cursor));
     match found {
@@ -230,13 +223,13 @@ fn mailbox_cursor_out(c: mailbox_read::Cursor) -> HostMailboxCursor
 }
 
 pub fn mailbox_start() -> HostMailboxCursor
-    ensures { λ r. ⌜ r ≡ mailboxOut (m.cursorOf (atStart mailbox)) ⌝ }
+    ensures { λ r. ⌜ r ≡ hostStart mailboxHost ⌝ }
 {
     mailbox_cursor_out(mailbox_read::start())
 }
 
 pub fn mailbox_step(text: &[u8], cursor: HostMailboxCursor) -> HostMailboxStep
-    ensures { λ r. ⌜ mailboxTold r ≡ handedOn mailboxOut cursor (m.stepOf (now (text .entry)) (mailboxIn cursor)) ⌝ }
+    ensures { λ r. ⌜ mailboxTold r ≡ hostStep mailboxHost (now (text .entry)) cursor ⌝ }
 {
     let found = mailbox_read::step(text, mailbox_cursor_in(cursor));
     match found {
@@ -342,13 +335,13 @@ fn jp2_cursor_out(c: jp2_read::Cursor) -> HostJp2Cursor
 }
 
 pub fn jp2_start() -> HostJp2Cursor
-    ensures { λ r. ⌜ r ≡ jp2Out (j.cursorOf (atStart jp2)) ⌝ }
+    ensures { λ r. ⌜ r ≡ hostStart jp2Host ⌝ }
 {
     jp2_cursor_out(jp2_read::start())
 }
 
 pub fn jp2_step(text: &[u8], cursor: HostJp2Cursor) -> HostJp2Step
-    ensures { λ r. ⌜ jp2Told r ≡ handedOn jp2Out cursor (j.stepOf (now (text .entry)) (jp2In cursor)) ⌝ }
+    ensures { λ r. ⌜ jp2Told r ≡ hostStep jp2Host (now (text .entry)) cursor ⌝ }
 {
     let found = jp2_read::step(text, jp2_cursor_in(cursor));
     match found {

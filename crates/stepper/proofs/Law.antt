@@ -1,25 +1,24 @@
 -- Stepping from the start gives exactly the cells of the reading, in order, then for ever its answer; in any format. Assumes nothing.
 use Prim.Native.Nat.{ℕ, zero, suc, _≤_}
-use mathlib.Core.Path.{_≡_, refl, sym, ap, _∙_}
+use mathlib.Core.Path.{_≡_, refl, ap, _∙_}
 use mathlib.Core.Bool.{Bool, true, false, cond}
 use mathlib.Core.List.{List}
-use native.Mathlib.Omega.{arith}
-use lib.ListN.{length, length-map}
+use lib.ListN.{length, getD}
 use lib.Dec.{ltb}
 use denote.Ref.{RefT, now}
-use borrow.Author.Tests.{le-ltb, ltb-true, ltb-false}
-use Rattle.answer.specs.Answer.{limit, tooLong}
+use borrow.Author.Tests.{le-ltb}
+use Rattle.answer.specs.Answer.{Verdict, limit, tooLong}
 use Rattle.answer.specs.Output.{refusing, deliver}
 use Rattle.reading.specs.Reading.{Ending, accepted, fault, Rule, verdictOf, closing, onEnding, reading, readInto}
-use Rattle.reading.specs.Spans.{Marking, markedIn}
+use Rattle.reading.specs.Spans.{Marking, noMark, markedIn}
 use Rattle.reading.specs.declared.Marked.{Marked}
-use Rattle.reading.specs.Stepping.{Next, cell, final, onward, onSpot, atStart, afterSteps}
-use Rattle.reading.proofs.Spans.{marked-cells}
-use Rattle.reading.proofs.Cursors.{Cursors, stepFor, cursorAfter, step-cell, step-final, step-over}
+use Rattle.reading.specs.Stepping.{Next, cell, final, onward, onSpot, atStart, afterSteps, answerOf, nthOf}
+use Rattle.reading.proofs.Cursors as cursors
+use Rattle.reading.proofs.Cursors.{Cursors, stepFor, cursorAfter}
 use Rattle.utf7_read.proofs.Nth.{utf7-cursors}
 use Rattle.jp2_read.proofs.Nth.{jp2-cursors}
 use Rattle.mailbox_read.proofs.Nth.{mailbox-cursors}
-use Rattle.stepper.specs.Stepper.{Gift, gift, startOf, stepOf, givenBy, readerAfter, readingOf, markedOf, answerOf, nthGift}
+use Rattle.stepper.specs.Stepper.{gift, startOf, stepOf, givenBy, readerAfter, readingOf, markedOf, nthGift}
 use Rattle.codec.specs.declared.Format.{Format}
 use Rattle.codec.specs.declared.Format as format
 use Rattle.stepper.specs.declared.Place.{Place}
@@ -34,8 +33,13 @@ gift-onward : {C : Type 0} (f : C → Place) (x : Next C) → gift (onward f x) 
 gift-onward f (cell m next) = refl
 gift-onward f (final answer) = refl
 
-none-left : (n : ℕ) (v : Gift) {answer : Gift} → cond (ltb n 0) v answer ≡ answer
-none-left n v = rw (le-ltb n 0 (omega arith))
+-- what is handed out, wherever the reader then stands
+gift-nth : {P Q : Type 0} (cells : List Marked) (answer : Verdict) (n : ℕ) (p : P) (q : Q) → gift (nthOf cells answer n p) ≡ gift (nthOf cells answer n q)
+gift-nth cells answer n p q = by (ltb n (length cells))
+  where
+    by : (t : Bool) → gift (cond t (cell (getD cells n noMark) p) (final answer)) ≡ gift (cond t (cell (getD cells n noMark) q) (final answer))
+    by true = refl
+    by false = refl
 
 -- a format whose places are some cursors: it starts at their start, and steps from a place are steps from its cursor
 module _ {S C : Type 0} {rule : Rule S} {marking : Marking S} (cs : Cursors rule marking C) (place : C → Place) (f : Format) (starts : startOf f ≡ place (cs .cursor (atStart rule)))
@@ -53,19 +57,10 @@ module _ {S C : Type 0} {rule : Rule S} {marking : Marking S} (cs : Cursors rule
   abbrev marked : List Marked
   marked = markedIn rule marking (now text)
 
-  same-count : length marked ≡ length (reading rule (now text) .cells)
-  same-count = simp length-map at (ap length (marked-cells rule marking (now text)))
-
-  nth : (n : ℕ) (over more : Bool) → ltb limit (length (now text)) ≡ over → ltb n (length marked) ≡ more →
-      gift (stepFor cs (now text) (cursorAfter cs (now text) n)) ≡ nthGift (now text) (reading rule (now text)) marked n
-  nth n true more e k = rw e (ap gift (step-over cs (now text) (ltb-true _ _ e) _) ∙ sym (none-left n _))
-  nth n false true e k = rw (e, k) (ap gift (step-cell cs (now text) (ltb-false _ _ e) n (rw same-count at (ltb-true n (length marked) k))))
-  nth n false false e k = rw (e, k) (ap gift (step-final cs (now text) (ltb-false _ _ e) n (rw same-count at (ltb-false n (length marked) k))))
-
   nth-given : (n : ℕ) → givenBy (readerAfter text f n) ≡ nthGift (now text) (reading rule (now text)) marked n
   nth-given n =
       let c = cursorAfter cs (now text) n in
-      rw (reader-stands n, steps (now text) c, gift-onward place (stepFor cs (now text) c)) (nth n _ _ refl refl)
+      rw (reader-stands n, steps (now text) c, gift-onward place (stepFor cs (now text) c)) (ap gift (cursors.nth-step cs (now text) n) ∙ gift-nth _ _ n _ tt)
 
 -- the n-th step from `new` gives the n-th cell with its bytes, and after the cells the answer, for ever
 pub nth-step : (text : RefT (List ℕ)) (f : Format) (n : ℕ) → givenBy (readerAfter text f n) ≡ nthGift (now text) (readingOf f (now text)) (markedOf f (now text)) n

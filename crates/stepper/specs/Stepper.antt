@@ -1,14 +1,11 @@
 -- What a step of a reader that holds its text gives, and the reader after it, in any format.
 use Prim.Native.Nat.{ℕ, zero, suc}
-use mathlib.Core.Bool.{cond}
-use mathlib.Core.List.{List, []}
-use lib.ListN.{length, getD}
-use lib.Dec.{ltb}
+use mathlib.Core.List.{List}
 use denote.Ref.{RefT, now}
-use Rattle.answer.specs.Answer.{Verdict, inNumbers, limit, tooLong}
-use Rattle.reading.specs.Reading.{Reading, verdictOf, reading}
-use Rattle.reading.specs.Spans.{noMark, markedIn}
-use Rattle.reading.specs.Stepping.{Next, cell, final, onward, onSpot, atStart}
+use Rattle.answer.specs.Answer.{Verdict, inNumbers}
+use Rattle.reading.specs.Reading.{Reading, reading}
+use Rattle.reading.specs.Spans.{markedIn}
+use Rattle.reading.specs.Stepping.{Next, cell, final, onward, onSpot, atStart, cellsOf, answerOf, nthOf}
 use Rattle.reading.specs.declared.Marked.{Marked}
 use Rattle.utf7.specs.Rule.{utf7}
 use Rattle.utf7.specs.Spans as utf7-spans
@@ -84,14 +81,6 @@ markedOf format.the-variants.Utf7 text = markedIn utf7 utf7-spans.spanIn text
 markedOf format.the-variants.Jp2 text = markedIn jp2 jp2-spans.spanIn text
 markedOf format.the-variants.Mailbox text = markedIn mailbox mailbox-spans.spanIn text
 
--- "Each step hands out the next cell complete before the first fault", and of a text over the limit none;
-abbrev pub cellsOf : List ℕ → List Marked → List Marked
-cellsOf text marked = cond (ltb limit (length text)) [] marked
-
--- "after those, and at once for 16, every step gives the answer of reading the whole text with room enough"
-abbrev pub answerOf : List ℕ → Reading → Verdict
-answerOf text r = cond (ltb limit (length text)) tooLong (verdictOf r)
-
--- what the n-th step gives, counted from 0
+-- what the n-th step hands out, counted from 0
 abbrev pub nthGift : List ℕ → Reading → List Marked → ℕ → Gift
-nthGift text r marked n = cond (ltb n (length (cellsOf text marked))) (aCell (getD (cellsOf text marked) n noMark)) (theAnswer (answerOf text r))
+nthGift text r marked n = gift {P = Unit} (nthOf (cellsOf text marked) (answerOf text r) n tt)
