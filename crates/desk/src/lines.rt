@@ -1,6 +1,7 @@
 // The lines of standard input, each obeyed as soon as it has been read.
 use crate::orders;
 use crate::replies;
+use crate::streams;
 use ledger::Page;
 use libc::STDIN_FILENO;
 ghost use Prim.Native.Nat.{_≤_, _<_};
@@ -59,7 +60,7 @@ fn read_more(buf: &mut [u8], held: usize) -> usize
     requires { ⌜ held ≤ length (now buf) ⌝ }
     ensures { λ r. ⌜ (held ≤ r) × (r ≤ length (now (buf .exit))) × (length (now (buf .exit)) ≡ length (now (buf .entry))) ⌝ }
 {
-    let got = libc::read(STDIN_FILENO, &mut buf[held..]);
+    let got = streams::read(STDIN_FILENO, &mut buf[held..]);
     if got < 0 {
         replies::fail(b"standard input");
         return held;

@@ -1,8 +1,10 @@
 // desk KIND FILE: opens a letter as a page, and obeys the commands that come on standard input, one a line.
 mod files;
 mod lines;
+mod look;
 mod orders;
 mod replies;
+mod streams;
 
 use answer::Answer;
 use codec::Kind;

@@ -1,4 +1,5 @@
 // What the desk says: answers on standard output, in the listers' style, and complaints on standard error.
+use crate::streams;
 use answer::Answer;
 use libc::STDERR_FILENO;
 use libc::STDOUT_FILENO;
@@ -9,7 +10,7 @@ pub fn tell(given: Answer) {
     let told = listing::tell(given, &mut lines);
     if let Answer::Accepted(size) = told {
         if size <= 64 {
-            io::write_all(STDOUT_FILENO, &lines[..size]);
+            streams::write_all(STDOUT_FILENO, &lines[..size]);
         }
     }
 }
@@ -19,7 +20,7 @@ fn show_in(cells: &[u32], lines: &mut [u8]) {
     let listed = listing::list(Answer::Accepted(cells.len()), cells, &mut *lines);
     if let Answer::Accepted(size) = listed {
         if size <= lines.len() {
-            io::write_all(STDOUT_FILENO, &lines[..size]);
+            streams::write_all(STDOUT_FILENO, &lines[..size]);
         }
     }
 }
@@ -32,13 +33,30 @@ pub fn show(cells: &[u32]) {
 
 // A line on standard error.
 pub fn complain(what: &[u8]) {
-    io::write_all(STDERR_FILENO, b"desk: ");
-    io::write_all(STDERR_FILENO, what);
-    io::write_all(STDERR_FILENO, b"\n");
+    streams::write_all(STDERR_FILENO, b"desk: ");
+    streams::write_all(STDERR_FILENO, what);
+    streams::write_all(STDERR_FILENO, b"\n");
 }
 
 // A line on standard error: what failed, and errno's text.
 pub fn fail(what: &[u8]) {
-    io::write_all(STDERR_FILENO, b"desk: ");
+    streams::write_all(STDERR_FILENO, b"desk: ");
+    os::fail(what);
+}
+
+// A line on standard error: why nothing was done to what has a name.
+pub fn refuse(name: &[u8], why: &[u8]) {
+    streams::write_all(STDERR_FILENO, b"desk: ");
+    streams::write_all(STDERR_FILENO, name);
+    streams::write_all(STDERR_FILENO, b": ");
+    streams::write_all(STDERR_FILENO, why);
+    streams::write_all(STDERR_FILENO, b"\n");
+}
+
+// A line on standard error: a name, what failed, and errno's text.
+pub fn fail_at(name: &[u8], what: &[u8]) {
+    streams::write_all(STDERR_FILENO, b"desk: ");
+    streams::write_all(STDERR_FILENO, name);
+    streams::write_all(STDERR_FILENO, b": ");
     os::fail(what);
 }
