@@ -15,7 +15,7 @@ use Rattle.codec.specs.declared.Format.the-variants.{Utf7, Jp2, Mailbox}
 use Rattle.codec.specs.declared.Kind.{Kind}
 use Rattle.codec.specs.Kinds.{formatOf, readingOf, readingIn, readsIn, readsAs}
 
-fault-in : (format : Format) (text : List ℕ) → SoundEnd (readingOf format text .ending)
+pub fault-in : (format : Format) (text : List ℕ) → SoundEnd (readingOf format text .ending)
 unfolding readingOf
 fault-in Utf7 text = good-reading utf7-kept text .1
 fault-in Jp2 text = good-reading jp2-kept text .1

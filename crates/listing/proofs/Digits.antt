@@ -41,6 +41,15 @@ decimal-few zero n = omega arith
 decimal-few (suc k) n =
     cond-case (λ (l : List ℕ). length l ≤ suc k) (ltb n 10) (λ _. omega arith) (λ _. simp length-append (omega (arith, decimal-few k (n / 10))))
 
+-- a number below a power of ten has no more digits than that
+pub decimal-within : (j k n : ℕ) → n < 10 ^ suc j → length (decimalIn k n) ≤ suc j
+unfolding decimalIn
+decimal-within j zero n h = omega arith
+decimal-within zero (suc k) n h = rw (lt-ltb n 10 h) (omega arith)
+decimal-within (suc j) (suc k) n h =
+    cond-case (λ (l : List ℕ). length l ≤ suc (suc j)) (ltb n 10) (λ _. omega arith)
+    (λ _. simp length-append (omega (arith, decimal-within j k (n / 10) (omega (arith, pow-suc 10 (suc j))))))
+
 hex-shift : (w : ℕ) → w < 8 → 2 ^ (4 * w) ≡ 16 ^ w
 unfolding allBelow
 hex-shift w h = eqb-true (2 ^ (4 * w)) (16 ^ w) (below (λ k. eqb (2 ^ (4 * k)) (16 ^ k)) 8 refl w h)
