@@ -1,11 +1,18 @@
--- What the page needs of reading by kind: no fault has the number 0, and accepted bytes read as their own cells. Assumes nothing.
+-- What the page needs of the codec: reading into an output and writing into one have one form in every format; no fault
+-- has the number 0; and accepted bytes read as their own cells. Assumes nothing.
 use Prim.Native.Nat.{ℕ}
 use mathlib.Core.Path.{_≡_, refl}
-use mathlib.Core.Bool.{true}
+use mathlib.Core.Bool.{true, cond}
 use mathlib.Core.List.{List, [], _∷_}
+use lib.ListN.{length}
+use lib.Dec.{ltb}
 use borrow.Author.Tests.{eq-eqb}
-use Rattle.reading.specs.Reading.{accepted}
+use Rattle.answer.specs.Answer.{limit, tooLong}
+use Rattle.answer.specs.Output.{refusing, written}
+use Rattle.reading.specs.Reading.{accepted, onEnding, readInto}
 use Rattle.reading.proofs.Laws.{SoundEnd, good-reading}
+use Rattle.utf7.specs.Writing as utf7-writing
+use Rattle.jp2.specs.Writing as jp2-writing
 use Rattle.utf7.proofs.Kept.{utf7-kept}
 use Rattle.jp2.proofs.Kept.{jp2-kept}
 use Rattle.mailbox.proofs.Kept.{mailbox-kept}
@@ -13,7 +20,28 @@ use Rattle.reading.specs.Matching.{sameCells}
 use Rattle.codec.specs.declared.Format.{Format}
 use Rattle.codec.specs.declared.Format.the-variants.{Utf7, Jp2, Mailbox}
 use Rattle.codec.specs.declared.Kind.{Kind}
-use Rattle.codec.specs.Kinds.{formatOf, readingOf, readingIn, readsIn, readsAs}
+use Rattle.codec.specs.declared.Kind.the-variants.{Utf7Header, Utf7Body}
+use Rattle.codec.specs.declared.Kind.the-variants as kind
+use Rattle.codec.specs.Kinds.{formatOf, readingOf, readingIn, readIn, readsIn, readsAs}
+use Rattle.codec.specs.Kinds.{firstUnwritable, writingIn, writeIn}
+
+pub read-form :
+    (format : Format) (text out : List ℕ) →
+    readIn format text out ≡
+    cond (ltb limit (length text)) (refusing tooLong out)
+    (onEnding (readingOf format text .ending) (readingOf format text .cells) out)
+unfolding readIn readInto readingOf
+read-form Utf7 text out = refl
+read-form Jp2 text out = refl
+read-form Mailbox text out = refl
+
+pub write-form :
+    (kind : Kind) (cells out : List ℕ) →
+    writeIn kind cells out ≡ written cells (firstUnwritable kind cells) (writingIn kind cells) out
+unfolding writeIn firstUnwritable writingIn utf7-writing.writeInto jp2-writing.writeInto
+write-form Utf7Header cells out = refl
+write-form Utf7Body cells out = refl
+write-form kind.Jp2 cells out = refl
 
 pub fault-in : (format : Format) (text : List ℕ) → SoundEnd (readingOf format text .ending)
 unfolding readingOf
@@ -29,6 +57,8 @@ unfolding sameCells
 same-cells [] = refl
 same-cells (x ∷ xs) = rw (eq-eqb x x refl) (same-cells xs)
 
-pub reads-itself : (kind : Kind) (bytes : List ℕ) → readingIn kind bytes .ending ≡ accepted → readsAs kind bytes (readingIn kind bytes .cells) ≡ true
+pub reads-itself :
+    (kind : Kind) (bytes : List ℕ) → readingIn kind bytes .ending ≡ accepted →
+    readsAs kind bytes (readingIn kind bytes .cells) ≡ true
 unfolding readsIn
 reads-itself kind bytes e = rw e (same-cells (readingIn kind bytes .cells))

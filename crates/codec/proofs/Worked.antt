@@ -31,7 +31,8 @@ abbrev pub written : List ℕ
 written = 65 ∷ 61 ∷ 43 ∷ 65 ∷ 53 ∷ 69 ∷ 45 ∷ 46 ∷ []
 
 pub letter-reads : readingIn Utf7Body letter ≡ record { cells = cellsRead; ending = accepted }
-unfolding bits number allZero valueOf setB readFrom reading alphanumeric setD setO direct outsideDoes unitDoes mayEnd endDoes lowDoes byteDoes endsIn readingOf formatOf
+unfolding bits number allZero valueOf setB readFrom reading alphanumeric setD setO direct outsideDoes unitDoes mayEnd
+    endDoes lowDoes byteDoes endsIn readingOf formatOf
 letter-reads = refl
 
 pub letter-reads-as : readsAs Utf7Body letter cellsRead ≡ true
@@ -55,5 +56,6 @@ unfolding firstOver firstUnwritable
 great-unwritable = refl
 
 pub edited-writes : writingIn Utf7Body cellsEdited ≡ written
-unfolding bits number allZero bitsOf groups full filler letterOf alphanumeric setD setO direct own pieces letters spell spellAll writing writingIn
+unfolding bits number allZero bitsOf groups full filler letterOf alphanumeric setD setO direct own pieces letters
+    spell spellAll writing writingIn
 edited-writes = refl

@@ -1,4 +1,5 @@
--- Document 01, "Small cases": those marked P, P8 as document 02, order 3 has it, with that order's own; one table and what it states.
+-- Document 01, "Small cases": those marked P, P8 as document 02, order 3 has it, with that order's own; one table and
+-- what it states.
 use Prim.Native.Nat.{ℕ}
 use mathlib.Core.Path.{_≡_}
 use mathlib.Core.List.{List, [], _∷_, map}

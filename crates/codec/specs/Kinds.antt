@@ -1,12 +1,10 @@
 -- Reading by format, and writing by the kind of a page.
-use Prim.Native.Nat.{ℕ}
-use mathlib.Core.Bool.{Bool, cond}
+use Prim.Native.Nat.{ℕ, _+_, _*_}
+use mathlib.Core.Bool.{Bool}
 use mathlib.Core.List.{List}
-use lib.ListN.{length}
-use lib.Dec.{ltb}
-use Rattle.answer.specs.Answer.{limit, tooLong}
-use Rattle.answer.specs.Output.{Outcome, refusing, written}
-use Rattle.reading.specs.Reading.{Reading, reading, onEnding}
+use Rattle.answer.specs.Answer.{limit}
+use Rattle.answer.specs.Output.{Outcome}
+use Rattle.reading.specs.Reading.{Reading, reading, readInto}
 use Rattle.reading.specs.Matching.{gave}
 use Rattle.utf7.specs.Rule.{utf7}
 use Rattle.utf7.specs.Writing.{firstOver}
@@ -38,16 +36,21 @@ bytesAtEnd Utf7Header = 0
 bytesAtEnd Utf7Body = 0
 bytesAtEnd Jp2 = 3
 
+-- the most bytes that cells within the limit are written as, whatever the kind
+unfoldable pub mostBytes : ℕ
+mostBytes = bytesPerCell Jp2 * limit + bytesAtEnd Jp2
+
 -- the reading of a text of a format
 unfoldable pub readingOf : Format → List ℕ → Reading
 readingOf format.Utf7 text = reading utf7 text
 readingOf format.Jp2 text = reading jp2 text
 readingOf format.Mailbox text = reading mailbox text
 
--- reading into an output: 16, the earliest fault, 9
+-- reading a text of a format into an output
 unfoldable pub readIn : Format → List ℕ → List ℕ → Outcome
-readIn f text out =
-    cond (ltb limit (length text)) (refusing tooLong out) (onEnding (readingOf f text .ending) (readingOf f text .cells) out)
+readIn format.Utf7 text out = readInto utf7 text out
+readIn format.Jp2 text out = readInto jp2 text out
+readIn format.Mailbox text out = readInto mailbox text out
 
 -- the text is accepted and reads as the cells
 unfoldable pub readsIn : Format → List ℕ → List ℕ → Bool
@@ -65,9 +68,11 @@ writingIn Utf7Header cells = utf7-writing.writing Header cells
 writingIn Utf7Body cells = utf7-writing.writing Body cells
 writingIn Jp2 cells = jp2-writing.writing cells
 
--- writing into an output: 16, 10 with the cell's index, 9
+-- writing cells in a kind into an output
 unfoldable pub writeIn : Kind → List ℕ → List ℕ → Outcome
-writeIn kind cells out = written cells (firstUnwritable kind cells) (writingIn kind cells) out
+writeIn Utf7Header cells out = utf7-writing.writeInto Header cells out
+writeIn Utf7Body cells out = utf7-writing.writeInto Body cells out
+writeIn Jp2 cells out = jp2-writing.writeInto cells out
 
 -- the page's words for its kind
 abbrev pub readingIn : Kind → List ℕ → Reading

@@ -1,2 +1,4 @@
 pub mod Kinds
 pub mod Cases
+pub mod Demand
+pub mod Sizes

@@ -3,7 +3,8 @@ use answer::Answer;
 use utf7::Style;
 ghost use mathlib.Core.Path.{_≡_};
 ghost use Rattle.answer.specs.Output.{leaves};
-ghost use Rattle.codec.specs.Kinds.{formatOf, bytesPerCell, bytesAtEnd, readIn, firstUnwritable, writeIn, readsIn};
+ghost use Rattle.codec.specs.Kinds.{formatOf, bytesPerCell, bytesAtEnd, mostBytes};
+ghost use Rattle.codec.specs.Kinds.{readIn, firstUnwritable, writeIn, readsIn};
 
 // What a text is read as. A mailbox name is no kind of page.
 pub enum Format {
@@ -21,13 +22,22 @@ pub enum Kind {
 
 // "Each kind carries its own greatest number of bytes for one cell, 5, 5 and 6, and its bytes at the end, 0, 0 and 3."
 impl Kind {
-    pub const UTF7_PER_CELL: usize = 5;
+    pub const UTF7_PER_CELL: usize = utf7_write::PER_CELL;
 
     pub const UTF7_AT_END: usize = 0;
 
     pub const JP2_PER_CELL: usize = 6;
 
     pub const JP2_AT_END: usize = 3;
+
+    // An output of so many bytes has room for all cells within the limit, whatever the kind.
+    pub const MOST_BYTES: usize = Kind::JP2_PER_CELL * answer::LIMIT + Kind::JP2_AT_END;
+
+    pub fn most_bytes() -> usize
+        ensures { λ r. ⌜ r ≡ mostBytes ⌝ }
+    {
+        Kind::MOST_BYTES
+    }
 
     pub fn bytes_per_cell(self) -> usize
         ensures { λ r. ⌜ r ≡ bytesPerCell self ⌝ }

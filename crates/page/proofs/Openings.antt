@@ -19,7 +19,7 @@ use Rattle.reading.proofs.Laws.{SoundEnd}
 use Rattle.codec.specs.declared.Kind.{Kind}
 use Rattle.codec.specs.declared.Format.{Format}
 use Rattle.codec.specs.Kinds.{formatOf, readingIn, readIn}
-use Rattle.codec.proofs.ByKind.{fault-numbered}
+use Rattle.codec.proofs.ByKind.{read-form, fault-numbered}
 use Rattle.ledger.specs.Words.{pad}
 use Rattle.ledger.specs.Page.{stateOf, Outcome}
 use Rattle.ledger.specs.Calls.{refusing, over, noPage, openedOn, openRead, openOf}
@@ -74,11 +74,11 @@ module _ (kind : Kind) (arrived text history : List ℕ) where
       -- the codec's answer, and the text after it
       module _ (h : over history ≡ false) (f : Format) (g : f ≡ formatOf kind) (r : Answer) (x : List ℕ) (e : output.leaves r x ≡ readIn f arrived text) where
         read-opens : Opens (output.leaves r x) (openOf kind arrived text history)
-        unfolding openOf readIn
+        unfolding openOf
         read-opens =
             rw (a, t, h)
             (subst (λ (o : output.Outcome). Opens o (openRead kind text history (readingIn kind arrived .ending) (readingIn kind arrived .cells)))
-            (sym (e ∙ rw (g, a)))
+            (sym (e ∙ rw (read-form, g, a)))
             (opens (readingIn kind arrived .ending) (readingIn kind arrived .cells) (fault-numbered kind arrived)))
 
         pub open-accepted : (count : ℕ) → r ≡ Accepted count → openOf kind arrived text history ≡ opening count x

@@ -15,7 +15,8 @@ use Rattle.answer.specs.declared.Answer.the-variants.{Accepted, Refused}
 use Rattle.answer.specs.declared.Refusal.the-variants.{NoRoom}
 use Rattle.answer.specs.Output as output
 use Rattle.answer.proofs.Put.{Put, put-as, put-next, put-end, put-done}
-use Rattle.codec.specs.Kinds.{readsAs, firstUnwritable, writingIn, writeIn}
+use Rattle.codec.specs.Kinds.{readsAs, firstUnwritable, writingIn}
+use Rattle.codec.proofs.ByKind.{write-form}
 use Rattle.ledger.specs.Words.{Entry}
 use Rattle.ledger.specs.Page.{State, Outcome, textIn}
 use Rattle.ledger.specs.Calls.{refusing, over, savedAs, saveStanding, saveParted, saveOf}
@@ -59,14 +60,14 @@ module _ (s : State) (arrived out : List ℕ) where
   saved-standing :
       (standing : List Entry) → sizes standing ≡ s .page .done → length (textIn s) ≤ limit →
       saveStanding s arrived out standing ≡ keeping s (savedIn (s .page) (textIn s) arrived out)
-  unfolding saveStanding writeIn
+  unfolding saveStanding
   saved-standing [] e few =
       rw (eq-eqb (s .page .done) 0 (sym e), saved-as arrived)
       (sym (keep-cond s (readsAs (s .page .kind) arrived (textIn s)) (output.deliver arrived out) (output.refusing (numbered 15 0) out)))
   saved-standing (x ∷ back) e few =
       let n : ℕ = firstUnwritable (s .page .kind) (textIn s) in
       let stands : eqb (s .page .done) 0 ≡ false = ne-eqb (s .page .done) 0 (λ (z : s .page .done ≡ 0). omega arith) in
-      rw (stands, le-ltb limit (length (textIn s)) few, saved-as (writingIn (s .page .kind) (textIn s)))
+      rw (stands, write-form, le-ltb limit (length (textIn s)) few, saved-as (writingIn (s .page .kind) (textIn s)))
       (sym (keep-cond s (ltb n (length (textIn s))) (output.refusing (numbered 10 n) out) (output.deliver (writingIn (s .page .kind) (textIn s)) out)))
 
   pub save-long : over arrived ≡ true → saveOf s arrived out ≡ refusing s out tooLong

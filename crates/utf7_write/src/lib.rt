@@ -23,6 +23,9 @@ ghost use Rattle.answer.specs.Ahead.{Ahead};
 ghost use Rattle.utf7_write.specs.Ahead.{High, Own, ownBit, OwnFrom, narrow, Narrowed};
 ghost use Rattle.utf7_write.specs.Begun.{Begun};
 
+// "n units need at most 5n bytes"
+pub const PER_CELL: usize = 5;
+
 // The unit belongs to a run.
 fn is_other(style: Style, u: u32) -> bool
     ensures { λ r. ⌜ r ≡ other style u ⌝ }
@@ -481,7 +484,7 @@ fn write_all(style: Style, cells: &[u32], out: &mut [u8]) -> usize
     at
 }
 
-// Writes cells into an output. All cells are judged before a byte is written; n of them need at most 5n bytes, so that with such room none is counted.
+// Writes cells into an output. All cells are judged before a byte is written. With room for as many units at their greatest, none is counted.
 pub fn write(style: Style, cells: &[u32], out: &mut [u8]) -> Answer
     ensures { λ r. ⌜ leaves r (now (out .exit)) ≡ writeInto style (now (cells .entry)) (now (out .entry)) ⌝ }
 {
@@ -492,7 +495,7 @@ pub fn write(style: Style, cells: &[u32], out: &mut [u8]) -> Answer
     if over < cells.len() {
         return Answer::Refused(Refusal::Unwritable, over);
     }
-    if out.len() / 5 < cells.len() {
+    if out.len() / PER_CELL < cells.len() {
         let need = size(style, cells);
         if out.len() < need {
             return Answer::Refused(Refusal::NoRoom, need);

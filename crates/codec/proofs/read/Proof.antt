@@ -1,5 +1,4 @@
-use Rattle.reading.specs.Reading.{readInto}
-use Rattle.codec.specs.Kinds.{readingOf, readIn}
+use Rattle.codec.specs.Kinds.{readIn}
 use borrow.Author.Needs.{needs}
 use Rattle.codec.proofs.read.Statement.{statement}
 use Rattle.codec.proofs.read.Tie as tie
@@ -27,21 +26,21 @@ same-length : tie.Need-same-length
 same-length c = search needs
 
 returns : tie.Need-returns
-unfolding readIn readingOf readInto
+unfolding readIn
 returns c = rw (c .before .before .before .before .enum-told .given .1) (c .before .before .read .ensures)
 
 same-length-2 : tie.Need-same-length-2
 same-length-2 c = search needs
 
 returns-2 : tie.Need-returns-2
-unfolding readIn readingOf readInto
+unfolding readIn
 returns-2 c = rw (c .before .before .before .before .enum-told2 .given .1) (c .before .before .read2 .ensures)
 
 same-length-3 : tie.Need-same-length-3
 same-length-3 c = search needs
 
 returns-3 : tie.Need-returns-3
-unfolding readIn readingOf readInto
+unfolding readIn
 returns-3 c = rw (c .before .before .before .before .enum-told3 .given .1) (c .before .before .read3 .ensures)
 
 pub read-spec : {M : Type 1} → statement M

@@ -1,6 +1,4 @@
-use Rattle.utf7.specs.Writing.{writeInto}
-use Rattle.jp2.specs.Writing as jp2-writing
-use Rattle.codec.specs.Kinds.{firstUnwritable, writingIn, writeIn}
+use Rattle.codec.specs.Kinds.{writeIn}
 use borrow.Author.Needs.{needs}
 use Rattle.codec.proofs.write.Statement.{statement}
 use Rattle.codec.proofs.write.Tie as tie
@@ -28,21 +26,21 @@ same-length : tie.Need-same-length
 same-length c = search needs
 
 returns : tie.Need-returns
-unfolding writeIn firstUnwritable writingIn writeInto jp2-writing.writeInto
+unfolding writeIn
 returns c = rw (c .before .before .before .before .enum-told .given .1) (c .before .before .write .ensures)
 
 same-length-2 : tie.Need-same-length-2
 same-length-2 c = search needs
 
 returns-2 : tie.Need-returns-2
-unfolding writeIn firstUnwritable writingIn writeInto jp2-writing.writeInto
+unfolding writeIn
 returns-2 c = rw (c .before .before .before .before .enum-told2 .given .1) (c .before .before .write2 .ensures)
 
 same-length-3 : tie.Need-same-length-3
 same-length-3 c = search needs
 
 returns-3 : tie.Need-returns-3
-unfolding writeIn firstUnwritable writingIn writeInto jp2-writing.writeInto
+unfolding writeIn
 returns-3 c = rw (c .before .before .before .before .enum-told3 .given .1) (c .before .before .write3 .ensures)
 
 pub write-spec : {M : Type 1} → statement M
