@@ -24,30 +24,30 @@ abbrev Says : List ℕ → Verb → ℕ → Type 0
 Says line verb rest = saidIn line ≡ record { verb = verb; rest = rest }
 
 pub record Cases : Type 0 where
-  -- "1 1 3D", LF
+  -- `1 1 3D`, LF
   pub one-cell : Reads (49 ∷ 32 ∷ 49 ∷ 32 ∷ 51 ∷ 68 ∷ 10 ∷ []) (1 ∷ 1 ∷ 0x3D ∷ [])
-  -- "12 0 3d Ff", LF
+  -- `12 0 3d Ff`, LF
   pub small-letters : Reads (49 ∷ 50 ∷ 32 ∷ 48 ∷ 32 ∷ 51 ∷ 100 ∷ 32 ∷ 70 ∷ 102 ∷ 10 ∷ []) (12 ∷ 0 ∷ 0x3D ∷ 0xFF ∷ [])
-  -- "0 0", LF
+  -- `0 0`, LF
   pub no-cell : Reads (48 ∷ 32 ∷ 48 ∷ 10 ∷ []) (0 ∷ 0 ∷ [])
-  -- "4294967295 0", LF
+  -- `4294967295 0`, LF
   pub largest : Reads (52 ∷ 50 ∷ 57 ∷ 52 ∷ 57 ∷ 54 ∷ 55 ∷ 50 ∷ 57 ∷ 53 ∷ 32 ∷ 48 ∷ 10 ∷ []) (4294967295 ∷ 0 ∷ [])
-  -- "4294967296 0", LF
+  -- `4294967296 0`, LF
   pub too-large : Fails (52 ∷ 50 ∷ 57 ∷ 52 ∷ 57 ∷ 54 ∷ 55 ∷ 50 ∷ 57 ∷ 54 ∷ 32 ∷ 48 ∷ 10 ∷ []) 3 9
-  -- "1", LF
+  -- `1`, LF
   pub one-number : Fails (49 ∷ 10 ∷ []) 7 2
-  -- "0 0", with no LF
+  -- `0 0`, with no LF
   pub unended : Fails (48 ∷ 32 ∷ 48 ∷ []) 7 3
-  -- "1 1 G", LF
+  -- `1 1 G`, LF
   pub no-digit : Fails (49 ∷ 32 ∷ 49 ∷ 32 ∷ 71 ∷ 10 ∷ []) 3 4
-  -- "1 A", LF
+  -- `1 A`, LF
   pub hex-count : Fails (49 ∷ 32 ∷ 65 ∷ 10 ∷ []) 3 2
-  -- "  replace 1 1"
+  -- `  replace 1 1`
   pub replace : Says (32 ∷ 32 ∷ 114 ∷ 101 ∷ 112 ∷ 108 ∷ 97 ∷ 99 ∷ 101 ∷ 32 ∷ 49 ∷ 32 ∷ 49 ∷ []) Replace 10
   pub nothing : Says [] Nothing 0
-  -- "shows"
+  -- `shows`
   pub longer : Says (115 ∷ 104 ∷ 111 ∷ 119 ∷ 115 ∷ []) Unknown 5
-  -- "utf7h", "jp2", "jp"
+  -- `utf7h`, `jp2`, `jp`
   pub header : kindNamed (117 ∷ 116 ∷ 102 ∷ 55 ∷ 104 ∷ []) ≡ some Utf7Header
   pub jp2 : kindNamed (106 ∷ 112 ∷ 50 ∷ []) ≡ some Jp2
   pub no-kind : kindNamed (106 ∷ 112 ∷ []) ≡ none

@@ -1,4 +1,4 @@
--- A desk's line: "one a line: `show`, `replace PLACE COUNT CELL..` (decimal, decimal, cells in hex), `undo`, `redo`, `save FILE`, `quit`".
+-- A desk's line, as docs/DESK.md has it: `show`, `replace PLACE COUNT CELL..`, `undo`, `redo`, `save FILE` or `quit`.
 use Prim.Native.Nat.{ℕ, suc, _+_}
 use mathlib.Core.Bool.{Bool, true, false, cond, not, _&&_, _||_}
 use mathlib.Core.List.{List, [], _∷_}
@@ -29,7 +29,7 @@ same [] (y ∷ ys) = false
 same (x ∷ xs) [] = false
 same (x ∷ xs) (y ∷ ys) = eqb x y && same xs ys
 
--- "show", "replace", "undo", "redo", "save", "quit"
+-- `show`, `replace`, `undo`, `redo`, `save`, `quit`
 unfoldable pub verbOf : List ℕ → Verb
 verbOf w =
     cond (same w []) Nothing
@@ -49,7 +49,7 @@ saidIn line =
       rest = from + size + stretch true (drop (from + size) line);
     }
 
--- "KIND (utf7h, utf7b, jp2)"
+-- "Kind is utf7h, utf7b or jp2", as document 02, order 6 names them
 unfoldable pub kindNamed : List ℕ → Option Kind
 kindNamed w =
     cond (same w (117 ∷ 116 ∷ 102 ∷ 55 ∷ 104 ∷ [])) (some Utf7Header)

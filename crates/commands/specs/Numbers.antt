@@ -1,5 +1,5 @@
--- The numbers of a replace: "PLACE COUNT CELL.. (decimal, decimal, cells in hex)", read by a rule as any text is. Each is at most
--- 4,294,967,295, as a cell is; a word ends at a blank, so that a line's LF ends the last one.
+-- The numbers of a replace, PLACE COUNT CELL.., decimal, decimal and cells in hex, read by a rule as any text is. Each
+-- is at most 4,294,967,295, as a cell is; a word ends at a blank, so that a line's LF ends the last one.
 use Prim.Native.Nat.{ℕ, suc, _+_, _-_, _*_, _^_}
 use mathlib.Core.Bool.{cond, _&&_}
 use lib.Dec.{ltb, leb}

@@ -39,7 +39,8 @@ pub record HostOutcome : Type 0 where
 abbrev pub hosted : Outcome → HostOutcome
 hosted o = record { verdict = o .verdict; page = hostPage (o .state .page); text = o .state .text; history = o .state .history; output = o .output }
 
--- "a page whose kind number is no kind is refused with 16 if 16 holds, else with 14", and nothing is changed; `list` is the list lent beside the page
+-- a page whose kind's number is no kind is not sound: 14, but "16 comes first"; nothing is changed; `list` is the list
+-- lent beside the page
 abbrev pub noKind : HostPage → List ℕ → List ℕ → List ℕ → List ℕ → HostOutcome
 noKind p text history output list =
     record {
