@@ -23,7 +23,13 @@ impl Transcript {
     /// The files in the end.
     pub fn after(&self, umask: u32) -> Files {
         let mut after = self.before.clone();
-        after.entries.extend(files(&self.saved, 0o666 & !umask).entries);
+        for (path, saved) in files(&self.saved, 0o666 & !umask).entries {
+            match (after.entries.get_mut(&path), saved) {
+                // A file that was there keeps its mode.
+                (Some(Entry::File { bytes, .. }), Entry::File { bytes: saved, .. }) => *bytes = saved,
+                (_, saved) => drop(after.entries.insert(path, saved)),
+            }
+        }
         after
     }
 }
@@ -274,18 +280,20 @@ pub fn saves() -> Vec<Transcript> {
         (b"save new\n", three),
         (b"save \t two words  \t\r\n", three),
         (b"save old\n", three),
-        (b"save busy\n", "desk: busy.new: File exists\n"),
-        (b"save taken\n", "desk: taken.new: File exists\n"),
-        (b"save sub\n", "desk: sub: Is a directory\n"),
-        (b"save sub/\n", "desk: sub/: Not a directory\n"),
-        (b"save .\n", "desk: .: Device or resource busy\n"),
-        (b"save sub/..\n", "desk: sub/..: Device or resource busy\n"),
-        (b"save no/new\n", "desk: no/new.new: No such file or directory\n"),
-        (b"save no/\n", "desk: no/.new: No such file or directory\n"),
-        (b"save letter/new\n", "desk: letter/new.new: Not a directory\n"),
+        (b"save busy\n", three),
+        (b"save taken\n", three),
+        (b"save sub\n", "desk: sub: is a directory: save to another name\n"),
+        (b"save sub/\n", "desk: sub/: is a directory: save to another name\n"),
+        (b"save .\n", "desk: .: is a directory: save to another name\n"),
+        (b"save sub/..\n", "desk: sub/..: is a directory: save to another name\n"),
+        (b"save no/new\n", "desk: no/new: no new file can be made beside it: No such file or directory\n"),
+        (b"save no/\n", "desk: no/: no new file can be made beside it: No such file or directory\n"),
+        (b"save letter/new\n", "desk: letter/new: Not a directory\n"),
+        (b"save letter/\n", "desk: letter/: Not a directory\n"),
+        (b"save a\0b\n", "desk: the name of the file has a NUL\n"),
         (b"save sub/new\n", three),
         (b"save x.new\n", three),
-        (b"save x\n", "desk: x.new: File exists\n"),
+        (b"save x\n", three),
         (b"save -\n", three),
         (b"replace 1 1\n", "status=0\ncount=2\n"),
         (b"save letter\n", "status=0\ncount=2\n"),
@@ -297,8 +305,11 @@ pub fn saves() -> Vec<Transcript> {
         ("new", "abc"),
         ("two words", "abc"),
         ("old", "abc"),
+        ("busy", "abc"),
+        ("taken", "abc"),
         ("sub/new", "abc"),
         ("x.new", "abc"),
+        ("x", "abc"),
         ("-", "abc"),
         ("letter", "ac"),
         ("save", "ac"),

@@ -2,7 +2,7 @@
 //! docs/DESK.md, which tells the rest and is README.md's part on `desk`. It was written without a look at the proved code.
 //! Where docs/DESK.md is silent, a comment says what is taken.
 
-use super::files::{Errno, Files};
+use super::files::{Entry, Errno, Files};
 use super::page::{self, Page, State};
 use super::{print_listing, Answer, Call, Kind, LIMIT};
 
@@ -50,10 +50,13 @@ pub enum Complaint {
     Replace,
     NameMissing,
     NameTooLong,
-    /// FILE.new cannot be made or written.
-    New(Vec<u8>, Errno),
-    /// FILE.new cannot be renamed to FILE.
-    Rename(Vec<u8>, Errno),
+    NameWithNul,
+    /// FILE cannot be looked at, or what is saved cannot take its place.
+    Save(Vec<u8>, Errno),
+    Directory(Vec<u8>),
+    ReadOnly(Vec<u8>),
+    /// No new file can be made beside FILE.
+    Beside(Vec<u8>, Errno),
 }
 
 /// The words for the kinds.
@@ -83,8 +86,11 @@ pub const SAVE: &str = "desk-save";
 /// "FILE longer than 4,096 bytes"
 const LONGEST_LETTER_NAME: usize = 4_096;
 
-/// "A name of more than 4,092 bytes"
-const LONGEST_NAME: usize = 4_092;
+/// "a name of more than 4,095 bytes"
+const LONGEST_NAME: usize = 4_095;
+
+/// "a folder's part of more than 4,080 bytes"
+const LONGEST_FOLDER: usize = 4_080;
 
 /// "a line of more than 65,535 bytes (without its LF)"
 pub const LONGEST_LINE: usize = 65_535;
@@ -130,12 +136,21 @@ impl Complaint {
             }
             Complaint::NameMissing => "save FILE: the name is missing",
             Complaint::NameTooLong => "the name of the file is too long",
-            Complaint::Letter(name, errno) | Complaint::New(name, errno) | Complaint::Rename(name, errno) => {
-                return [name, &b": "[..], errno.text().as_bytes()].concat();
+            Complaint::NameWithNul => "the name of the file has a NUL",
+            Complaint::Letter(name, errno) | Complaint::Save(name, errno) => return of_name(name, &errno.text()),
+            Complaint::Directory(name) => return of_name(name, "is a directory: save to another name"),
+            Complaint::ReadOnly(name) => return of_name(name, "is read-only: save to another name"),
+            Complaint::Beside(name, errno) => {
+                return of_name(name, &format!("no new file can be made beside it: {}", errno.text()));
             }
         };
         text.as_bytes().to_vec()
     }
+}
+
+/// What is said of a name.
+fn of_name(name: &[u8], text: &str) -> Vec<u8> {
+    [name, b": ", text.as_bytes()].concat()
 }
 
 /// Runs the program.
@@ -257,9 +272,6 @@ impl Desk {
         if name.is_empty() {
             return Told::Complaint(Complaint::NameMissing);
         }
-        if name.len() > LONGEST_NAME {
-            return Told::Complaint(Complaint::NameTooLong);
-        }
         let saved = page::left(&self.state, &Call::Save { arrived: self.arrived.clone(), room: ROOM }, &vec![0; ROOM]);
         // "Refused: the answer is told, no file is touched."
         if saved.answer.number != 0 {
@@ -271,14 +283,33 @@ impl Desk {
         }
     }
 
-    /// "Accepted: the bytes are written to a new file FILE.new, made for this (mode 0666 less the umask), synced, closed
-    /// and renamed to FILE". "If something fails, (..) the new file is removed, and FILE stays as it was."
+    /// "A save puts a new file in the place of a regular file, or where nothing is." Taken: whoever runs desk owns the
+    /// files in the folder, and no file there has two names.
     fn put(&mut self, name: &[u8], bytes: &[u8]) -> Result<(), Complaint> {
-        let new_name = [name, b".new"].concat();
+        if name.len() > LONGEST_NAME {
+            return Err(Complaint::NameTooLong);
+        }
+        if name.contains(&0) {
+            return Err(Complaint::NameWithNul);
+        }
+        let mode = match self.files.look(name) {
+            // "Where FILE is new it has the mode 0666 less the umask."
+            Ok(None) => 0o666 & !self.umask,
+            Ok(Some(Entry::Folder)) => return Err(Complaint::Directory(name.to_vec())),
+            // "a file that nobody may write (no `w` in its mode), even for root"
+            Ok(Some(Entry::File { mode, .. })) if mode & 0o222 == 0 => return Err(Complaint::ReadOnly(name.to_vec())),
+            Ok(Some(Entry::File { mode, .. })) => *mode,
+            Err(errno) => return Err(Complaint::Save(name.to_vec(), errno)),
+        };
+        let folder = &name[..name.iter().rposition(|&byte| byte == b'/').map_or(0, |slash| slash + 1)];
+        if folder.len() > LONGEST_FOLDER {
+            return Err(Complaint::NameTooLong);
+        }
+        // "under the name `desk.new.` with six letters or digits that no file there has"
+        let new_name = [folder, b"desk.new.......".as_slice()].concat();
         let mut files = self.files.clone();
-        let path = files.make(&new_name, bytes, 0o666 & !self.umask);
-        let path = path.map_err(|errno| Complaint::New(new_name, errno))?;
-        files.rename(&path, name).map_err(|errno| Complaint::Rename(name.to_vec(), errno))?;
+        let path = files.make(&new_name, bytes, mode).map_err(|errno| Complaint::Beside(name.to_vec(), errno))?;
+        files.rename(&path, name).map_err(|errno| Complaint::Save(name.to_vec(), errno))?;
         self.files = files;
         Ok(())
     }
@@ -288,7 +319,6 @@ impl Desk {
 mod tests {
     use super::*;
     use crate::examples::desk as examples;
-    use crate::second::files::EINVAL;
 
     #[test]
     fn tells_and_leaves_what_is_written_out_by_hand() {
@@ -326,17 +356,21 @@ mod tests {
     }
 
     #[test]
-    fn a_name_has_at_most_4092_bytes() {
-        let saved = |length: usize| told(&[b"save ", &b"./".repeat(length)[..length - 1], b"n \r\n"].concat());
-        assert_eq!(saved(4_091), Told::Answer(SAVE, Answer { number: 0, place: 3 }));
-        assert!(matches!(saved(4_092), Told::Complaint(Complaint::New(name, _)) if name.len() == 4_096));
-        assert_eq!(saved(4_093), Told::Complaint(Complaint::NameTooLong));
+    fn a_folder_has_at_most_4080_bytes_and_a_name_4095() {
+        let saved = |folder: usize, rest: &str| {
+            told(&[b"save ", &b"./".repeat(folder)[..folder], rest.as_bytes(), b" \r\n"].concat())
+        };
+        let three = Told::Answer(SAVE, Answer { number: 0, place: 3 });
+        assert_eq!(saved(4_080, "n"), three);
+        assert_eq!(saved(4_080, "fifteen letters"), three);
+        for name in [saved(4_080, "sixteen letters."), saved(4_082, "n")] {
+            assert_eq!(name, Told::Complaint(Complaint::NameTooLong));
+        }
     }
 
     #[test]
     fn a_name_with_a_nul_is_of_no_file() {
-        let name = b"a\0b.new".to_vec();
-        assert_eq!(told(b"save a\0b\n"), Told::Complaint(Complaint::New(name, EINVAL)));
+        assert_eq!(told(b"save a\0b\n"), Told::Complaint(Complaint::NameWithNul));
     }
 
     #[test]

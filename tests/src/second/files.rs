@@ -62,6 +62,19 @@ impl Files {
         }
     }
 
+    /// What has this name, if anything has.
+    pub fn look(&self, name: &[u8]) -> Result<Option<&Entry>, Errno> {
+        let way = match self.way(name) {
+            Err(ENOENT) => return Ok(None),
+            way => way?,
+        };
+        match self.entries.get(&way.path) {
+            _ if way.ends_in_dots => Ok(Some(&Entry::Folder)),
+            Some(Entry::File { .. }) if way.ends_in_slash => Err(ENOTDIR),
+            found => Ok(found),
+        }
+    }
+
     /// Makes a file under a name that nothing has, and gives its path. The name ends in neither dots nor a slash.
     pub fn make(&mut self, name: &[u8], bytes: &[u8], mode: u32) -> Result<Vec<u8>, Errno> {
         let way = self.way(name)?;
@@ -183,6 +196,21 @@ mod tests {
         }
         assert_eq!(files.read(&[&b"./".repeat(2_047)[..], b"f"].concat()), Ok(b"1".to_vec()));
         assert_eq!(files.read(&[&b"./".repeat(2_047)[..], b"/f"].concat()), Err(ENAMETOOLONG));
+    }
+
+    #[test]
+    fn names_are_looked_at() {
+        let files = some();
+        for name in ["d", "d/", "d/.", "d/..", "."] {
+            assert_eq!(files.look(name.as_bytes()), Ok(Some(&Entry::Folder)), "{name}");
+        }
+        assert_eq!(files.look(b"d/../f"), Ok(files.entries.get(&b"f"[..])));
+        for name in ["g", "g/", "e/f", "e/.."] {
+            assert_eq!(files.look(name.as_bytes()), Ok(None), "{name}");
+        }
+        for name in ["f/", "f/f", "f/.."] {
+            assert_eq!(files.look(name.as_bytes()), Err(ENOTDIR), "{name}");
+        }
     }
 
     #[test]

@@ -150,8 +150,11 @@ fn label(complaint: &Complaint) -> String {
         Complaint::Replace => "replace",
         Complaint::NameMissing => "name missing",
         Complaint::NameTooLong => "name too long",
-        Complaint::New(_, errno) => return format!("FILE.new: {}", errno.text()),
-        Complaint::Rename(_, errno) => return format!("FILE: {}", errno.text()),
+        Complaint::NameWithNul => "name with a NUL",
+        Complaint::Save(_, errno) => return format!("FILE: {}", errno.text()),
+        Complaint::Directory(_) => "a directory",
+        Complaint::ReadOnly(_) => "read-only",
+        Complaint::Beside(_, errno) => return format!("beside FILE: {}", errno.text()),
     };
     label.to_string()
 }

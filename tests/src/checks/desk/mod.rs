@@ -87,21 +87,18 @@ fn expect_statuses(report: &mut Report, kind: Kind) {
 }
 
 /// What can be complained of in scripts, and the errors of the system that names in them can cause.
-const COMPLAINTS: [&str; 14] = [
+const COMPLAINTS: [&str; 11] = [
     "line too long",
     "no such command",
     "nothing may follow",
     "replace",
     "name missing",
     "name too long",
-    "FILE.new: File exists",
-    "FILE.new: File name too long",
-    "FILE.new: Invalid argument",
-    "FILE.new: No such file or directory",
-    "FILE.new: Not a directory",
-    "FILE: Device or resource busy",
-    "FILE: Is a directory",
+    "name with a NUL",
+    "a directory",
+    "FILE: File name too long",
     "FILE: Not a directory",
+    "beside FILE: No such file or directory",
 ];
 
 /// That each of these was complained of, and nothing else; the count is that of the complaints.

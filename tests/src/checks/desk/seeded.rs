@@ -298,7 +298,7 @@ fn name(rng: &mut Rng) -> Vec<u8> {
 }
 
 /// Lengths of names: those with the longest parts, and the longest as a whole, and longer ones.
-pub const LONG_NAMES: &[usize] = &[250, 251, 252, 255, 256, 4_090, 4_091, 4_092, 4_093, 4_096, 5_000];
+pub const LONG_NAMES: &[usize] = &[245, 251, 252, 255, 256, 4_082, 4_083, 4_084, 4_095, 4_096, 5_000];
 
 /// A name of this length: one part if that is about as long as a part can be, else many that lead nowhere else.
 pub fn long_name(length: usize) -> Vec<u8> {

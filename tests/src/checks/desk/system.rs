@@ -1,6 +1,5 @@
 //! What no script can cause: other umasks, limits that a shell sets, letters that are no ordinary files.
 
-use std::fs;
 use std::time::Duration;
 
 use super::built::Desk;
@@ -30,7 +29,6 @@ pub fn run(report: &mut Report, desk: &Desk) {
     check("full", "saves of which only the first bytes can be written", &[too_large()], limit);
     check("devices", "letters that are no ordinary files", &devices(), "");
     report.check("desk-pieces", "a letter that arrives in pieces", |_| in_pieces(desk).map(|()| 1));
-    report.check("desk-links", "a file with two names, saved to under one", |_| two_names(desk).map(|()| 1));
 }
 
 /// Files "letter" with this letter and "old".
@@ -62,7 +60,7 @@ fn too_large() -> Transcript {
     let input = "save old\nsave new\nreplace 0 2990\nsave old\n";
     let output = "status=0\ncount=3000\nstatus=0\ncount=10\nstatus=0\ncount=10\n";
     Transcript {
-        errors: b"desk: old.new: File too large\ndesk: new.new: File too large\n".to_vec(),
+        errors: b"desk: old: File too large\ndesk: new: File too large\n".to_vec(),
         saved: vec![("old", "aaaaaaaaaa")],
         ..transcript("a letter that is too large", &"a".repeat(3_000), input, output)
     }
@@ -97,19 +95,4 @@ fn in_pieces(desk: &Desk) -> Result<(), String> {
     same_bytes("standard output", b"status=0\ncount=4\n", output)?;
     same_bytes("standard error", b"", errors)?;
     same_files(&before, &folder.files()?)
-}
-
-/// The other name keeps the file that was there: what is saved is another file.
-fn two_names(desk: &Desk) -> Result<(), String> {
-    let Transcript { arguments, before, input, .. } = two_saves();
-    let folder = Folder::new(&before)?;
-    let [old, other] = ["old", "other"].map(|name| folder.path.join(name));
-    fs::hard_link(old, other).map_err(|error| format!("no second name: {error}"))?;
-    let mut session = desk.start(&arguments, &folder, "")?;
-    session.feed(&input);
-    session.close();
-    session.end()?;
-    let mut expected = two_saves().after(desk.umask);
-    expected.entries.extend(files(&[("other", "an older file")], OLD_MODE).entries);
-    same_files(&expected, &folder.files()?)
 }
