@@ -1,6 +1,6 @@
 -- The bytes of a JP-2 cell, read with the sets in force before them, make that cell, and no shorter end of them does.
 -- Assumes nothing.
-use Prim.Native.Nat.{ℕ, zero, suc, _+_, _-_, _*_, _<_, _≤_}
+use Prim.Native.Nat.{ℕ, zero, suc, _+_, _*_, _<_, _≤_}
 use mathlib.Core.Path.{_≡_, refl, sym, ap, _∙_}
 use mathlib.Core.Bool.{Bool, true, false, cond, _&&_, _||_, false≢true}
 use mathlib.Core.List.{List, [], _∷_, _++_}
@@ -8,22 +8,21 @@ use mathlib.Core.Logic.{inl, inr}
 use native.Mathlib.Omega.{arith}
 use lib.ListN.{length}
 use lib.Dec.{ltb, eqb, lit<, lit≤}
-use borrow.Author.Tests.{ltb-true, ltb-false, le-leb, eqb-true, ne-eqb}
+use borrow.Author.Tests.{ltb-true, ltb-false, eqb-true, ne-eqb}
 use Rattle.answer.specs.Lists.{Each}
 use Rattle.answer.proofs.Below.{both, cond-case}
 use Rattle.reading.specs.Reading.{Does, give, onRead, readFrom}
-use Rattle.reading.specs.Spans.{upTo, Takes, markedAs, narrow, markedIn}
+use Rattle.reading.specs.Spans.{Takes, markedIn}
 use Rattle.reading.specs.Located.{cellsFrom, Least, Located}
-use Rattle.reading.proofs.Located.{cells-by, least-short, least-one, Anew, MakesDoes, Making, all-located}
+use Rattle.reading.proofs.Located.{cells-by, least-short, least-one, Anew, MakesDoes, Making, located}
 use Rattle.jp2.specs.Table.{rowAt, begins, isList, rowOfEscape, rowBegunBy}
 use Rattle.jp2.specs.Rule.{Phase, plain, return, first, shifted, escape, State, state, graphic, cellOf, singleDoes, firstDoes, secondDoes, betweenDoes, shiftedDoes, escapeDoes, inPhase, byteDoes, jp2}
-use Rattle.jp2.specs.Spans.{phaseSpan, spanIn}
+use Rattle.jp2.specs.Spans.{spanIn}
 use Rattle.jp2.specs.Writable.{pairSet, shiftSet}
 use Rattle.jp2.proofs.Begins.{begins-whole}
 use Rattle.jp2.proofs.Sets.{either, graphic-range, single, baseSet, shift-case, pair-apart}
 use Rattle.jp2.proofs.Sends.{phaseOf, byte-between}
 use Rattle.jp2.proofs.Kept.{SoundState, jp2-kept}
-use Rattle.jp2.proofs.Spans.{jp2-marks}
 
 -- the bytes of the cell in the making
 abbrev phaseSince : Phase → List ℕ
@@ -44,11 +43,15 @@ record From (base st : State) : Type 0 where
 from-on : {base : State} {g0 g2 : ℕ} {p q : Phase} → From base (state g0 g2 p) → From base (state g0 g2 q)
 from-on f = record { cr = f .cr; so = f .so }
 
+-- JP-2 has no runs
+abbrev noRun : State → ℕ → Bool
+noRun st b = false
+
 abbrev MakesBy : State → State → ℕ → Does State → Type 0
-MakesBy = MakesDoes jp2 spanIn 3 since From
+MakesBy = MakesDoes jp2 noRun spanIn since From
 
 abbrev Begins : State → Type 0
-Begins = Anew jp2 spanIn 3 since From
+Begins = Anew jp2 noRun spanIn since From
 
 begins-plain : (g0 g2 : ℕ) → Begins (state g0 g2 plain)
 begins-plain g0 g2 = (refl, record { cr = false; so = refl })
@@ -152,7 +155,7 @@ module _ (base : State) (g0 g2 b : ℕ) where
       cond-case P (eqb b 27) (λ e. inl (rw (none, eqb-true b 27 e), from-on f))
       (λ _. cond-case P (eqb g0 6 || eqb g0 14)
       (λ _. cond-case P (eqb b 14 || eqb b 15) (λ _. tt)
-      (λ _. (begins-after g0 _ (eqb b 13), inl (rw none last, rw none (least-one jp2 base b _)))))
+      (λ _. (begins-after g0 _ (eqb b 13), λ _. (rw none last, rw none (least-one jp2 base b _)))))
       (λ _. cond-case P (graphic b) (λ _. inl (rw none, from-on f)) (λ _. tt)))
 
   escape-makes :
@@ -181,13 +184,13 @@ module _ (base : State) (g0 g2 b : ℕ) where
       cond-case (MakesBy base (state g0 g2 (first a)) b) (graphic b)
       (λ g.
       let high : 32 ≤ b = omega (arith, graphic-range b g .0) in
-      (begins-plain g0 g2, inl (λ at. refl, rw (f .so) (pair-least g0 g2 (f .cr) a b _ (s .within .1) high low))))
+      (begins-plain g0 g2, λ _. (λ at. refl, rw (f .so) (pair-least g0 g2 (f .cr) a b _ (s .within .1) high low))))
       (λ _. tt)
   phase-makes shifted s low f =
       cond-case (MakesBy base (state g0 g2 shifted) b) (ltb b 32) (λ _. tt)
       (λ t.
       let high = ltb-false b 32 t in
-      (begins-plain g0 g2, inl (λ at. refl, rw (f .so) (shift-least g0 g2 (f .cr) (s .lower) (s .within) b high low))))
+      (begins-plain g0 g2, λ _. (λ at. refl, rw (f .so) (shift-least g0 g2 (f .cr) (s .lower) (s .within) b high low))))
   phase-makes (escape bytes) s low f = escape-makes bytes f
 
 byte-makes : (base st : State) (b : ℕ) → SoundState st → From base st → MakesBy base st b (byteDoes st b)
@@ -196,21 +199,9 @@ byte-makes base st b s f =
     cond-case (MakesBy base st b) (ltb b 128)
     (λ t. phase-makes base (st .g0) (st .g2) b (st .phase) s (ltb-true b 128 t) f) (λ _. tt)
 
-jp2-making : Making jp2 spanIn SoundState 3
+jp2-making : Making jp2 noRun spanIn SoundState
 jp2-making = record { since = since; From = From; starts = begins-plain 6 0; makes = byte-makes }
-
--- no cell has more than three bytes
-up-to : (count v at : ℕ) → count ≤ 3 → narrow 3 (markedAs v (upTo count at)) ≡ true
-up-to count v at h = le-leb (at + 1 - (at + 1 - count)) 3 (omega arith)
-
-at-most : (p : Phase) (v at : ℕ) → narrow 3 (markedAs v (phaseSpan p at)) ≡ true
-at-most plain v at = up-to 1 v at (lit≤ tt)
-at-most return v at = up-to 1 v at (lit≤ tt)
-at-most (first a) v at = up-to 2 v at (lit≤ tt)
-at-most shifted v at = up-to 3 v at (lit≤ tt)
-at-most (escape bytes) v at = up-to 1 v at (lit≤ tt)
 
 -- every cell of every text
 pub cells-located : (text : List ℕ) → Each (Located jp2 text) (markedIn jp2 spanIn text)
-unfolding spanIn
-cells-located text = all-located jp2-kept jp2-marks jp2-making text (λ st b v at. at-most (st .phase) v at)
+cells-located text = located jp2-kept jp2-making text

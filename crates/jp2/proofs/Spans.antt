@@ -66,7 +66,7 @@ byte-leads : (st : State) (b : ℕ) → Leads st b (byteDoes st b)
 unfolding byteDoes
 byte-leads st b = cond-case (Leads st b) (ltb b 128) (λ _. phase-leads (st .phase) (st .g0) (st .g2) b) (λ _. tt)
 
-pub jp2-marks : Marks jp2 spanIn SoundState 3
+jp2-marks : Marks jp2 spanIn SoundState 3
 jp2-marks = record { lead = lead; fresh = lead; starts = (refl, refl); leads = λ st b _. byte-leads st b }
 
 -- begin < end <= the text's length; a later cell neither begins nor ends before an earlier one; and no two share a byte, for none has more than three

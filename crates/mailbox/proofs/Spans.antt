@@ -33,7 +33,7 @@ unit-does bs =
     cond-case (ByLetter bs) (ltb (length bs) 16) (λ t. (ltb-true (length bs) 16 t, refl))
     (λ t. cond-case (ByLetter bs) (printable (number (take 16 bs))) (λ _. tt) (λ _. (ltb-false (length bs) 16 t, refl)))
 
-name-pending : (pending : List Bool) → length pending < 16 → Pending comma mailbox spanIn run (run pending) pending
+pub name-pending : (pending : List Bool) → length pending < 16 → Pending comma mailbox spanIn run (run pending) pending
 unfolding spanIn
 name-pending pending few = record { few = few; letter = λ b h. rw (letter-runs pending b h) (unit-does _); marks = λ b at h many. refl }
 
@@ -43,7 +43,7 @@ unfolding byteDoes lowDoes
 opens-does false b h = rw (letter-opens b h, letter-runs [] b h) (unit-does _)
 opens-does true b h = rw h (cond-case (ByLetter (bits 6 (valueOf comma b))) (ltb b 128) (λ _. tt) (λ _. tt))
 
-name-opens : (after : Bool) → Pending comma mailbox spanIn run (opening after) []
+pub name-opens : (after : Bool) → Pending comma mailbox spanIn run (opening after) []
 name-opens after =
     record {
       few = lit< tt;
@@ -101,7 +101,7 @@ byte-leads (run pending) b true h s =
 byte-leads (opening after) b false h s = other-leads (opening after) b h
 byte-leads (run pending) b false h s = other-leads (run pending) b h
 
-pub name-marks : Marks mailbox spanIn SoundShift 2
+name-marks : Marks mailbox spanIn SoundShift 2
 name-marks = record { lead = lead; fresh = fresh; starts = (refl, refl); leads = λ shift b. byte-leads shift b _ refl }
 
 -- begin < end <= the text's length; a later cell neither begins nor ends before an earlier one; and cells share bytes only where both are of runs, for one

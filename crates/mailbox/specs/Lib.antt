@@ -1,3 +1,4 @@
 pub mod Rule
 pub mod Spans
+pub mod Located
 pub mod Cases

@@ -1,20 +1,18 @@
 -- The bytes of cells outside runs are just those that make them, by any rule. Assumes nothing.
-use Prim.Native.Nat.{ℕ, zero, suc, _+_, _-_, _<_, _≤_}
+use Prim.Native.Nat.{ℕ, zero, suc, _+_, _-_, _≤_}
 use mathlib.Core.Path.{_≡_, refl, sym, ap, _∙_}
-use mathlib.Core.Bool.{true}
+use mathlib.Core.Bool.{Bool, false, cond}
 use mathlib.Core.List.{List, [], _∷_, _++_, append-assoc}
 use mathlib.Core.Logic.{_⊎_, inl, inr}
 use native.Mathlib.Omega.{arith}
 use lib.ListN.{length, take, drop, length-append, drop-of-length-le}
 use lib.Seq.{take-append-le, take-at, drop-at}
-use borrow.Author.Tests.{leb-true}
 use Rattle.answer.specs.Lists.{Each}
+use Rattle.answer.proofs.Below.{cond-case}
 use Rattle.reading.specs.Reading.{Does, give, go, bad, Rule, onRead, readFrom}
-use Rattle.reading.specs.Spans.{Span, Takes, markedAs, Marking, onMarked, markedFrom, markedIn, narrow}
-use Rattle.reading.specs.Located.{onState, stateAfter, cellsFrom, Least, Makes, Located, LocatedIn}
-use Rattle.reading.specs.declared.Marked.{Marked}
+use Rattle.reading.specs.Spans.{Takes, markedAs, Marking, onMarked, markedFrom, markedIn}
+use Rattle.reading.specs.Located.{onState, stateAfter, cellsFrom, Least, Makes, Located, silent, without, LocatedIn}
 use Rattle.reading.proofs.Laws.{Kept, SoundDoes}
-use Rattle.reading.proofs.Spans.{Gives, LeadDoes, Marks}
 use Rattle.reading.proofs.Walk.{Walk, stay, gives, goes, walk-on}
 
 state-on :
@@ -74,44 +72,35 @@ least-short rule st bytes v k h e = omega (arith, ap length (rw (drop-of-length-
 pub least-one : {S : Type 0} (rule : Rule S) (st : S) (b v : ℕ) → Least rule st (b ∷ []) v
 least-one rule st b v k h = least-short rule st (b ∷ []) v k h
 
--- a span has one count
-takes-same : {span : ℕ → Span} {m n : ℕ} → Takes span m → Takes span n → m ≡ n
-takes-same {m = m} {n = n} a b = omega (arith, ap (λ (s : Span). s .begin) (sym (a (m + n)) ∙ b (m + n)))
-
 -- A cell in the making: the bytes of it that a state has taken, and the states that it may have begun in. A byte
--- completes the cell, and then its bytes are these and that one, or are many; it is one more of them; or it ends
+-- completes the cell, and then outside runs its bytes are these and that one; it is one more of them; or it ends
 -- something that is no cell.
 module _
-    {S : Type 0} (rule : Rule S) (marking : Marking S) (few : ℕ) (since : S → List ℕ) (From : S → S → Type 0) where
+    {S : Type 0} (rule : Rule S) (inRun : S → ℕ → Bool) (marking : Marking S) (since : S → List ℕ)
+    (From : S → S → Type 0) where
   abbrev pub Anew : S → Type 0
   Anew st = (since st ≡ []) × From st st
 
-  pub record Many (st : S) (b : ℕ) : Type 0 where
-    pub count : ℕ
-    pub last : Takes (marking st b) count
-    pub more : few < count
-
   abbrev pub Completes : S → S → ℕ → ℕ → Type 0
-  Completes base st b v =
-      (Takes (marking st b) (length (since st) + 1) × Least rule base (since st ++ b ∷ []) v) ⊎ Many st b
+  Completes base st b v = Takes (marking st b) (length (since st) + 1) × Least rule base (since st ++ b ∷ []) v
 
   abbrev pub MakesDoes : S → S → ℕ → Does S → Type 0
-  MakesDoes base st b (give v st') = Anew st' × Completes base st b v
+  MakesDoes base st b (give v st') = Anew st' × (inRun st b ≡ false → Completes base st b v)
   MakesDoes base st b (go st') = ((since st' ≡ since st ++ b ∷ []) × From base st') ⊎ Anew st'
   MakesDoes base st b (bad k) = Unit
 
-pub record Making {S : Type 0} (rule : Rule S) (marking : Marking S) (Sound : S → Type 0) (few : ℕ) : Type 1 where
+pub record Making
+    {S : Type 0} (rule : Rule S) (inRun : S → ℕ → Bool) (marking : Marking S) (Sound : S → Type 0) : Type 1 where
   pub since : S → List ℕ
   pub From : S → S → Type 0
-  pub starts : Anew rule marking few since From (rule .start)
+  pub starts : Anew rule inRun marking since From (rule .start)
   pub makes :
       (base st : S) (b : ℕ) → Sound st → From base st →
-      MakesDoes rule marking few since From base st b (rule .byte st b)
+      MakesDoes rule inRun marking since From base st b (rule .byte st b)
 
 module _
-    {S : Type 0} {rule : Rule S} {marking : Marking S} {Sound : S → Type 0} {Good : ℕ → Type 0} {few : ℕ}
-    (kept : Kept rule Sound Good) (marks : Marks rule marking Sound few) (making : Making rule marking Sound few)
-    (text : List ℕ) where
+    {S : Type 0} {rule : Rule S} {inRun : S → ℕ → Bool} {marking : Marking S} {Sound : S → Type 0} {Good : ℕ → Type 0}
+    (kept : Kept rule Sound Good) (making : Making rule inRun marking Sound) (text : List ℕ) where
   -- a reader in a text: the bytes before the cell in the making, those of it, and the rest
   record Here (before made rest : List ℕ) (base st : S) (at : ℕ) : Type 0 where
     whole : text ≡ before ++ (made ++ rest)
@@ -120,11 +109,7 @@ module _
     bytes : making .since st ≡ made
     from : making .From base st
     sound : Sound st
-    deep : marks .lead st ≤ at
     place : at ≡ length before + length made
-
-  abbrev Fits : Marked → Type 0
-  Fits m = narrow few m ≡ true → Located rule text m
 
   module _
       {before made rest : List ℕ} {b : ℕ} {base st : S} {at : ℕ} (h : Here before made (b ∷ rest) base st at) where
@@ -134,8 +119,8 @@ module _
     -- the byte is one more of the cell's
     here-on :
         {st' : S} → rule .byte st b ≡ go st' → making .since st' ≡ making .since st ++ b ∷ [] → making .From base st' →
-        Sound st' → marks .lead st' ≤ at + 1 → Here before (made ++ b ∷ []) rest base st' (at + 1)
-    here-on e s f sound deep =
+        Sound st' → Here before (made ++ b ∷ []) rest base st' (at + 1)
+    here-on e s f sound =
         record {
           whole = split;
           reached = h .reached;
@@ -143,16 +128,15 @@ module _
           bytes = s ∙ ap (λ (l : List ℕ). l ++ b ∷ []) (h .bytes);
           from = f;
           sound = sound;
-          deep = deep;
           place = omega (arith, h .place, length-append made (b ∷ []));
         }
 
     -- the byte is the last of something
     here-anew :
         {st' : S} {cs : List ℕ} → Walk rule base (made ++ b ∷ []) cs st' →
-        Anew rule marking few (making .since) (making .From) st' → Sound st' → marks .lead st' ≤ at + 1 →
+        Anew rule inRun marking (making .since) (making .From) st' → Sound st' →
         Here (before ++ (made ++ b ∷ [])) [] rest st' st' (at + 1)
-    here-anew w s sound deep =
+    here-anew w s sound =
         record {
           whole = split ∙ sym (append-assoc before (made ++ b ∷ []) rest);
           reached = state-on rule (rule .start) before (made ++ b ∷ []) ∙ rw (h .reached) (walk-state w);
@@ -160,18 +144,15 @@ module _
           bytes = s .0;
           from = s .1;
           sound = sound;
-          deep = deep;
           place = omega (arith, h .place, length-append made (b ∷ []), length-append before (made ++ b ∷ []));
         }
 
     -- a cell that the byte completes
     here-located :
-        {v : ℕ} {st' : S} → rule .byte st b ≡ give v st' → Gives few (marks .lead) (marks .fresh) marking st st' b →
-        Completes rule marking few (making .since) (making .From) base st b v → Fits (markedAs v (marking st b at))
-    here-located e g (inr many) n =
-        let low = leb-true (at + 1 - (at + 1 - g .count)) few (rw (g .last at) at n) in
-        absurd (omega (arith, low, g .led, h .deep, many .more, takes-same (many .last) (g .last)))
-    here-located {v} e g (inl c) n =
+        {v : ℕ} {st' : S} → rule .byte st b ≡ give v st' →
+        Completes rule inRun marking (making .since) (making .From) base st b v →
+        Located rule text (markedAs v (marking st b at))
+    here-located {v} e c =
         let q = rw (h .bytes) at c in
         let begin : at + 1 - (length made + 1) ≡ length before = omega (arith, h .place) in
         let size : at + 1 - length before ≡ length (made ++ b ∷ []) =
@@ -184,34 +165,46 @@ module _
         in
         rw (q .0 at, begin, size, front, back, h .reached) (walk-makes (h .walk) e (q .1))
 
+  abbrev outside : Rule S
+  outside = without inRun rule
+
+  abbrev AllLocated : List ℕ → ℕ → S → Type 0
+  AllLocated bs at st = Each (Located rule text) (markedFrom outside marking bs at st)
+
+  abbrev Marks : List ℕ → S → ℕ → ℕ → Does S → Type 0
+  Marks rest st b at does =
+      Each (Located rule text) (onMarked does (marking st b at) (markedFrom outside marking rest (at + 1)))
+
   located-does :
       {before made rest : List ℕ} {b : ℕ} {base st : S} {at : ℕ} (does : Does S) →
       Here before made (b ∷ rest) base st at → rule .byte st b ≡ does → SoundDoes Sound Good does →
-      LeadDoes few (marks .lead) (marks .fresh) marking st b does →
-      MakesDoes rule marking few (making .since) (making .From) base st b does →
+      MakesDoes rule inRun marking (making .since) (making .From) base st b does →
       ((before' made' : List ℕ) (base' st' : S) → Here before' made' rest base' st' (at + 1) →
-      Each Fits (markedFrom rule marking rest (at + 1) st')) →
-      Each Fits (onMarked does (marking st b at) (markedFrom rule marking rest (at + 1)))
-  located-does (give v st') h e sound g m ih =
-      let w = walk-on (h .walk) (gives e stay) in
-      (here-located h e g (m .1), ih _ _ _ _ (here-anew h w (m .0) (sound .1) (omega (arith, g .shared))))
-  located-does (go st') h e sound g (inl m) ih =
-      ih _ _ _ _ (here-on h e (m .0) (m .1) sound (omega (arith, g .0, h .deep)))
-  located-does (go st') h e sound g (inr m) ih =
-      ih _ _ _ _ (here-anew h (walk-on (h .walk) (goes e stay)) m sound (omega (arith, g .0, h .deep)))
-  located-does (bad k) h e sound g m ih = tt
+      AllLocated rest (at + 1) st') →
+      Marks rest st b at (cond (inRun st b) (silent does) does)
+  located-does {rest = rest} {b} {st = st} {at} (give v st') h e sound m ih =
+      let next = ih _ _ _ _ (here-anew h (walk-on (h .walk) (gives e stay)) (m .0) (sound .1)) in
+      cond-case (Marks rest st b at) (inRun st b) (λ _. next) (λ i. (here-located h e (m .1 i), next))
+  located-does {rest = rest} {b} {st = st} {at} (go st') h e sound (inl m) ih =
+      let next = ih _ _ _ _ (here-on h e (m .0) (m .1) sound) in
+      cond-case (Marks rest st b at) (inRun st b) (λ _. next) (λ _. next)
+  located-does {rest = rest} {b} {st = st} {at} (go st') h e sound (inr m) ih =
+      let next = ih _ _ _ _ (here-anew h (walk-on (h .walk) (goes e stay)) m sound) in
+      cond-case (Marks rest st b at) (inRun st b) (λ _. next) (λ _. next)
+  located-does {rest = rest} {b} {st = st} {at} (bad k) h e sound m ih =
+      cond-case (Marks rest st b at) (inRun st b) (λ _. tt) (λ _. tt)
 
   located-from :
       {before made : List ℕ} {base st : S} {at : ℕ} (rest : List ℕ) → Here before made rest base st at →
-      Each Fits (markedFrom rule marking rest at st)
+      AllLocated rest at st
   unfolding markedFrom
   located-from [] h = tt
   located-from {base = base} {st = st} (b ∷ rest) h =
-      located-does (rule .byte st b) h refl (kept .keeps st b (h .sound)) (marks .leads st b (h .sound))
+      located-does (rule .byte st b) h refl (kept .keeps st b (h .sound))
       (making .makes base st b (h .sound) (h .from)) (λ _ _ _ _. located-from rest)
 
-  -- the bytes of a text's cells that have few of them make those cells
-  pub located : LocatedIn rule few marking text
+  -- the bytes of a text's cells outside runs make those cells
+  pub located : LocatedIn rule inRun marking text
   unfolding markedIn stateAfter
   located =
       located-from {before = []} {made = []} text
@@ -222,29 +215,5 @@ module _
         bytes = making .starts .0;
         from = making .starts .1;
         sound = kept .starts;
-        deep = omega (arith, marks .starts .0);
         place = omega arith;
       })
-
-  -- of every cell, where none has more
-  module _ (all : (st : S) (b v at : ℕ) → narrow few (markedAs v (marking st b at)) ≡ true) where
-    each-does :
-        (does : Does S) (st : S) (b at : ℕ) (rest : S → List Marked) →
-        ((st' : S) → Each Fits (rest st') → Each (Located rule text) (rest st')) →
-        Each Fits (onMarked does (marking st b at) rest) →
-        Each (Located rule text) (onMarked does (marking st b at) rest)
-    each-does (give v st') st b at rest ih h = (h .0 (all st b v at), ih st' (h .1))
-    each-does (go st') st b at rest ih h = ih st' h
-    each-does (bad k) st b at rest ih h = tt
-
-    each-from :
-        (bs : List ℕ) (at : ℕ) (st : S) → Each Fits (markedFrom rule marking bs at st) →
-        Each (Located rule text) (markedFrom rule marking bs at st)
-    unfolding markedFrom
-    each-from [] at st h = tt
-    each-from (b ∷ bs) at st h =
-        each-does (rule .byte st b) st b at (markedFrom rule marking bs (at + 1)) (each-from bs (at + 1)) h
-
-    pub all-located : Each (Located rule text) (markedIn rule marking text)
-    unfolding markedIn
-    all-located = each-from text 0 (rule .start) located

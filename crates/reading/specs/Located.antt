@@ -1,12 +1,12 @@
 -- Document 02, order 2, outside runs: a cell's bytes are just those that make it.
 use Prim.Native.Nat.{ℕ, _-_, _<_}
-use mathlib.Core.Bool.{true}
+use mathlib.Core.Bool.{Bool, cond}
 use mathlib.Core.Path.{_≡_}
 use mathlib.Core.List.{List, [], _∷_}
 use lib.ListN.{length, take, drop}
 use Rattle.answer.specs.Lists.{Each}
 use Rattle.reading.specs.Reading.{Does, give, go, bad, Rule, readFrom}
-use Rattle.reading.specs.Spans.{Marking, markedIn, narrow}
+use Rattle.reading.specs.Spans.{Marking, markedIn}
 use Rattle.reading.specs.declared.Marked.{Marked}
 
 abbrev pub onState : {S : Type 0} → Does S → S → S
@@ -41,6 +41,20 @@ module _ {S : Type 0} (rule : Rule S) where
       Makes (stateAfter (rule .start) (take (m .begin) text)) (take (m .end - m .begin) (drop (m .begin) text))
       (m .value)
 
-  -- so do those of every cell that has few bytes: a run's cells have more than any outside runs
-  abbrev pub LocatedIn : ℕ → Marking S → List ℕ → Type 0
-  LocatedIn few marking text = Each (λ m. narrow few m ≡ true → Located text m) (markedIn rule marking text)
+-- a rule with the cells of runs left out, by a test of the state and the byte that completes a cell
+abbrev pub silent : {S : Type 0} → Does S → Does S
+silent (give v st) = go st
+silent (go st) = go st
+silent (bad k) = bad k
+
+abbrev pub without : {S : Type 0} → (S → ℕ → Bool) → Rule S → Rule S
+without inRun rule =
+    record {
+      start = rule .start;
+      byte = λ st b. cond (inRun st b) (silent (rule .byte st b)) (rule .byte st b);
+      end = rule .end;
+    }
+
+-- the bytes of every cell outside runs make it
+abbrev pub LocatedIn : {S : Type 0} → Rule S → (S → ℕ → Bool) → Marking S → List ℕ → Type 0
+LocatedIn rule inRun marking text = Each (Located rule text) (markedIn (without inRun rule) marking text)

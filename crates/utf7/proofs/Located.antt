@@ -1,12 +1,12 @@
 -- The bytes of UTF-7's cells outside runs, read in the state before them, make those cells, and no shorter end of them
 -- does. What is said of letters holds of every rule that has runs. Assumes nothing.
-use Prim.Native.Nat.{ℕ, zero, suc, _+_, _<_}
-use mathlib.Core.Path.{_≡_, refl}
+use Prim.Native.Nat.{ℕ, zero, suc, _<_, _≤_}
+use mathlib.Core.Path.{_≡_, refl, sym, _∙_}
 use mathlib.Core.Bool.{Bool, true, false, true≢false}
 use mathlib.Core.List.{List, [], _∷_, _++_}
 use mathlib.Core.Logic.{inl, inr}
 use native.Mathlib.Omega.{arith}
-use lib.ListN.{length, drop, length-append}
+use lib.ListN.{length, drop}
 use lib.Dec.{ltb, eqb, lit<}
 use borrow.Author.Tests.{eqb-true}
 use Rattle.answer.proofs.Below.{cond-case}
@@ -20,38 +20,30 @@ use Rattle.reading.proofs.Located.{least-short, least-one, MakesDoes, Making, l
 use Rattle.utf7.specs.Sets.{direct, setD, alphanumeric}
 use Rattle.utf7.specs.Rule.{Shift, outside, opening, run, utf7, outsideDoes, mayEnd, endDoes, lowDoes, byteDoes}
 use Rattle.utf7.specs.Spans.{spanIn}
+use Rattle.utf7.specs.Located.{inRun}
 use Rattle.utf7.proofs.Kept.{SoundShift, utf7-kept}
-use Rattle.utf7.proofs.Units.{lettersOf, LetterDoes, Pending, unit-last}
-use Rattle.utf7.proofs.Spans.{utf7-pending, utf7-opens, utf7-marks}
+use Rattle.utf7.proofs.Units.{LetterDoes, Pending}
+use Rattle.utf7.proofs.Spans.{utf7-pending, utf7-opens}
 
--- a letter in a run: its cell has more than two bytes
+-- a letter in a run, or after its sign, begins or goes on with a run
 module _
-    {S : Type 0} (last : ℕ) (rule : Rule S) (marking : Marking S) (run : List Bool → S) (since : S → List ℕ)
-    (From : S → S → Type 0) (runs : (p : List Bool) → (since (run p) ≡ []) × From (run p) (run p)) where
+    {S : Type 0} (last : ℕ) (rule : Rule S) (inRun : S → ℕ → Bool) (marking : Marking S) (run : List Bool → S)
+    (since : S → List ℕ) (From : S → S → Type 0) (runs : (p : List Bool) → (since (run p) ≡ []) × From (run p) (run p))
+    (base st : S) (pending : List Bool) (b : ℕ) where
+  abbrev bs : List Bool
+  bs = pending ++ bits 6 (valueOf last b)
+
   makes-does :
-      (base st : S) (pending : List Bool) (b : ℕ) → Pending last rule marking run st pending → setB last b ≡ true →
-      (m : Does S) → LetterDoes last rule marking run (pending ++ bits 6 (valueOf last b)) m →
-      MakesDoes rule marking 2 since From base st b m
-  makes-does base st pending b w h (give v st') d =
-      let bs = pending ++ bits 6 (valueOf last b) in
-      let l : length bs ≡ length pending + 6 = simp (length-append, length-bits) in
-      let f = w .few in
-      let many = d .0 in
-      rw (d .1) (
-        runs (drop 16 bs),
-        inr (record {
-          count = lettersOf (length bs);
-          last = λ at. rw (w .marks b at h many) (unit-last bs at (omega arith) (omega arith));
-          more = omega arith;
-        }),
-      )
-  makes-does base st pending b w h (go st') d = inr (rw (d .1) (runs (pending ++ bits 6 (valueOf last b))))
-  makes-does base st pending b w h (bad k) d = tt
+      (16 ≤ length bs → inRun st b ≡ true) → (m : Does S) → LetterDoes last rule marking run bs m →
+      MakesDoes rule inRun marking since From base st b m
+  makes-does within (give v st') d = (rw (d .1) (runs (drop 16 bs)), λ i. absurd (true≢false (sym (within (d .0)) ∙ i)))
+  makes-does within (go st') d = inr (rw (d .1) (runs bs))
+  makes-does within (bad k) d = tt
 
   pub letter-makes :
-      (base st : S) (pending : List Bool) (b : ℕ) → Pending last rule marking run st pending → setB last b ≡ true →
-      MakesDoes rule marking 2 since From base st b (rule .byte st b)
-  letter-makes base st pending b w h = makes-does base st pending b w h (rule .byte st b) (w .letter b h)
+      Pending last rule marking run st pending → setB last b ≡ true → (16 ≤ length bs → inRun st b ≡ true) →
+      MakesDoes rule inRun marking since From base st b (rule .byte st b)
+  letter-makes w h within = makes-does within (rule .byte st b) (w .letter b h)
 
 -- a sign and the '-' behind it: alone the '-' is itself
 pub sign-least :
@@ -81,12 +73,12 @@ From base opening = base ≡ outside
 From base (run pending) = Unit
 
 abbrev MakesBy : Shift → Shift → ℕ → Does Shift → Type 0
-MakesBy = MakesDoes utf7 spanIn 2 since From
+MakesBy = MakesDoes utf7 inRun spanIn since From
 
 run-makes :
     (base st : Shift) (pending : List Bool) (b : ℕ) → Pending slash utf7 spanIn run st pending → setB slash b ≡ true →
-    MakesBy base st b (byteDoes st b)
-run-makes = letter-makes slash utf7 spanIn run since From (λ p. (refl, tt))
+    (16 ≤ length (pending ++ bits 6 (valueOf slash b)) → inRun st b ≡ true) → MakesBy base st b (byteDoes st b)
+run-makes = letter-makes slash utf7 inRun spanIn run since From (λ p. (refl, tt))
 
 -- a byte that is itself, outside a run or at its end
 own-makes :
@@ -96,7 +88,7 @@ unfolding outsideDoes
 own-makes base shift b none f h =
     cond-case (MakesBy base shift b) (eqb b 43) (λ e. inl (rw (none, eqb-true b 43 e), f e))
     (λ _. cond-case (MakesBy base shift b) (direct b)
-    (λ _. ((refl, refl), inl (rw none h, rw none (least-one utf7 base b b)))) (λ _. tt))
+    (λ _. ((refl, refl), λ _. (rw none h, rw none (least-one utf7 base b b)))) (λ _. tt))
 
 end-makes :
     (base : Shift) (pending : List Bool) (b : ℕ) (may : Bool) → setB slash b ≡ false →
@@ -117,7 +109,7 @@ low-makes base outside b f h = own-makes base outside b refl (λ _. f) (λ at. r
 low-makes base opening b f h =
     rw h
     (cond-case (MakesBy base opening b) (eqb b 45)
-    (λ e. ((refl, refl), inl (λ at. refl, rw (f, eqb-true b 45 e) (sign-least utf7 outside outside 43 dash (lit< tt)))))
+    (λ e. ((refl, refl), λ _. (λ at. refl, rw (f, eqb-true b 45 e) (sign-least utf7 outside outside 43 dash (lit< tt)))))
     (λ _. tt))
 low-makes base (run pending) b f h = rw h (end-makes base pending b (mayEnd pending) h)
 
@@ -135,15 +127,17 @@ byte-makes :
     (base shift : Shift) (b : ℕ) (t : Bool) → setB slash b ≡ t → SoundShift shift → From base shift →
     MakesBy base shift b (byteDoes shift b)
 byte-makes base outside b t h s f = outside-makes base b f
-byte-makes base opening b true h s f = run-makes base opening [] b utf7-opens h
-byte-makes base (run pending) b true h s f = run-makes base (run pending) pending b (utf7-pending pending s) h
+byte-makes base opening b true h s f =
+    run-makes base opening [] b utf7-opens h (λ many. absurd (omega (arith, length-bits 6 (valueOf slash b))))
+byte-makes base (run pending) b true h s f =
+    run-makes base (run pending) pending b (utf7-pending pending s) h (λ _. h)
 byte-makes base opening b false h s f = other-makes base opening b f h
 byte-makes base (run pending) b false h s f = other-makes base (run pending) b f h
 
-utf7-making : Making utf7 spanIn SoundShift 2
+utf7-making : Making utf7 inRun spanIn SoundShift
 utf7-making =
     record { since = since; From = From; starts = (refl, refl); makes = λ base st b. byte-makes base st b _ refl }
 
 -- a single byte, and `+-`
-pub cells-located : (text : List ℕ) → LocatedIn utf7 2 spanIn text
-cells-located text = located utf7-kept utf7-marks utf7-making text
+pub cells-located : (text : List ℕ) → LocatedIn utf7 inRun spanIn text
+cells-located text = located utf7-kept utf7-making text

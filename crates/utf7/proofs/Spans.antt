@@ -91,7 +91,7 @@ byte-leads (run pending) b true h s =
 byte-leads opening b false h s = other-leads opening b s h
 byte-leads (run pending) b false h s = other-leads (run pending) b s h
 
-pub utf7-marks : Marks utf7 spanIn SoundShift 2
+utf7-marks : Marks utf7 spanIn SoundShift 2
 utf7-marks = record { lead = lead; fresh = fresh; starts = (refl, refl); leads = λ shift b. byte-leads shift b _ refl }
 
 -- begin < end <= the text's length; a later cell neither begins nor ends before an earlier one; and cells share bytes only where both are of runs, for one

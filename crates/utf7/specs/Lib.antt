@@ -5,3 +5,4 @@ pub mod Writing
 pub mod Lines
 pub mod Cases
 pub mod Needed
+pub mod Located
