@@ -6,13 +6,13 @@ use mathlib.Core.List.{List, [], _∷_, map}
 use native.Mathlib.Omega.{arith}
 use lib.ListN.{length}
 use lib.Dec.{ltb, eqb}
-use borrow.Author.Tests.{ltb-false}
-use Rattle.answer.specs.Answer.{limit}
+use borrow.Author.Tests.{lt-ltb, ltb-false}
+use Rattle.answer.specs.Answer.{limit, tooLong}
 use Rattle.answer.specs.Lists.{Each}
 use Rattle.answer.proofs.Below.{cond-case}
 use Rattle.jp2.specs.Table.{rowOfNumber}
 use Rattle.jp2.specs.Writable.{setOf, codeOf, writable, firstForeign}
-use Rattle.jp2.specs.Tally.{sets, countOf, countsOf, sum, Counts, tallyOf}
+use Rattle.jp2.specs.Tally.{sets, countOf, countsOf, sum, Counts, noCounts, tallyOf}
 use Rattle.jp2.proofs.Sets.{Writable}
 use Rattle.jp2.proofs.Table.{table-rule}
 use Rattle.jp2.proofs.Rows.{row-found, row-number}
@@ -26,6 +26,11 @@ sum-all : (cells : List ℕ) → Each Writable cells → sum (countsOf cells) �
 unfolding countOf writable
 sum-all [] h = refl
 sum-all (v ∷ vs) h = omega (arith, sum-all vs (h .1), once (setOf v) (row-found (setOf v) (codeOf v) (h .0)))
+
+-- 16 comes first
+pub tally-long : (cells : List ℕ) → limit < length cells → tallyOf cells ≡ noCounts tooLong
+unfolding tallyOf
+tally-long cells h = rw (lt-ltb limit (length cells) h)
 
 -- of every list whose tally is accepted
 pub sum-counts : (cells : List ℕ) → tallyOf cells .verdict .number ≡ 0 → sum (tallyOf cells .counts) ≡ length cells

@@ -18,6 +18,7 @@ use Rattle.reading.proofs.Located.{cells-by, least-short, least-one, Anew, Make
 use Rattle.jp2.specs.Table.{rowAt, begins, isList, rowOfEscape, rowBegunBy}
 use Rattle.jp2.specs.Rule.{Phase, plain, return, first, shifted, escape, State, state, graphic, cellOf, singleDoes, firstDoes, secondDoes, betweenDoes, shiftedDoes, escapeDoes, inPhase, byteDoes, jp2}
 use Rattle.jp2.specs.Spans.{spanIn}
+use Rattle.jp2.specs.Located.{between, noRun}
 use Rattle.jp2.specs.Writable.{pairSet, shiftSet}
 use Rattle.jp2.proofs.Begins.{begins-whole}
 use Rattle.jp2.proofs.Sets.{either, graphic-range, single, baseSet, shift-case, pair-apart}
@@ -43,21 +44,17 @@ record From (base st : State) : Type 0 where
 from-on : {base : State} {g0 g2 : ℕ} {p q : Phase} → From base (state g0 g2 p) → From base (state g0 g2 q)
 from-on f = record { cr = f .cr; so = f .so }
 
--- JP-2 has no runs
-abbrev noRun : State → ℕ → Bool
-noRun st b = false
-
 abbrev MakesBy : State → State → ℕ → Does State → Type 0
-MakesBy = MakesDoes jp2 noRun spanIn since From
+MakesBy = MakesDoes jp2 between noRun spanIn since From
 
 abbrev Begins : State → Type 0
-Begins = Anew jp2 noRun spanIn since From
+Begins = Anew jp2 between noRun spanIn since From
 
 begins-plain : (g0 g2 : ℕ) → Begins (state g0 g2 plain)
-begins-plain g0 g2 = (refl, record { cr = false; so = refl })
+begins-plain g0 g2 = record { none = refl; rests = refl; begun = record { cr = false; so = refl } }
 
 begins-after : (g0 g2 : ℕ) (cr : Bool) → Begins (state g0 g2 (phaseOf cr))
-begins-after g0 g2 true = (refl, record { cr = true; so = refl })
+begins-after g0 g2 true = record { none = refl; rests = refl; begun = record { cr = true; so = refl } }
 begins-after g0 g2 false = begins-plain g0 g2
 
 -- no set for ESC N is one of single bytes
@@ -152,11 +149,11 @@ module _ (base : State) (g0 g2 b : ℕ) where
   unfolding betweenDoes singleDoes firstDoes
   between-makes p cr f none last =
       let P = MakesBy base (state g0 g2 p) b in
-      cond-case P (eqb b 27) (λ e. inl (rw (none, eqb-true b 27 e), from-on f))
+      cond-case P (eqb b 27) (λ e. inl (record { more = rw (none, eqb-true b 27 e); inside = refl; begun = from-on f }))
       (λ _. cond-case P (eqb g0 6 || eqb g0 14)
       (λ _. cond-case P (eqb b 14 || eqb b 15) (λ _. tt)
       (λ _. (begins-after g0 _ (eqb b 13), λ _. (rw none last, rw none (least-one jp2 base b _)))))
-      (λ _. cond-case P (graphic b) (λ _. inl (rw none, from-on f)) (λ _. tt)))
+      (λ _. cond-case P (graphic b) (λ _. inl (record { more = rw none; inside = refl; begun = from-on f })) (λ _. tt)))
 
   escape-makes :
       (bytes : List ℕ) → From base (state g0 g2 (escape bytes)) →
@@ -169,10 +166,11 @@ module _ (base : State) (g0 g2 b : ℕ) where
       (λ e.
       let q = both (begins l (27 ∷ 78 ∷ [])) _ e in
       let same = sym (begins-whole l (27 ∷ 78 ∷ []) (q .0) (eqb-true (length l) 2 (q .1))) in
-      cond-case P (eqb g2 0) (λ _. tt) (λ _. inl (same, from-on f)))
+      cond-case P (eqb g2 0) (λ _. tt) (λ _. inl (record { more = same; inside = refl; begun = from-on f })))
       (λ _. cond-case P (ltb (rowOfEscape l) 9)
       (λ _. inr (cond-case Begins (eqb (rowAt (rowOfEscape l) .to) 2) (λ _. begins-plain _ _) (λ _. begins-plain _ _)))
-      (λ _. cond-case P (ltb (rowBegunBy l) 9) (λ _. inl (refl, from-on f)) (λ _. tt)))
+      (λ _. cond-case P (ltb (rowBegunBy l) 9) (λ _. inl (record { more = refl; inside = refl; begun = from-on f }))
+      (λ _. tt)))
 
   phase-makes :
       (p : Phase) → SoundState (state g0 g2 p) → b < 128 → From base (state g0 g2 p) →
@@ -199,9 +197,9 @@ byte-makes base st b s f =
     cond-case (MakesBy base st b) (ltb b 128)
     (λ t. phase-makes base (st .g0) (st .g2) b (st .phase) s (ltb-true b 128 t) f) (λ _. tt)
 
-jp2-making : Making jp2 noRun spanIn SoundState
+jp2-making : Making jp2 between noRun spanIn SoundState
 jp2-making = record { since = since; From = From; starts = begins-plain 6 0; makes = byte-makes }
 
 -- every cell of every text
-pub cells-located : (text : List ℕ) → Each (Located jp2 text) (markedIn jp2 spanIn text)
+pub cells-located : (text : List ℕ) → Each (Located jp2 between text) (markedIn jp2 spanIn text)
 cells-located text = located jp2-kept jp2-making text

@@ -1,6 +1,7 @@
 pub mod Table
 pub mod Rule
 pub mod Spans
+pub mod Located
 pub mod Writable
 pub mod Writing
 pub mod Tally

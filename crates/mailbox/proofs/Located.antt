@@ -15,13 +15,13 @@ use Rattle.bits.proofs.Bits.{length-bits}
 use Rattle.base64.specs.Letters.{valueOf, setB, comma}
 use Rattle.reading.specs.Reading.{Does, give}
 use Rattle.reading.specs.Located.{LocatedIn}
-use Rattle.reading.proofs.Located.{least-one, MakesDoes, Making, located}
+use Rattle.reading.proofs.Located.{least-one, Anew, MakesDoes, Making, located}
 use Rattle.utf7.specs.Sets.{printable}
 use Rattle.utf7.proofs.Units.{Pending}
 use Rattle.utf7.proofs.Located.{letter-makes, sign-least}
 use Rattle.mailbox.specs.Rule.{Shift, outside, opening, run, mailbox, outsideDoes, closeDoes, lowDoes, byteDoes}
 use Rattle.mailbox.specs.Spans.{spanIn}
-use Rattle.mailbox.specs.Located.{inRun}
+use Rattle.mailbox.specs.Located.{between, inRun}
 use Rattle.mailbox.proofs.Kept.{SoundShift, mailbox-kept}
 use Rattle.mailbox.proofs.Spans.{name-pending, name-opens}
 
@@ -41,13 +41,18 @@ From base (opening after) = base ≡ outside after
 From base (run pending) = Unit
 
 abbrev MakesBy : Shift → Shift → ℕ → Does Shift → Type 0
-MakesBy = MakesDoes mailbox inRun spanIn since From
+MakesBy = MakesDoes mailbox between inRun spanIn since From
+
+anew : (after : Bool) → Anew mailbox between inRun spanIn since From (outside after)
+anew after = record { none = refl; rests = refl; begun = refl }
 
 run-makes :
     (base st : Shift) (pending : List Bool) (b : ℕ) → Pending comma mailbox spanIn run st pending →
     setB comma b ≡ true → (16 ≤ length (pending ++ bits 6 (valueOf comma b)) → inRun st b ≡ true) →
     MakesBy base st b (byteDoes st b)
-run-makes = letter-makes comma mailbox inRun spanIn run since From (λ p. (refl, tt))
+run-makes =
+    letter-makes comma mailbox between inRun spanIn run since From
+    (λ p. record { none = refl; rests = refl; begun = tt })
 
 outside-makes :
     (base : Shift) (after : Bool) (b : ℕ) → base ≡ outside after →
@@ -55,8 +60,8 @@ outside-makes :
 unfolding outsideDoes spanIn
 outside-makes base after b f =
     let P = MakesBy base (outside after) b in
-    cond-case P (eqb b 38) (λ e. inl (rw (eqb-true b 38 e), f))
-    (λ _. cond-case P (printable b) (λ _. ((refl, refl), λ _. (λ at. refl, least-one mailbox base b b))) (λ _. tt))
+    cond-case P (eqb b 38) (λ e. inl (record { more = rw (eqb-true b 38 e); inside = refl; begun = f }))
+    (λ _. cond-case P (printable b) (λ _. (anew false, λ _. (λ at. refl, least-one mailbox base b b))) (λ _. tt))
 
 -- a byte that is no letter
 low-makes :
@@ -68,14 +73,14 @@ low-makes base (opening after) b f h =
     (cond-case (MakesBy base (opening after) b) (eqb b 45)
     (λ e.
     let least = sign-least mailbox (outside after) (outside false) 38 (dash after) (lit< tt) in
-    ((refl, refl), λ _. (λ at. refl, rw (f, eqb-true b 45 e) least)))
+    (anew false, λ _. (λ at. refl, rw (f, eqb-true b 45 e) least)))
     (λ _. tt))
 low-makes base (run pending) b f h =
     let P = MakesBy base (run pending) b in
     rw h
     (cond-case P (eqb b 45)
     (λ _. cond-case P (allZero pending)
-    (λ _. cond-case P (ltb (length pending) 6) (λ _. inr (refl, refl)) (λ _. tt)) (λ _. tt))
+    (λ _. cond-case P (ltb (length pending) 6) (λ _. inr (anew true)) (λ _. tt)) (λ _. tt))
     (λ _. tt))
 
 other-makes :
@@ -97,10 +102,10 @@ byte-makes base (run pending) b true h s f =
 byte-makes base (opening after) b false h s f = other-makes base (opening after) b f h
 byte-makes base (run pending) b false h s f = other-makes base (run pending) b f h
 
-name-making : Making mailbox inRun spanIn SoundShift
+name-making : Making mailbox between inRun spanIn SoundShift
 name-making =
-    record { since = since; From = From; starts = (refl, refl); makes = λ base st b. byte-makes base st b _ refl }
+    record { since = since; From = From; starts = anew false; makes = λ base st b. byte-makes base st b _ refl }
 
 -- a single byte, and `&-`
-pub cells-located : (text : List ℕ) → LocatedIn mailbox inRun spanIn text
+pub cells-located : (text : List ℕ) → LocatedIn mailbox between inRun spanIn text
 cells-located text = located mailbox-kept name-making text

@@ -1,17 +1,19 @@
 -- The bytes of cells outside runs are just those that make them, by any rule. Assumes nothing.
-use Prim.Native.Nat.{ℕ, zero, suc, _+_, _-_, _≤_}
+use Prim.Native.Nat.{ℕ, zero, suc, _+_, _-_, _<_, _≤_}
 use mathlib.Core.Path.{_≡_, refl, sym, ap, _∙_}
-use mathlib.Core.Bool.{Bool, false, cond}
+use mathlib.Core.Bool.{Bool, true, false, cond}
 use mathlib.Core.List.{List, [], _∷_, _++_, append-assoc}
 use mathlib.Core.Logic.{_⊎_, inl, inr}
 use native.Mathlib.Omega.{arith}
 use lib.ListN.{length, take, drop, length-append, drop-of-length-le}
-use lib.Seq.{take-append-le, take-at, drop-at}
+use lib.Seq.{take-append-le, take-at, take-length, drop-at}
+use lib.Dec.{eqb}
+use borrow.Author.Tests.{eqb-true, eqb-false}
 use Rattle.answer.specs.Lists.{Each}
 use Rattle.answer.proofs.Below.{cond-case}
 use Rattle.reading.specs.Reading.{Does, give, go, bad, Rule, onRead, readFrom}
 use Rattle.reading.specs.Spans.{Takes, markedAs, Marking, onMarked, markedFrom, markedIn}
-use Rattle.reading.specs.Located.{onState, stateAfter, cellsFrom, Least, Makes, Located, silent, without, LocatedIn}
+use Rattle.reading.specs.Located.{onState, stateAfter, cellsFrom, Least, Located, silent, without, LocatedIn}
 use Rattle.reading.proofs.Laws.{Kept, SoundDoes}
 use Rattle.reading.proofs.Walk.{Walk, stay, gives, goes, walk-on}
 
@@ -43,18 +45,6 @@ module _ {S : Type 0} {rule : Rule S} where
   walk-part (goes e w) zero at = refl
   walk-part (goes e w) (suc k) at = rw e (walk-part w k (at + 1))
 
-  -- bytes that lead on with no cell, and one that completes it
-  walk-makes :
-      {st now st' : S} {made : List ℕ} {b v : ℕ} → Walk rule st made [] now → rule .byte now b ≡ give v st' →
-      Least rule st (made ++ b ∷ []) v → Makes rule st (made ++ b ∷ []) v
-  walk-makes {made = made} {b = b} w e least =
-      record {
-        gives = walk-cells (walk-on w (gives e stay)) 0;
-        last =
-            λ k h. rw (take-append-le k made (b ∷ []) (omega (arith, length-append made (b ∷ [])))) (walk-part w k 0);
-        least = least;
-      }
-
 -- the cells by what the first byte does
 pub cells-by :
     {S : Type 0} (rule : Rule S) (st : S) (b : ℕ) (bs : List ℕ) (m : Does S) → rule .byte st b ≡ m →
@@ -76,36 +66,47 @@ least-one rule st b v k h = least-short rule st (b ∷ []) v k h
 -- completes the cell, and then outside runs its bytes are these and that one; it is one more of them; or it ends
 -- something that is no cell.
 module _
-    {S : Type 0} (rule : Rule S) (inRun : S → ℕ → Bool) (marking : Marking S) (since : S → List ℕ)
+    {S : Type 0} (rule : Rule S) (between : S → Bool) (inRun : S → ℕ → Bool) (marking : Marking S) (since : S → List ℕ)
     (From : S → S → Type 0) where
-  abbrev pub Anew : S → Type 0
-  Anew st = (since st ≡ []) × From st st
+  pub record Anew (st : S) : Type 0 where
+    pub none : since st ≡ []
+    pub rests : between st ≡ true
+    pub begun : From st st
+
+  pub record Longer (base st : S) (b : ℕ) (st' : S) : Type 0 where
+    pub more : since st' ≡ since st ++ b ∷ []
+    pub inside : between st' ≡ false
+    pub begun : From base st'
 
   abbrev pub Completes : S → S → ℕ → ℕ → Type 0
   Completes base st b v = Takes (marking st b) (length (since st) + 1) × Least rule base (since st ++ b ∷ []) v
 
   abbrev pub MakesDoes : S → S → ℕ → Does S → Type 0
   MakesDoes base st b (give v st') = Anew st' × (inRun st b ≡ false → Completes base st b v)
-  MakesDoes base st b (go st') = ((since st' ≡ since st ++ b ∷ []) × From base st') ⊎ Anew st'
+  MakesDoes base st b (go st') = Longer base st b st' ⊎ Anew st'
   MakesDoes base st b (bad k) = Unit
 
 pub record Making
-    {S : Type 0} (rule : Rule S) (inRun : S → ℕ → Bool) (marking : Marking S) (Sound : S → Type 0) : Type 1 where
+    {S : Type 0} (rule : Rule S) (between : S → Bool) (inRun : S → ℕ → Bool) (marking : Marking S)
+    (Sound : S → Type 0) : Type 1 where
   pub since : S → List ℕ
   pub From : S → S → Type 0
-  pub starts : Anew rule inRun marking since From (rule .start)
+  pub starts : Anew rule between inRun marking since From (rule .start)
   pub makes :
       (base st : S) (b : ℕ) → Sound st → From base st →
-      MakesDoes rule inRun marking since From base st b (rule .byte st b)
+      MakesDoes rule between inRun marking since From base st b (rule .byte st b)
 
 module _
-    {S : Type 0} {rule : Rule S} {inRun : S → ℕ → Bool} {marking : Marking S} {Sound : S → Type 0} {Good : ℕ → Type 0}
-    (kept : Kept rule Sound Good) (making : Making rule inRun marking Sound) (text : List ℕ) where
+    {S : Type 0} {rule : Rule S} {between : S → Bool} {inRun : S → ℕ → Bool} {marking : Marking S} {Sound : S → Type 0}
+    {Good : ℕ → Type 0} (kept : Kept rule Sound Good) (making : Making rule between inRun marking Sound)
+    (text : List ℕ) where
   -- a reader in a text: the bytes before the cell in the making, those of it, and the rest
   record Here (before made rest : List ℕ) (base st : S) (at : ℕ) : Type 0 where
     whole : text ≡ before ++ (made ++ rest)
     reached : stateAfter rule (rule .start) before ≡ base
     walk : Walk rule base made [] st
+    rests : between base ≡ true
+    inner : (k : ℕ) → 0 < k → k ≤ length made → between (stateAfter rule base (take k made)) ≡ false
     bytes : making .since st ≡ made
     from : making .From base st
     sound : Sound st
@@ -116,69 +117,97 @@ module _
     split : text ≡ before ++ ((made ++ b ∷ []) ++ rest)
     split = h .whole ∙ rw (append-assoc made (b ∷ []) rest)
 
+    size : length (made ++ b ∷ []) ≡ length made + 1
+    size = length-append made (b ∷ [])
+
+    part : (k : ℕ) → k ≤ length made → take k (made ++ b ∷ []) ≡ take k made
+    part k = take-append-le k made (b ∷ [])
+
     -- the byte is one more of the cell's
-    here-on :
-        {st' : S} → rule .byte st b ≡ go st' → making .since st' ≡ making .since st ++ b ∷ [] → making .From base st' →
-        Sound st' → Here before (made ++ b ∷ []) rest base st' (at + 1)
-    here-on e s f sound =
-        record {
-          whole = split;
-          reached = h .reached;
-          walk = walk-on (h .walk) (goes e stay);
-          bytes = s ∙ ap (λ (l : List ℕ). l ++ b ∷ []) (h .bytes);
-          from = f;
-          sound = sound;
-          place = omega (arith, h .place, length-append made (b ∷ []));
-        }
+    module _ {st' : S} (e : rule .byte st b ≡ go st') where
+      on : Walk rule base (made ++ b ∷ []) [] st'
+      on = walk-on (h .walk) (goes e stay)
+
+      inner-on :
+          between st' ≡ false → (k : ℕ) (t : Bool) → eqb k (length made + 1) ≡ t → 0 < k → k ≤ length (made ++ b ∷ []) →
+          between (stateAfter rule base (take k (made ++ b ∷ []))) ≡ false
+      inner-on i k true q some few =
+          rw (eqb-true k _ q, ← size, take-length (made ++ b ∷ []), walk-state on) i
+      inner-on i k false q some few =
+          let few : k ≤ length made = omega (arith, eqb-false k _ q, size) in
+          rw (part k few) (h .inner k some few)
+
+      here-on :
+          Longer rule between inRun marking (making .since) (making .From) base st b st' → Sound st' →
+          Here before (made ++ b ∷ []) rest base st' (at + 1)
+      here-on l sound =
+          record {
+            whole = split;
+            reached = h .reached;
+            walk = on;
+            rests = h .rests;
+            inner = λ k. inner-on (l .inside) k _ refl;
+            bytes = l .more ∙ ap (λ (x : List ℕ). x ++ b ∷ []) (h .bytes);
+            from = l .begun;
+            sound = sound;
+            place = omega (arith, h .place, size);
+          }
 
     -- the byte is the last of something
     here-anew :
         {st' : S} {cs : List ℕ} → Walk rule base (made ++ b ∷ []) cs st' →
-        Anew rule inRun marking (making .since) (making .From) st' → Sound st' →
+        Anew rule between inRun marking (making .since) (making .From) st' → Sound st' →
         Here (before ++ (made ++ b ∷ [])) [] rest st' st' (at + 1)
     here-anew w s sound =
         record {
           whole = split ∙ sym (append-assoc before (made ++ b ∷ []) rest);
           reached = state-on rule (rule .start) before (made ++ b ∷ []) ∙ rw (h .reached) (walk-state w);
           walk = stay;
-          bytes = s .0;
-          from = s .1;
+          rests = s .rests;
+          inner = λ k some few. absurd (omega arith);
+          bytes = s .none;
+          from = s .begun;
           sound = sound;
-          place = omega (arith, h .place, length-append made (b ∷ []), length-append before (made ++ b ∷ []));
+          place = omega (arith, h .place, size, length-append before (made ++ b ∷ []));
         }
 
     -- a cell that the byte completes
     here-located :
         {v : ℕ} {st' : S} → rule .byte st b ≡ give v st' →
-        Completes rule inRun marking (making .since) (making .From) base st b v →
-        Located rule text (markedAs v (marking st b at))
+        Completes rule between inRun marking (making .since) (making .From) base st b v →
+        Located rule between text (markedAs v (marking st b at))
     here-located {v} e c =
         let q = rw (h .bytes) at c in
         let begin : at + 1 - (length made + 1) ≡ length before = omega (arith, h .place) in
-        let size : at + 1 - length before ≡ length (made ++ b ∷ []) =
-        omega (arith, h .place, length-append made (b ∷ []))
-        in
+        let count : at + 1 - length before ≡ length (made ++ b ∷ []) = omega (arith, h .place, size) in
         let front : take (length before) text ≡ before = rw split (take-at before _ (length before) refl) in
         let back : take (length (made ++ b ∷ [])) (drop (length before) text) ≡ made ++ b ∷ [] =
         rw (split, drop-at before ((made ++ b ∷ []) ++ rest) (length before) refl)
         (take-at (made ++ b ∷ []) rest _ refl)
         in
-        rw (q .0 at, begin, size, front, back, h .reached) (walk-makes (h .walk) e (q .1))
+        rw (q .0 at, begin, count, front, back, h .reached)
+        (record {
+          rests = h .rests;
+          gives = walk-cells (walk-on (h .walk) (gives e stay)) 0;
+          last = λ k few. rw (part k (omega (arith, size))) (walk-part (h .walk) k 0);
+          inside = λ k some few. rw (part k (omega (arith, size))) (h .inner k some (omega (arith, size)));
+          least = q .1;
+        })
 
   abbrev outside : Rule S
   outside = without inRun rule
 
   abbrev AllLocated : List ℕ → ℕ → S → Type 0
-  AllLocated bs at st = Each (Located rule text) (markedFrom outside marking bs at st)
+  AllLocated bs at st = Each (Located rule between text) (markedFrom outside marking bs at st)
 
   abbrev Marks : List ℕ → S → ℕ → ℕ → Does S → Type 0
   Marks rest st b at does =
-      Each (Located rule text) (onMarked does (marking st b at) (markedFrom outside marking rest (at + 1)))
+      Each (Located rule between text) (onMarked does (marking st b at) (markedFrom outside marking rest (at + 1)))
 
   located-does :
       {before made rest : List ℕ} {b : ℕ} {base st : S} {at : ℕ} (does : Does S) →
       Here before made (b ∷ rest) base st at → rule .byte st b ≡ does → SoundDoes Sound Good does →
-      MakesDoes rule inRun marking (making .since) (making .From) base st b does →
+      MakesDoes rule between inRun marking (making .since) (making .From) base st b does →
       ((before' made' : List ℕ) (base' st' : S) → Here before' made' rest base' st' (at + 1) →
       AllLocated rest (at + 1) st') →
       Marks rest st b at (cond (inRun st b) (silent does) does)
@@ -186,7 +215,7 @@ module _
       let next = ih _ _ _ _ (here-anew h (walk-on (h .walk) (gives e stay)) (m .0) (sound .1)) in
       cond-case (Marks rest st b at) (inRun st b) (λ _. next) (λ i. (here-located h e (m .1 i), next))
   located-does {rest = rest} {b} {st = st} {at} (go st') h e sound (inl m) ih =
-      let next = ih _ _ _ _ (here-on h e (m .0) (m .1) sound) in
+      let next = ih _ _ _ _ (here-on h e m sound) in
       cond-case (Marks rest st b at) (inRun st b) (λ _. next) (λ _. next)
   located-does {rest = rest} {b} {st = st} {at} (go st') h e sound (inr m) ih =
       let next = ih _ _ _ _ (here-anew h (walk-on (h .walk) (goes e stay)) m sound) in
@@ -204,7 +233,7 @@ module _
       (making .makes base st b (h .sound) (h .from)) (λ _ _ _ _. located-from rest)
 
   -- the bytes of a text's cells outside runs make those cells
-  pub located : LocatedIn rule inRun marking text
+  pub located : LocatedIn rule between inRun marking text
   unfolding markedIn stateAfter
   located =
       located-from {before = []} {made = []} text
@@ -212,8 +241,10 @@ module _
         whole = refl;
         reached = refl;
         walk = stay;
-        bytes = making .starts .0;
-        from = making .starts .1;
+        rests = making .starts .rests;
+        inner = λ k some few. absurd (omega arith);
+        bytes = making .starts .none;
+        from = making .starts .begun;
         sound = kept .starts;
         place = omega arith;
       })

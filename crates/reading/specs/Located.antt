@@ -1,6 +1,6 @@
 -- Document 02, order 2, outside runs: a cell's bytes are just those that make it.
 use Prim.Native.Nat.{ℕ, _-_, _<_}
-use mathlib.Core.Bool.{Bool, cond}
+use mathlib.Core.Bool.{Bool, true, false, cond}
 use mathlib.Core.Path.{_≡_}
 use mathlib.Core.List.{List, [], _∷_}
 use lib.ListN.{length, take, drop}
@@ -27,19 +27,22 @@ module _ {S : Type 0} (rule : Rule S) where
   abbrev pub Least : S → List ℕ → ℕ → Type 0
   Least st bytes v = (k : ℕ) → 0 < k → cellsFrom st (drop k bytes) ≡ v ∷ [] → ⊥
 
-  -- bytes that make a cell, read from a state: they give it and nothing else
-  pub record Makes (st : S) (bytes : List ℕ) (v : ℕ) : Type 0 where
-    pub gives : cellsFrom st bytes ≡ v ∷ []
-    -- nothing is complete before the last of them
-    pub last : (k : ℕ) → k < length bytes → cellsFrom st (take k bytes) ≡ []
-    -- and none of them could be left out in front
-    pub least : Least st bytes v
+  -- which states are between cells, by a test
+  module _ (between : S → Bool) where
+    -- bytes that make a cell, read from a state between cells: they give it and nothing else
+    pub record Makes (st : S) (bytes : List ℕ) (v : ℕ) : Type 0 where
+      pub rests : between st ≡ true
+      pub gives : cellsFrom st bytes ≡ v ∷ []
+      -- before the last of them nothing is complete, and behind the first no place is between cells
+      pub last : (k : ℕ) → k < length bytes → cellsFrom st (take k bytes) ≡ []
+      pub inside : (k : ℕ) → 0 < k → k < length bytes → between (stateAfter st (take k bytes)) ≡ false
+      pub least : Least st bytes v
 
-  -- the bytes of a text's cell, in the state that the text before them leads to, make the cell
-  abbrev pub Located : List ℕ → Marked → Type 0
-  Located text m =
-      Makes (stateAfter (rule .start) (take (m .begin) text)) (take (m .end - m .begin) (drop (m .begin) text))
-      (m .value)
+    -- the bytes of a text's cell, read in the state that the text before them leads to, make the cell
+    abbrev pub Located : List ℕ → Marked → Type 0
+    Located text m =
+        Makes (stateAfter (rule .start) (take (m .begin) text)) (take (m .end - m .begin) (drop (m .begin) text))
+        (m .value)
 
 -- a rule with the cells of runs left out, by a test of the state and the byte that completes a cell
 abbrev pub silent : {S : Type 0} → Does S → Does S
@@ -56,5 +59,6 @@ without inRun rule =
     }
 
 -- the bytes of every cell outside runs make it
-abbrev pub LocatedIn : {S : Type 0} → Rule S → (S → ℕ → Bool) → Marking S → List ℕ → Type 0
-LocatedIn rule inRun marking text = Each (Located rule text) (markedIn (without inRun rule) marking text)
+abbrev pub LocatedIn : {S : Type 0} → Rule S → (S → Bool) → (S → ℕ → Bool) → Marking S → List ℕ → Type 0
+LocatedIn rule between inRun marking text =
+    Each (Located rule between text) (markedIn (without inRun rule) marking text)

@@ -16,33 +16,34 @@ use Rattle.base64.specs.Letters.{valueOf, setB, slash}
 use Rattle.reading.specs.Reading.{Does, give, go, bad, Rule, readFrom}
 use Rattle.reading.specs.Spans.{Takes, Marking}
 use Rattle.reading.specs.Located.{Least, LocatedIn}
-use Rattle.reading.proofs.Located.{least-short, least-one, MakesDoes, Making, located}
+use Rattle.reading.proofs.Located.{least-short, least-one, Anew, MakesDoes, Making, located}
 use Rattle.utf7.specs.Sets.{direct, setD, alphanumeric}
 use Rattle.utf7.specs.Rule.{Shift, outside, opening, run, utf7, outsideDoes, mayEnd, endDoes, lowDoes, byteDoes}
 use Rattle.utf7.specs.Spans.{spanIn}
-use Rattle.utf7.specs.Located.{inRun}
+use Rattle.utf7.specs.Located.{between, inRun}
 use Rattle.utf7.proofs.Kept.{SoundShift, utf7-kept}
 use Rattle.utf7.proofs.Units.{LetterDoes, Pending}
 use Rattle.utf7.proofs.Spans.{utf7-pending, utf7-opens}
 
 -- a letter in a run, or after its sign, begins or goes on with a run
 module _
-    {S : Type 0} (last : ℕ) (rule : Rule S) (inRun : S → ℕ → Bool) (marking : Marking S) (run : List Bool → S)
-    (since : S → List ℕ) (From : S → S → Type 0) (runs : (p : List Bool) → (since (run p) ≡ []) × From (run p) (run p))
+    {S : Type 0} (last : ℕ) (rule : Rule S) (between : S → Bool) (inRun : S → ℕ → Bool) (marking : Marking S)
+    (run : List Bool → S) (since : S → List ℕ) (From : S → S → Type 0)
+    (runs : (p : List Bool) → Anew rule between inRun marking since From (run p))
     (base st : S) (pending : List Bool) (b : ℕ) where
   abbrev bs : List Bool
   bs = pending ++ bits 6 (valueOf last b)
 
   makes-does :
       (16 ≤ length bs → inRun st b ≡ true) → (m : Does S) → LetterDoes last rule marking run bs m →
-      MakesDoes rule inRun marking since From base st b m
+      MakesDoes rule between inRun marking since From base st b m
   makes-does within (give v st') d = (rw (d .1) (runs (drop 16 bs)), λ i. absurd (true≢false (sym (within (d .0)) ∙ i)))
   makes-does within (go st') d = inr (rw (d .1) (runs bs))
   makes-does within (bad k) d = tt
 
   pub letter-makes :
       Pending last rule marking run st pending → setB last b ≡ true → (16 ≤ length bs → inRun st b ≡ true) →
-      MakesDoes rule inRun marking since From base st b (rule .byte st b)
+      MakesDoes rule between inRun marking since From base st b (rule .byte st b)
   letter-makes w h within = makes-does within (rule .byte st b) (w .letter b h)
 
 -- a sign and the '-' behind it: alone the '-' is itself
@@ -73,12 +74,16 @@ From base opening = base ≡ outside
 From base (run pending) = Unit
 
 abbrev MakesBy : Shift → Shift → ℕ → Does Shift → Type 0
-MakesBy = MakesDoes utf7 inRun spanIn since From
+MakesBy = MakesDoes utf7 between inRun spanIn since From
+
+anew : Anew utf7 between inRun spanIn since From outside
+anew = record { none = refl; rests = refl; begun = refl }
 
 run-makes :
     (base st : Shift) (pending : List Bool) (b : ℕ) → Pending slash utf7 spanIn run st pending → setB slash b ≡ true →
     (16 ≤ length (pending ++ bits 6 (valueOf slash b)) → inRun st b ≡ true) → MakesBy base st b (byteDoes st b)
-run-makes = letter-makes slash utf7 inRun spanIn run since From (λ p. (refl, tt))
+run-makes =
+    letter-makes slash utf7 between inRun spanIn run since From (λ p. record { none = refl; rests = refl; begun = tt })
 
 -- a byte that is itself, outside a run or at its end
 own-makes :
@@ -86,9 +91,10 @@ own-makes :
     MakesBy base shift b (outsideDoes b)
 unfolding outsideDoes
 own-makes base shift b none f h =
-    cond-case (MakesBy base shift b) (eqb b 43) (λ e. inl (rw (none, eqb-true b 43 e), f e))
+    cond-case (MakesBy base shift b) (eqb b 43)
+    (λ e. inl (record { more = rw (none, eqb-true b 43 e); inside = refl; begun = f e }))
     (λ _. cond-case (MakesBy base shift b) (direct b)
-    (λ _. ((refl, refl), λ _. (rw none h, rw none (least-one utf7 base b b)))) (λ _. tt))
+    (λ _. (anew, λ _. (rw none h, rw none (least-one utf7 base b b)))) (λ _. tt))
 
 end-makes :
     (base : Shift) (pending : List Bool) (b : ℕ) (may : Bool) → setB slash b ≡ false →
@@ -98,7 +104,7 @@ end-makes base pending b may h =
     let P = MakesBy base (run pending) b in
     let no : eqb b 43 ≡ true → base ≡ outside = λ e. absurd (true≢false (rw (eqb-true b 43 e) at h)) in
     cond-case P may
-    (λ _. cond-case P (eqb b 45) (λ _. inr (refl, refl)) (λ _. own-makes base (run pending) b refl no (λ at. rw h)))
+    (λ _. cond-case P (eqb b 45) (λ _. inr anew) (λ _. own-makes base (run pending) b refl no (λ at. rw h)))
     (λ _. tt)
 
 -- a byte that is no letter, and any byte outside runs
@@ -109,7 +115,7 @@ low-makes base outside b f h = own-makes base outside b refl (λ _. f) (λ at. r
 low-makes base opening b f h =
     rw h
     (cond-case (MakesBy base opening b) (eqb b 45)
-    (λ e. ((refl, refl), λ _. (λ at. refl, rw (f, eqb-true b 45 e) (sign-least utf7 outside outside 43 dash (lit< tt)))))
+    (λ e. (anew, λ _. (λ at. refl, rw (f, eqb-true b 45 e) (sign-least utf7 outside outside 43 dash (lit< tt)))))
     (λ _. tt))
 low-makes base (run pending) b f h = rw h (end-makes base pending b (mayEnd pending) h)
 
@@ -134,10 +140,10 @@ byte-makes base (run pending) b true h s f =
 byte-makes base opening b false h s f = other-makes base opening b f h
 byte-makes base (run pending) b false h s f = other-makes base (run pending) b f h
 
-utf7-making : Making utf7 inRun spanIn SoundShift
+utf7-making : Making utf7 between inRun spanIn SoundShift
 utf7-making =
-    record { since = since; From = From; starts = (refl, refl); makes = λ base st b. byte-makes base st b _ refl }
+    record { since = since; From = From; starts = anew; makes = λ base st b. byte-makes base st b _ refl }
 
 -- a single byte, and `+-`
-pub cells-located : (text : List ℕ) → LocatedIn utf7 inRun spanIn text
+pub cells-located : (text : List ℕ) → LocatedIn utf7 between inRun spanIn text
 cells-located text = located utf7-kept utf7-making text
