@@ -28,7 +28,7 @@ pub size-bound :
 unfolding bytesPerCell bytesAtEnd firstUnwritable writingIn
 size-bound Utf7Header cells h = omega (arith, utf7-pieces.size-bound Header cells)
 size-bound Utf7Body cells h = omega (arith, utf7-pieces.size-bound Body cells)
-size-bound Jp2 cells h = jp2-size.size-bound cells (all-writable cells (omega (arith, h)))
+size-bound Jp2 cells h = omega (arith, jp2-size.size-bound cells (all-writable cells (omega (arith, h))))
 
 pub size-fits :
     (kind : Kind) (cells : List ℕ) → Writable kind cells → length cells ≤ limit → bytesFor kind cells ≤ mostBytes
