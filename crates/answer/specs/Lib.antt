@@ -4,5 +4,4 @@ pub mod Lists
 pub mod Ahead
 pub mod Bytes
 pub mod Inner
-pub mod Texts
 pub mod Cases

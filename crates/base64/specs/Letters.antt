@@ -5,7 +5,7 @@ use mathlib.Core.Bool.{Bool, cond, _&&_}
 use mathlib.Core.List.{List, [], _∷_, _++_}
 use lib.ListN.{getD}
 use lib.Dec.{leb, ltb, eqb}
-use Rattle.answer.specs.Texts.{bytesOf}
+use Rattle.answer.specs.Bytes.{bytes}
 
 -- from one code to another, both included
 abbrev pub within : ℕ → ℕ → ℕ → Bool
@@ -36,7 +36,7 @@ letterOf last x =
 
 -- the letters one by one, as RFC 2045's table has them, in the order of their values
 abbrev pub alphabet : ℕ → List ℕ
-alphabet last = bytesOf "ABCDEFGHIJKLMNOPQRSTUVWXYZabcdefghijklmnopqrstuvwxyz0123456789+" ++ last ∷ []
+alphabet last = bytes "ABCDEFGHIJKLMNOPQRSTUVWXYZabcdefghijklmnopqrstuvwxyz0123456789+" ++ last ∷ []
 
 -- document 02, order 4, of an alphabet: "a value turned into its letter and back is the same value, and [..] no other byte has one"
 pub record ByRule (last : ℕ) : Type 0 where

@@ -6,7 +6,7 @@ use mathlib.Core.List.{List, map}
 use lib.ListN.{length}
 use Rattle.answer.specs.Answer.{numbered}
 use Rattle.answer.specs.Output.{Outcome, refusing}
-use Rattle.answer.specs.Texts.{bytesOf}
+use Rattle.answer.specs.Bytes.{bytes}
 use Rattle.reading.specs.Reading.{Rule, readInto}
 use Rattle.reading.specs.Spans.{Marking, markedIn}
 use Rattle.reading.specs.declared.Marked.{Marked}
@@ -38,8 +38,8 @@ Refuses call number place = (out : List ℕ) → call out ≡ refusing (numbered
 
 module _ {S K : Type 0} (rule : Rule S) (marking : Marking S) (write : K → List ℕ → List ℕ → Outcome) where
   abbrev pub Holds : Case K → Type 0
-  Holds (reads text cells) = Accepts (readInto rule (bytesOf text)) cells
-  Holds (fails text number place) = Refuses (readInto rule (bytesOf text)) number place
-  Holds (stands text marks) = markedIn rule marking (bytesOf text) ≡ marks
-  Holds (writes kind cells text) = Accepts (write kind cells) (bytesOf text)
+  Holds (reads text cells) = Accepts (readInto rule (bytes text)) cells
+  Holds (fails text number place) = Refuses (readInto rule (bytes text)) number place
+  Holds (stands text marks) = markedIn rule marking (bytes text) ≡ marks
+  Holds (writes kind cells text) = Accepts (write kind cells) (bytes text)
   Holds (unwritable kind cells index) = Refuses (write kind cells) 10 index
