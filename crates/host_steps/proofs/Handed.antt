@@ -1,4 +1,5 @@
--- A cursor that a host hands back is the one that it was given, so its n-th step is the n-th step of the format. Assumes nothing.
+-- A cursor that a host hands back is the one that it was given, so its n-th step is the n-th step of the format.
+-- Assumes nothing.
 use Prim.Native.Nat.{ℕ, zero, suc}
 use mathlib.Core.Path.{_≡_, refl, ap, _∙_}
 use mathlib.Core.Bool.{Bool, true, false, cond}
@@ -32,7 +33,8 @@ use Rattle.jp2_read.proofs.Nth.{jp2-cursors}
 use Rattle.host_steps.specs.Steps.{Host, handedOn, hostStep, hostAfter, nthTold, AsRead, shiftIn, utf7In, shiftOut, utf7Out, utf7Host, nameShiftIn, mailboxIn, nameShiftOut, mailboxOut, mailboxHost, phaseIn, jp2In, phaseOut, jp2Out, jp2Host}
 
 -- each format's numbers, out to C and in again
-shift-back : (at handed : ℕ) (st : State) → utf7In (shiftOut at handed st) ≡ record { at = at; handed = handed; state = st }
+shift-back :
+    (at handed : ℕ) (st : State) → utf7In (shiftOut at handed st) ≡ record { at = at; handed = handed; state = st }
 unfolding shiftIn
 shift-back at handed Outside = refl
 shift-back at handed Opening = refl
@@ -41,7 +43,9 @@ shift-back at handed (Run n v) = refl
 pub utf7-back : (c : Cursor) → utf7In (utf7Out c) ≡ c
 utf7-back c = shift-back (c .at) (c .handed) (c .state)
 
-name-back : (at handed : ℕ) (st : mailbox-state.State) → mailboxIn (nameShiftOut at handed st) ≡ record { at = at; handed = handed; state = st }
+name-back :
+    (at handed : ℕ) (st : mailbox-state.State) →
+    mailboxIn (nameShiftOut at handed st) ≡ record { at = at; handed = handed; state = st }
 unfolding nameShiftIn
 name-back at handed (name.Outside true) = refl
 name-back at handed (name.Outside false) = refl
@@ -54,7 +58,9 @@ mailbox-back c = name-back (c .at) (c .handed) (c .state)
 
 phase-back :
     (c : jp2-cursor.Cursor) (p : Phase) →
-    jp2In (phaseOut c p) ≡ record { at = c .at; handed = c .handed; state = record { g0 = c .state .g0; g2 = c .state .g2; phase = p } }
+    let st = c .state in
+    jp2In (phaseOut c p)
+    ≡ record { at = c .at; handed = c .handed; state = record { g0 = st .g0; g2 = st .g2; phase = p } }
 unfolding phaseIn
 phase-back c Plain = refl
 phase-back c Return = refl
@@ -68,7 +74,8 @@ pub jp2-back : (c : jp2-cursor.Cursor) → jp2In (jp2Out c) ≡ c
 jp2-back c = phase-back c (c .state .phase)
 
 -- a format whose numbers come back as they went out
-module _ {S P C : Type 0} {rule : Rule S} {marking : Marking S} (cs : Cursors rule marking P) (out : P → C) (back : C → P) (same : (c : P) → back (out c) ≡ c) (text : List ℕ) where
+module _ {S P C : Type 0} {rule : Rule S} {marking : Marking S} (cs : Cursors rule marking P) (out : P → C)
+    (back : C → P) (same : (c : P) → back (out c) ≡ c) (text : List ℕ) where
   abbrev host : Host P C
   host = record { start = cs .cursor (atStart rule); step = stepFor cs; out = out; back = back }
 
@@ -92,7 +99,9 @@ module _ {S P C : Type 0} {rule : Rule S} {marking : Marking S} (cs : Cursors ru
   told-by :
       (m : Marked) (answer : Verdict) (own : C) (p : P) (t : Bool) →
       let r = handedOn out own (cond t (cell m p) (final answer)) in
-      r ≡ cond t (record { given = 1; marked = m; verdict = numbered 0 0; next = r .next }) (record { given = 0; marked = noMark; verdict = answer; next = r .next })
+      r
+      ≡ cond t (record { given = 1; marked = m; verdict = numbered 0 0; next = r .next })
+      (record { given = 0; marked = noMark; verdict = answer; next = r .next })
   told-by m answer own p true = refl
   told-by m answer own p false = refl
 
@@ -102,7 +111,9 @@ module _ {S P C : Type 0} {rule : Rule S} {marking : Marking S} (cs : Cursors ru
   abbrev answer : Verdict
   answer = answerOf text (reading rule text)
 
-  told : (n : ℕ) (own : C) (p : P) (x : Next P) → x ≡ nthOf cells answer n p → handedOn out own x ≡ nthTold cells answer n (handedOn out own x .next)
+  told :
+      (n : ℕ) (own : C) (p : P) (x : Next P) → x ≡ nthOf cells answer n p →
+      handedOn out own x ≡ nthTold cells answer n (handedOn out own x .next)
   told n own p x e = rw e (told-by (getD cells n noMark) answer own p (ltb n (length cells)))
 
   -- its n-th step is that of the format

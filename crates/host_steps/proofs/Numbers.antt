@@ -1,17 +1,24 @@
 -- The numbers are those of the header, by computing them. Assumes nothing.
-use Prim.Native.Nat.{ℕ, _<_}
+use Prim.Native.Nat.{ℕ, _<_, _≤_}
 use mathlib.Core.Path.{_≡_, refl}
 use mathlib.Core.Bool.{false}
 use native.Mathlib.Omega.{arith}
-use lib.Dec.{eqb}
+use lib.Dec.{eqb, lit≤}
 use borrow.Author.Tests.{le-ltb, ne-eqb}
 use Rattle.host_steps.specs.Steps.{shiftIn, nameShiftIn, phaseIn}
 use Rattle.host_steps.specs.Numbers.{Shifts, NameShifts, Phases}
 
+above : (n most : ℕ) → most < n → (k : ℕ) → k ≤ most → eqb n k ≡ false
+above n most h k l = ne-eqb n k (λ e. omega arith)
+
 pub shifts : (pending value : ℕ) → Shifts pending value
 unfolding shiftIn
 shifts pending value =
-    record { outside = refl; sign = refl; else = λ shift h. rw (ne-eqb shift 0 (λ e. omega arith), ne-eqb shift 1 (λ e. omega arith)) }
+    record {
+      outside = refl;
+      sign = refl;
+      else = λ shift h. rw (above shift 1 h 0 (lit≤ tt), above shift 1 h 1 (lit≤ tt));
+    }
 
 pub name-shifts : (pending value : ℕ) → NameShifts pending value
 unfolding nameShiftIn
@@ -24,9 +31,6 @@ name-shifts pending value =
       else = λ shift h. rw (le-ltb shift 2 (omega arith), le-ltb shift 4 (omega arith));
     }
 
-differs : (phase : ℕ) → 5 < phase → (k : ℕ) → k < 6 → eqb phase k ≡ false
-differs phase h k l = ne-eqb phase k (λ e. omega arith)
-
 pub phases : (first second : ℕ) → Phases first second
 unfolding phaseIn
 phases first second =
@@ -37,5 +41,7 @@ phases first second =
       shifted = refl;
       escape = refl;
       one-more = refl;
-      two-more = λ phase h. simp (differs phase h 0 (omega arith), differs phase h 1 (omega arith), differs phase h 2 (omega arith), differs phase h 3 (omega arith), differs phase h 4 (omega arith), differs phase h 5 (omega arith));
+      two-more = λ phase h.
+          let a = above phase 5 h in
+          rw (a 0 (lit≤ tt), a 1 (lit≤ tt), a 2 (lit≤ tt), a 3 (lit≤ tt), a 4 (lit≤ tt), a 5 (lit≤ tt));
     }

@@ -64,18 +64,20 @@ module _ {P C : Type 0} (host : Host P C) where
   hostAfter text zero = hostStart
   hostAfter text (suc n) = hostStep text (hostAfter text n) .next
 
--- what the n-th step tells, counted from 0, of the cells that are handed out and the answer: 1 and cell n, or 0 and the answer
+-- what the n-th step tells, counted from 0, where these are the cells and the answer: 1 and cell n, or 0 and the answer
 abbrev pub nthTold : {C : Type 0} → List Marked → Verdict → ℕ → C → Step C
 nthTold cells answer n next =
-    cond (ltb n (length cells)) (record { given = 1; marked = getD cells n noMark; verdict = numbered 0 0; next = next })
+    cond (ltb n (length cells))
+    (record { given = 1; marked = getD cells n noMark; verdict = numbered 0 0; next = next })
     (record { given = 0; marked = noMark; verdict = answer; next = next })
 
--- so it is from the start, each step from the cursor that the one before gave: the cells with their bytes, and then the answer for ever
+-- from the start, each step from the cursor of the one before: the cells with their bytes, then the answer for ever
 abbrev pub AsRead : {S P C : Type 0} → Host P C → Rule S → Marking S → List ℕ → Type 0
 AsRead host rule marking text =
     (n : ℕ) →
     hostStep host text (hostAfter host text n)
-    ≡ nthTold (cellsOf text (markedIn rule marking text)) (answerOf text (reading rule text)) n (hostAfter host text (suc n))
+    ≡ nthTold (cellsOf text (markedIn rule marking text)) (answerOf text (reading rule text)) n
+    (hostAfter host text (suc n))
 
 -- UTF-7
 unfoldable pub shiftIn : ℕ → ℕ → ℕ → State

@@ -21,7 +21,8 @@ onward-spot : {P Q : Type 0} (f : P → Q) (x : Next P) (p : P) → onSpot (onwa
 onward-spot f (cell m q) p = refl
 onward-spot f (final a) p = refl
 
--- cursors of type C: the spot that the numbers of each tell, and the cursor that stands at a spot; in the states that a reader comes to, one undoes the other
+-- cursors of type C: the spot that the numbers of each tell, and the cursor that stands at a spot; in the states that a
+-- reader comes to, one undoes the other
 pub record Cursors {S : Type 0} (rule : Rule S) (marking : Marking S) (C : Type 0) : Type 1 where
   pub Sound : S → Type 0
   pub Good : ℕ → Type 0
@@ -42,7 +43,9 @@ module _ {S C : Type 0} {rule : Rule S} {marking : Marking S} (cs : Cursors rule
   spotAfter n = afterSteps (nextAt rule marking text) (atStart rule) n
 
   spot-back : (n : ℕ) → inText text (cs .spot (cs .cursor (spotAfter n))) ≡ spotAfter n
-  spot-back n = let h = sound-after marking (cs .kept) text n in rw (cs .back (spotAfter n) (h .0)) (in-text text (spotAfter n) (h .1) (h .2))
+  spot-back n =
+      let h = sound-after marking (cs .kept) text n in
+      rw (cs .back (spotAfter n) (h .0)) (in-text text (spotAfter n) (h .1) (h .2))
 
   cursor-spot : (n : ℕ) → cursorAfter n ≡ cs .cursor (spotAfter n)
   unfolding cursorAfter afterSteps
@@ -77,13 +80,15 @@ module _ {S C : Type 0} {rule : Rule S} {marking : Marking S} (cs : Cursors rule
   same-count : length marked ≡ length (reading rule text .cells)
   same-count = simp length-map at (ap length (marked-cells rule marking text))
 
-  nth :
-      (n : ℕ) (over more : Bool) → ltb limit (length text) ≡ over → ltb n (length marked) ≡ more →
+  abbrev Nth : ℕ → Type 0
+  Nth n =
       stepFor (cursorAfter n) ≡ nthOf (cellsOf text marked) (answerOf text (reading rule text)) n (cursorAfter (suc n))
+
+  nth : (n : ℕ) (over more : Bool) → ltb limit (length text) ≡ over → ltb n (length marked) ≡ more → Nth n
   nth n true more e k = rw (e, le-ltb n 0 (omega arith)) (step-over (ltb-true _ _ e) _)
   nth n false true e k = rw (e, k) (step-cell (ltb-false _ _ e) n (rw same-count at (ltb-true n (length marked) k)))
   nth n false false e k = rw (e, k) (step-final (ltb-false _ _ e) n (rw same-count at (ltb-false n (length marked) k)))
 
   -- all three: what the n-th step gives, of any text
-  pub nth-step : (n : ℕ) → stepFor (cursorAfter n) ≡ nthOf (cellsOf text marked) (answerOf text (reading rule text)) n (cursorAfter (suc n))
+  pub nth-step : (n : ℕ) → Nth n
   nth-step n = nth n _ _ refl refl

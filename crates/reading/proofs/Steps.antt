@@ -44,14 +44,16 @@ module _ {S : Type 0} {rule : Rule S} {marking : Marking S} {s : List ℕ} {at n
   unfolding nextFrom
   going-end h = rw (drop-of-length-le s h) at (g .so)
 
--- a spot that a reader of a text can stand at: its state is sound, it has handed out no more cells than bytes lie before it, and those are of the text
+-- a spot that a reader of a text can stand at: its state is sound, and it has handed out no more cells than bytes lie
+-- before it, all of them the text's
 abbrev pub SoundSpot : {S : Type 0} → (S → Type 0) → ℕ → Spot S → Type 0
 SoundSpot Sound size p = Sound (p .state) × (p .handed ≤ p .at) × (p .at ≤ size)
 
 pub least-at : (a b : ℕ) → least a b ≤ b
 least-at a b = cond-case (λ (k : ℕ). k ≤ b) (ltb b a) (λ t. omega arith) (λ t. omega (arith, ltb-false b a t))
 
--- of any numbers a reader stands in its text, with no more cells handed out than bytes lie before it; where they say so, it stands where they say
+-- of any numbers a reader stands in its text, with no more cells handed out than bytes lie before it; where they say so
+-- themselves, it stands where they say
 module _ {S : Type 0} (s : List ℕ) (p : Spot S) where
   pub stands-in-text : (inText s p .handed ≤ inText s p .at) × (inText s p .at ≤ length s)
   stands-in-text = (least-at _ _, least-at _ _)
@@ -70,32 +72,40 @@ module _ {S : Type 0} {rule : Rule S} (marking : Marking S) {Sound : S → Type 
   SoundNext size (final a) = Unit
 
   sound-does :
-      (size more : ℕ) (m : Does S) (s : Span) (p : Spot S) (rest : Spot S → Next (Spot S)) → SoundDoes Sound Good m → Before size (suc more) p →
-      ((q : Spot S) → Before size more q → SoundNext size (rest q)) → SoundNext size (onNext m s p rest)
+      (size more : ℕ) (m : Does S) (s : Span) (p : Spot S) (rest : Spot S → Next (Spot S)) → SoundDoes Sound Good m →
+      Before size (suc more) p → ((q : Spot S) → Before size more q → SoundNext size (rest q)) →
+      SoundNext size (onNext m s p rest)
   sound-does size more (give v st) s p rest h k ih = (h .1, omega (arith, k .1), omega (arith, k .2))
   sound-does size more (go st) s p rest h k ih = ih _ (h, omega (arith, k .1), omega (arith, k .2))
   sound-does size more (bad k) s p rest h l ih = tt
 
-  sound-next : (size : ℕ) (bs : List ℕ) (p : Spot S) → Before size (length bs) p → SoundNext size (nextFrom rule marking size bs p)
+  sound-next :
+      (size : ℕ) (bs : List ℕ) (p : Spot S) → Before size (length bs) p →
+      SoundNext size (nextFrom rule marking size bs p)
   unfolding nextFrom
   sound-next size [] p h = tt
   sound-next size (b ∷ bs) p h =
-      sound-does size (length bs) (rule .byte (p .state) b) (marking (p .state) b (p .at)) p (nextFrom rule marking size bs) (kept .keeps (p .state) b (h .0)) h (sound-next size bs)
+      sound-does size (length bs) (rule .byte (p .state) b) (marking (p .state) b (p .at)) p
+      (nextFrom rule marking size bs) (kept .keeps (p .state) b (h .0)) h (sound-next size bs)
 
-  sound-stands : (size : ℕ) (x : Next (Spot S)) (p : Spot S) → SoundNext size x → SoundSpot Sound size p → SoundSpot Sound size (onSpot x p)
+  sound-stands :
+      (size : ℕ) (x : Next (Spot S)) (p : Spot S) → SoundNext size x → SoundSpot Sound size p →
+      SoundSpot Sound size (onSpot x p)
   sound-stands size (cell m q) p h k = h
   sound-stands size (final a) p h k = k
 
   -- wherever steps from the start lead
-  pub sound-after : (s : List ℕ) (n : ℕ) → SoundSpot Sound (length s) (afterSteps (nextAt rule marking s) (atStart rule) n)
+  pub sound-after :
+      (s : List ℕ) (n : ℕ) → SoundSpot Sound (length s) (afterSteps (nextAt rule marking s) (atStart rule) n)
   unfolding afterSteps nextAt
   sound-after s zero = (kept .starts, omega arith, omega arith)
   sound-after s (suc n) =
       let p = afterSteps (nextAt rule marking s) (atStart rule) n in
       let h = sound-after s n in
-      let k : Before (length s) (length (drop (p .at) s)) p = (h .0, h .1, omega (arith, h .2, length-drop (p .at) s)) in
+      let left = drop (p .at) s in
+      let k : Before (length s) (length left) p = (h .0, h .1, omega (arith, h .2, length-drop (p .at) s)) in
       sound-stands (length s) (nextAt rule marking s p) p
-      (cond-case (SoundNext (length s)) (ltb limit (length s)) (λ _. tt) (λ _. sound-next (length s) (drop (p .at) s) p k)) h
+      (cond-case (SoundNext (length s)) (ltb limit (length s)) (λ _. tt) (λ _. sound-next (length s) left p k)) h
 
 -- stepping through a text from the start
 module _ {S : Type 0} (rule : Rule S) (marking : Marking S) (s : List ℕ) where

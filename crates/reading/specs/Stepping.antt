@@ -19,10 +19,12 @@ pub record Spot (S : Type 0) : Type 0 where
 abbrev pub least : ℕ → ℕ → ℕ
 least a b = cond (ltb b a) b a
 
--- where a reader of any numbers stands in a text: past the end it stands at the end, and it has handed out no more cells than bytes lie before it
+-- where a reader of any numbers stands in a text: past the end it stands at the end, and it has handed out no more
+-- cells than bytes lie before it
 abbrev pub inText : {S : Type 0} → List ℕ → Spot S → Spot S
 inText text p =
-    record { at = least (p .at) (length text); handed = least (p .handed) (least (p .at) (length text)); state = p .state }
+    let at = least (p .at) (length text) in
+    record { at = at; handed = least (p .handed) at; state = p .state }
 
 -- what a step gives: a cell and where the reader then stands, or the final answer
 pub data Next (P : Type 0) : Type 0 where
@@ -64,7 +66,8 @@ cellsOf text marked = cond (ltb limit (length text)) [] marked
 abbrev pub answerOf : List ℕ → Reading → Verdict
 answerOf text r = cond (ltb limit (length text)) tooLong (verdictOf r)
 
--- what the n-th step gives, counted from 0: of the cells that are handed out cell n, and where the reader then stands, or the answer
+-- what the n-th step gives, counted from 0, where these are the cells and the answer: cell n, and where the reader then
+-- stands, or the answer
 abbrev pub nthOf : {P : Type 0} → List Marked → Verdict → ℕ → P → Next P
 nthOf cells answer n p = cond (ltb n (length cells)) (cell (getD cells n noMark) p) (final answer)
 

@@ -1,4 +1,5 @@
-// What reading a text byte by byte means, over any rule: definitions in specs/, laws in proofs/. The code is that of a cell with its bytes, and of where a cursor of any numbers stands.
+// What reading a text byte by byte means, over any rule: definitions in specs/, laws in proofs/. The code is that of a
+// cell with its bytes, and of where a cursor of any numbers stands.
 ghost use mathlib.Core.Path.{_≡_};
 ghost use Rattle.reading.specs.Spans.{markedAs, lastBytes};
 ghost use Rattle.reading.specs.Stepping.{least};

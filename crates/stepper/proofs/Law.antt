@@ -34,12 +34,11 @@ gift-onward f (cell m next) = refl
 gift-onward f (final answer) = refl
 
 -- what is handed out, wherever the reader then stands
-gift-nth : {P Q : Type 0} (cells : List Marked) (answer : Verdict) (n : ℕ) (p : P) (q : Q) → gift (nthOf cells answer n p) ≡ gift (nthOf cells answer n q)
-gift-nth cells answer n p q = by (ltb n (length cells))
-  where
-    by : (t : Bool) → gift (cond t (cell (getD cells n noMark) p) (final answer)) ≡ gift (cond t (cell (getD cells n noMark) q) (final answer))
-    by true = refl
-    by false = refl
+gift-by :
+    {P Q : Type 0} (m : Marked) (answer : Verdict) (p : P) (q : Q) (t : Bool) →
+    gift (cond t (cell m p) (final answer)) ≡ gift (cond t (cell m q) (final answer))
+gift-by m answer p q true = refl
+gift-by m answer p q false = refl
 
 -- a format whose places are some cursors: it starts at their start, and steps from a place are steps from its cursor
 module _ {S C : Type 0} {rule : Rule S} {marking : Marking S} (cs : Cursors rule marking C) (place : C → Place) (f : Format) (starts : startOf f ≡ place (cs .cursor (atStart rule)))
@@ -60,7 +59,8 @@ module _ {S C : Type 0} {rule : Rule S} {marking : Marking S} (cs : Cursors rule
   nth-given : (n : ℕ) → givenBy (readerAfter text f n) ≡ nthGift (now text) (reading rule (now text)) marked n
   nth-given n =
       let c = cursorAfter cs (now text) n in
-      rw (reader-stands n, steps (now text) c, gift-onward place (stepFor cs (now text) c)) (ap gift (cursors.nth-step cs (now text) n) ∙ gift-nth _ _ n _ tt)
+      rw (reader-stands n, steps (now text) c, gift-onward place (stepFor cs (now text) c))
+      (ap gift (cursors.nth-step cs (now text) n) ∙ gift-by _ _ _ tt _)
 
 -- the n-th step from `new` gives the n-th cell with its bytes, and after the cells the answer, for ever
 pub nth-step : (text : RefT (List ℕ)) (f : Format) (n : ℕ) → givenBy (readerAfter text f n) ≡ nthGift (now text) (readingOf f (now text)) (markedOf f (now text)) n

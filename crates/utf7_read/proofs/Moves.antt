@@ -74,6 +74,10 @@ byte-moves st b e =
     let h = state-back (byteDoes (shiftOf st) b) (utf7-kept .keeps (shiftOf st) b (sound-shift st)) in
     record { so = ap (onState shiftOf) e ∙ h .0; settled = rw e (h .1) }
 
+pub byte-moved :
+    (st : State) (b : ℕ) {r m : Move} → toldMove r ≡ moveOf st b → r ≡ m → byteDoes (shiftOf st) b ≡ doesOf m
+byte-moved st b e k = moved (byte-moves st b e) k .0
+
 -- a letter's six bits behind the pending ones: too few for a unit, or sixteen and some
 module _ (n v x : ℕ) (few : n < 16) (fits : v < 2 ^ n) (letter : x < 64) where
   pub all-fits : v * 64 + x < 2 ^ (n + 6)

@@ -47,7 +47,9 @@ lesser-requires-2 : tie.Need-lesser-requires-2
 lesser-requires-2 c κs = search needs
 
 told-at-requires : tie.Need-told-at-requires
-told-at-requires c κs = let e = c .before .before .before in ltb-false _ _ (sym (e .before .over-limit .ensures) ∙ e .if1 .left)
+told-at-requires c κs =
+    let e = c .before .before .before in
+    ltb-false _ _ (sym (e .before .over-limit .ensures) ∙ e .if1 .left)
 
 add-end : tie.Need-add-end
 add-end c = omega (arith, c .before .told-at .ensures (c .if2 .taken) .within)

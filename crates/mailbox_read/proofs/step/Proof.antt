@@ -37,7 +37,8 @@ asked :
 unfolding sought nextAt
 asked c =
     let l = c .before .before in
-    rw (c .before .lesser2 .ensures, l .lesser .ensures, c .settled .ensures .1, sym (l .before .before .over-limit .ensures) ∙ l .before .if1 .left)
+    let fits = sym (l .before .before .over-limit .ensures) ∙ l .before .if1 .left in
+    rw (c .before .lesser2 .ensures, l .lesser .ensures, c .settled .ensures .1, fits)
 
 over-limit-requires : tie.Need-over-limit-requires Inv-loop μ-loop
 over-limit-requires c κs = search needs

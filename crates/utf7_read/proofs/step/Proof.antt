@@ -22,13 +22,15 @@ got :
     (c : tie.After-get-ahead) →
     let l = c .before .before in
     let a = l .before .before .before .before .before .args in
-    reached (now (a .text)) (c .get-ahead .result) (l .lesser2 .result) ≡ nextAt utf7 spanIn (now (a .text)) (inText (now (a .text)) (spotOf (a .c)))
+    reached (now (a .text)) (c .get-ahead .result) (l .lesser2 .result)
+    ≡ nextAt utf7 spanIn (now (a .text)) (inText (now (a .text)) (spotOf (a .c)))
 unfolding stepFrom nextAt
 got c =
     let s = c .before in
     let l = s .before in
-    sym (c .get-ahead .ensures .same _)
-    ∙ rw (l .lesser2 .ensures, l .before .lesser .ensures, s .settled .ensures .1, sym (l .before .before .before .over-limit .ensures) ∙ l .before .before .if1 .left)
+    let b = l .before in
+    let fits = sym (b .before .before .over-limit .ensures) ∙ b .before .if1 .left in
+    sym (c .get-ahead .ensures .same _) ∙ rw (l .lesser2 .ensures, b .lesser .ensures, s .settled .ensures .1, fits)
 
 over-limit-requires : tie.Need-over-limit-requires
 over-limit-requires c κs = search needs

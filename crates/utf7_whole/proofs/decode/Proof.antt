@@ -6,7 +6,7 @@ use borrow.Author.Needs.{needs}
 use Rattle.reading.proofs.Fronts.{Front, front-place, front-give, front-go, front-done}
 use Rattle.reading.proofs.Laws.{left-bad, left-end}
 use Rattle.utf7.specs.Rule.{utf7}
-use Rattle.utf7_read.proofs.Moves.{moved, byte-moves}
+use Rattle.utf7_read.proofs.Moves.{byte-moved}
 use Rattle.utf7_read.specs.Cursor.{shiftOf}
 use Rattle.utf7_whole.proofs.Buffers.{cell-unit}
 use Rattle.utf7_whole.proofs.decode.Statement.{statement}
@@ -40,7 +40,7 @@ index c = let i = c .before .before .before .before .before in front-place (i .b
 cast-out : tie.Need-cast-out Inv-loop μ-loop
 cast-out c = let f = c .before .before .before in
     let i = f .before .before in
-    omega (arith, cell-unit (i .before .loop .inv .0 .left) (i .loop-test .taken) (moved (byte-moves _ _ (f .byte-does .ensures)) (c .before .value .given .1) .0))
+    omega (arith, cell-unit (i .before .loop .inv .0 .left) (i .loop-test .taken) (byte-moved _ _ (f .byte-does .ensures) (c .before .value .given .1)))
 
 mul-out : tie.Need-mul-out Inv-loop μ-loop
 mul-out c = omega (arith, index c)
@@ -60,7 +60,7 @@ loop-less c = search needs
 loop-again : tie.Need-loop-again Inv-loop μ-loop
 loop-again c = let f = c .before .before .before in
     let i = f .before .before in
-    (front-give (i .before .loop .inv .0) (i .loop-test .taken) (moved (byte-moves _ _ (f .byte-does .ensures)) (c .before .value .given .1) .0), simp length-set (i .before .loop .inv .1))
+    (front-give (i .before .loop .inv .0) (i .loop-test .taken) (byte-moved _ _ (f .byte-does .ensures) (c .before .value .given .1)), simp length-set (i .before .loop .inv .1))
 
 enum-known-state : tie.Need-enum-known-state Inv-loop μ-loop
 enum-known-state c = search needs
@@ -74,7 +74,7 @@ loop-less-2 c = search needs
 loop-again-2 : tie.Need-loop-again-2 Inv-loop μ-loop
 loop-again-2 c = let f = c .before .before .before in
     let i = f .before .before in
-    (front-go (i .before .loop .inv .0) (i .loop-test .taken) (moved (byte-moves _ _ (f .byte-does .ensures)) (c .before .state .given .1) .0), i .before .loop .inv .1)
+    (front-go (i .before .loop .inv .0) (i .loop-test .taken) (byte-moved _ _ (f .byte-does .ensures) (c .before .state .given .1)), i .before .loop .inv .1)
 
 enum-known-why : tie.Need-enum-known-why Inv-loop μ-loop
 enum-known-why c = search needs
@@ -86,7 +86,7 @@ returns : tie.Need-returns Inv-loop μ-loop
 returns c = let f = c .before .before .before in
     let i = f .before .before in
     let q = i .before .loop .inv .0 in
-    let e = left-bad (q .left) (i .loop-test .taken) (moved (byte-moves _ _ (f .byte-does .ensures)) (c .before .why .given .1) .0) in
+    let e = left-bad (q .left) (i .loop-test .taken) (byte-moved _ _ (f .byte-does .ensures) (c .before .why .given .1)) in
     (e .1, front-done q (e .0))
 
 ends-in-requires : tie.Need-ends-in-requires Inv-loop μ-loop

@@ -6,7 +6,7 @@ use Rattle.reading.proofs.Matches.{Matching, matching-start, matching-give, mat
 use Rattle.utf7.specs.Rule.{utf7}
 use Rattle.utf7.proofs.Kept.{ends-sound}
 use Rattle.utf7_read.specs.Cursor.{shiftOf}
-use Rattle.utf7_read.proofs.Moves.{moved, byte-moves}
+use Rattle.utf7_read.proofs.Moves.{byte-moved}
 use Rattle.utf7_whole.proofs.reads_as.Statement.{statement}
 use Rattle.utf7_whole.proofs.reads_as.Tie as tie
 
@@ -33,7 +33,7 @@ returns c =
     let v = c .before .before in
     let f = v .before .before in
     let i = f .before .before in
-    matching-past (i .before .loop .inv) (i .loop-test .taken) (moved (byte-moves _ _ (f .byte-does .ensures)) (v .value .given .1) .0) (c .if1 .taken)
+    matching-past (i .before .loop .inv) (i .loop-test .taken) (byte-moved _ _ (f .byte-does .ensures) (v .value .given .1)) (c .if1 .taken)
 
 mul-if2 : tie.Need-mul-if2 Inv-loop μ-loop
 mul-if2 c = search needs
@@ -46,7 +46,7 @@ returns-2 c =
     let v = c .before .before .before .before in
     let f = v .before .before in
     let i = f .before .before in
-    matching-other (i .before .loop .inv) (i .loop-test .taken) (moved (byte-moves _ _ (f .byte-does .ensures)) (v .value .given .1) .0) (omega (arith, c .before .before .if1 .left)) (c .if2 .taken)
+    matching-other (i .before .loop .inv) (i .loop-test .taken) (byte-moved _ _ (f .byte-does .ensures) (v .value .given .1)) (omega (arith, c .before .before .if1 .left)) (c .if2 .taken)
 
 add-n : tie.Need-add-n Inv-loop μ-loop
 add-n c = search needs
@@ -62,7 +62,7 @@ loop-again c =
     let v = c .before .before .before .before in
     let f = v .before .before in
     let i = f .before .before in
-    matching-give (i .before .loop .inv) (i .loop-test .taken) (moved (byte-moves _ _ (f .byte-does .ensures)) (v .value .given .1) .0) (omega (arith, c .before .before .if1 .left)) (c .if2 .left)
+    matching-give (i .before .loop .inv) (i .loop-test .taken) (byte-moved _ _ (f .byte-does .ensures) (v .value .given .1)) (omega (arith, c .before .before .if1 .left)) (c .if2 .left)
 
 enum-known-state : tie.Need-enum-known-state Inv-loop μ-loop
 enum-known-state c = search needs
@@ -77,7 +77,7 @@ loop-again-2 : tie.Need-loop-again-2 Inv-loop μ-loop
 loop-again-2 c =
     let f = c .before .before .before in
     let i = f .before .before in
-    matching-go (i .before .loop .inv) (i .loop-test .taken) (moved (byte-moves _ _ (f .byte-does .ensures)) (c .before .state .given .1) .0)
+    matching-go (i .before .loop .inv) (i .loop-test .taken) (byte-moved _ _ (f .byte-does .ensures) (c .before .state .given .1))
 
 enum-told : tie.Need-enum-told Inv-loop μ-loop
 enum-told c = search needs
@@ -86,7 +86,7 @@ returns-3 : tie.Need-returns-3 Inv-loop μ-loop
 returns-3 c =
     let f = c .before .before in
     let i = f .before .before in
-    matching-bad (i .before .loop .inv) (i .loop-test .taken) (moved (byte-moves _ _ (f .byte-does .ensures)) (c .enum-told .given .1) .0)
+    matching-bad (i .before .loop .inv) (i .loop-test .taken) (byte-moved _ _ (f .byte-does .ensures) (c .enum-told .given .1))
 
 ends-in-requires : tie.Need-ends-in-requires Inv-loop μ-loop
 ends-in-requires c κs = search needs
