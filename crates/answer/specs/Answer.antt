@@ -43,6 +43,6 @@ abbrev pub inNumbers : Answer → Verdict
 inNumbers (Accepted count) = numbered 0 count
 inNumbers (Refused why place) = numbered (numberOf why) place
 
--- "16, over 65,536, place 65,536"
+-- "16, over 65,536": its place is the limit
 abbrev pub tooLong : Verdict
 tooLong = numbered 16 limit

@@ -40,11 +40,11 @@ lowDoes (opening after) b =
 lowDoes (run pending) b =
     cond (setB comma b) (unitDoes (pending ++ bits 6 (valueOf comma b))) (cond (eqb b 45) (closeDoes pending) (bad 3))
 
--- "1 [..] before anything else at that byte"
+-- "at one byte 1, then 2 or 4, then 3, 5 or 6"
 unfoldable pub byteDoes : Shift → ℕ → Does Shift
 byteDoes shift b = cond (ltb b 128) (lowDoes shift b) (bad 1)
 
--- "`&` at the end is 2 at the length"; "7 for a run still open at the end"
+-- 2 for a sign "followed by neither B nor `-`, or by the end"; "7 for a run still open at the end"
 unfoldable pub endsIn : ℕ → Shift → Ending
 endsIn size (outside after) = accepted
 endsIn size (opening after) = fault 2 size
