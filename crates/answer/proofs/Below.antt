@@ -9,6 +9,11 @@ use lib.Dec.{eqb}
 use borrow.Author.Tests.{eqb-true, eqb-false}
 use Rattle.answer.specs.Lists.{Each}
 
+-- what holds of each row of a table, row after row
+infixr 5 _and_
+pub _and_ : {A B : Type 0} → A → B → A × B
+a and b = (a, b)
+
 pub both : (a b : Bool) → (a && b) ≡ true → (a ≡ true) × (b ≡ true)
 both true b e = (refl, e)
 both false b e = absurd (false≢true e)

@@ -3,7 +3,9 @@ use mathlib.Core.Path.{refl}
 use Rattle.answer.specs.Answer.{limit}
 use Rattle.answer.specs.Output.{deliver}
 use Rattle.answer.specs.Cases.{AllHold}
+use Rattle.answer.proofs.Below.{_and_}
 
 pub hold : AllHold
 unfolding limit deliver
-hold = (refl, (refl, (refl, (refl, (refl, ((λ _ e. rw e), ((λ _ e. rw e), ((λ _ e. rw e), ((λ _ e. rw e), tt)))))))))
+hold = refl and refl and refl and refl and refl and (λ _ e. rw e) and (λ _ e. rw e) and (λ _ e. rw e) and
+    (λ _ e. rw e) and tt

@@ -2,6 +2,7 @@
 use mathlib.Core.Path.{refl}
 use Rattle.answer.specs.Answer.{limit}
 use Rattle.answer.specs.Output.{deliver}
+use Rattle.answer.proofs.Below.{_and_}
 use Rattle.bits.specs.Bits.{bits, number, allZero, bitsOf, groups, full, filler}
 use Rattle.base64.specs.Letters.{valueOf, setB, letterOf}
 use Rattle.reading.specs.Reading.{readFrom, reading, readInto}
@@ -13,5 +14,9 @@ use Rattle.utf7.specs.Writing.{pieces, letters, spell, spellAll, writing
 use Rattle.utf7.specs.Cases.{AllHold}
 
 pub hold : AllHold
-unfolding limit deliver bits number allZero bitsOf groups full filler valueOf setB letterOf readFrom reading readInto markedFrom markedIn alphanumeric setD setO direct own outsideDoes unitDoes mayEnd endDoes lowDoes byteDoes endsIn spanIn pieces letters spell spellAll writing firstOver writeInto
-hold = ((λ _. refl), ((λ _. refl), ((λ _. refl), ((λ _. refl), ((λ _. refl), ((λ _. refl), ((λ _. refl), ((λ _. refl), ((λ _. refl), ((λ _. refl), ((λ _. refl), ((λ _. refl), ((λ _. refl), (refl, (refl, (refl, (refl, (refl, (refl, (refl, (refl, ((λ _. refl), tt))))))))))))))))))))))
+unfolding limit deliver bits number allZero bitsOf groups full filler valueOf setB letterOf readFrom reading
+    readInto markedFrom markedIn alphanumeric setD setO direct own outsideDoes unitDoes mayEnd endDoes lowDoes
+    byteDoes endsIn spanIn pieces letters spell spellAll writing firstOver writeInto
+hold = (λ _. refl) and (λ _. refl) and (λ _. refl) and (λ _. refl) and (λ _. refl) and (λ _. refl) and
+    (λ _. refl) and (λ _. refl) and (λ _. refl) and (λ _. refl) and (λ _. refl) and (λ _. refl) and
+    (λ _. refl) and refl and refl and refl and refl and refl and refl and refl and refl and (λ _. refl) and tt
