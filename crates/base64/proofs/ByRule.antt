@@ -29,9 +29,11 @@ letter-listed last x h = told (eqb x 63) refl
     told : (t : Bool) → eqb x 63 ≡ t → letterOf last x ≡ getD (alphabet last) x 0
     told true e = rw (eqb-true x 63 e)
     told false e =
-        eqb-true _ _ (below (λ k. eqb (letterOf last k) (getD (alphabet last) k 0)) 63 refl x (omega (arith, eqb-false x 63 e)))
+        eqb-true _ _
+        (below (λ k. eqb (letterOf last k) (getD (alphabet last) k 0)) 63 refl x (omega (arith, eqb-false x 63 e)))
 
-none-listed : (last : ℕ) → Sign last → (b : ℕ) → ((x : ℕ) → x < 64 → getD (alphabet last) x 0 ≡ b → ⊥) → valueOf last b ≡ 64
+none-listed :
+    (last : ℕ) → Sign last → (b : ℕ) → ((x : ℕ) → x < 64 → getD (alphabet last) x 0 ≡ b → ⊥) → valueOf last b ≡ 64
 unfolding setB
 none-listed last s b none = told (setB last b) refl
   where

@@ -16,7 +16,8 @@ use Rattle.base64.specs.Letters.{valueOf, setB, slash, letterOf}
 use Rattle.base64.proofs.Letters.{Sign, slash-sign, letter-value}
 use Rattle.reading.specs.Reading.{Does, give, go, bad, Ending, Reading, accepted, onRead, readFrom, reading}
 use Rattle.reading.proofs.Walk.{walk-read, no-fault}
-use Rattle.utf7.specs.Rule.{Shift, outside, opening, run, mayEnd, outsideDoes, endDoes, lowDoes, byteDoes, endsIn, utf7}
+use Rattle.utf7.specs.Rule.{Shift, outside, opening, run, utf7}
+use Rattle.utf7.specs.Rule.{mayEnd, outsideDoes, endDoes, lowDoes, byteDoes, endsIn}
 use Rattle.utf7.specs.Writing.{letters}
 use Rattle.utf7.specs.Needed.{lettersFirst, Needed, OnRun, RunsNeeded}
 use Rattle.utf7.proofs.Round.{Letters, whole-run}
@@ -85,7 +86,8 @@ ends-well (b ∷ rest) at f o = byte-ends b at f (readFrom utf7 rest (at + 1)) o
 
 -- a run that is read from outside to its end, which is accepted
 run-letters-needed :
-    (ls rest : List ℕ) (at : ℕ) → 0 < length ls → Letters slash ls → Over rest → readFrom utf7 (43 ∷ (ls ++ rest)) at outside .ending ≡ accepted → Needed ls
+    (ls rest : List ℕ) (at : ℕ) → 0 < length ls → Letters slash ls → Over rest →
+    readFrom utf7 (43 ∷ (ls ++ rest)) at outside .ending ≡ accepted → Needed ls
 unfolding mayEnd
 run-letters-needed ls rest at some h o a =
     let bs = runBits ls in
@@ -110,13 +112,16 @@ behind (b ∷ bs) = told (setB slash b) refl (behind bs)
     told true e r = record { rest = r .rest; whole = rw (e, r .whole); all = rw e (e, r .all); over = r .over }
     told false e r = record { rest = b ∷ bs; whole = rw e; all = rw e tt; over = e }
 
-opened-by : (ls rest : List ℕ) (at : ℕ) → Letters slash ls → Over rest → readFrom utf7 (ls ++ rest) (at + 1) opening .ending ≡ accepted → Needed ls
+opened-by :
+    (ls rest : List ℕ) (at : ℕ) → Letters slash ls → Over rest →
+    readFrom utf7 (ls ++ rest) (at + 1) opening .ending ≡ accepted → Needed ls
 unfolding readFrom byteDoes lowDoes outsideDoes letters bitsOf full groups filler
 opened-by [] rest at h o a = refl
 opened-by (b ∷ ls) rest at h o a = run-letters-needed (b ∷ ls) rest at (omega arith) h o a
 
 needed-does :
-    (m : Does Shift) (bs : List ℕ) (at : ℕ) → ((shift : Shift) → readFrom utf7 bs (at + 1) shift .ending ≡ accepted → RunsNeeded bs shift) →
+    (m : Does Shift) (bs : List ℕ) (at : ℕ) →
+    ((shift : Shift) → readFrom utf7 bs (at + 1) shift .ending ≡ accepted → RunsNeeded bs shift) →
     onRead m at (readFrom utf7 bs (at + 1)) .ending ≡ accepted → OnRun m bs (RunsNeeded bs)
 needed-does (give v shift) bs at ih a = ih shift a
 needed-does (go outside) bs at ih a = (tt, ih outside a)
@@ -126,7 +131,8 @@ needed-does (go opening) bs at ih a =
 needed-does (go (run pending)) bs at ih a = (tt, ih (run pending) a)
 needed-does (bad k) bs at ih a = no-fault k at a
 
-needed-from : (bs : List ℕ) (at : ℕ) (shift : Shift) → readFrom utf7 bs at shift .ending ≡ accepted → RunsNeeded bs shift
+needed-from :
+    (bs : List ℕ) (at : ℕ) (shift : Shift) → readFrom utf7 bs at shift .ending ≡ accepted → RunsNeeded bs shift
 unfolding readFrom RunsNeeded
 needed-from [] at shift a = tt
 needed-from (b ∷ bs) at shift a = needed-does (byteDoes shift b) bs at (needed-from bs (at + 1)) a

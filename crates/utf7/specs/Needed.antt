@@ -1,4 +1,5 @@
--- Document 02, order 3: "a run with six or more bits left over holds a letter that nobody needed". That no run of a text holds one.
+-- Document 02, order 3: "a run with six or more bits left over holds a letter that nobody needed". That no run of a
+-- text holds one.
 use Prim.Native.Nat.{ℕ}
 use mathlib.Core.Bool.{cond}
 use mathlib.Core.Path.{_≡_}
