@@ -185,7 +185,8 @@ qalithonda_numbers qalithonda_mailbox_write(const uint32_t *cells, size_t cells_
  * The cells complete before the first fault are handed out, and then the fault is the answer; a
  * text of more than 65,536 bytes is answered with 16 at once. After that every step gives the same
  * answer again. A cursor is a value: copy it to come back to a place. Every cursor is safe to hand
- * in, whatever its numbers are.
+ * in, whatever its numbers are: past the text's end it stands at the end, and it has handed out at
+ * most as many cells as bytes lie before it.
  */
 
 /* A place in a UTF-7 text. */

@@ -85,6 +85,9 @@ impl<C: Cursor> Stepping<'_, C> {
         if expected.cells.len() > text.len() {
             return Err("more cells are handed out than there are bytes".to_string());
         }
+        if expected.answer.number == 0 && expected.answer.place > text.len() {
+            return Err("more cells are counted than there are bytes".to_string());
+        }
         self.go_through(text, *cursor, &expected, statuses)
     }
 }

@@ -4,8 +4,8 @@
 //! cells found before it, bits are lists, and a call on a page makes new lists of all that it leaves. Quotations in
 //! comments are sentences of document 01. Mailbox names are in it as order 1 of document 02 states them, and where the
 //! bytes of a cell begin and end as its order 2 does. What a cursor made by hand means is in no paper: `steps_from`
-//! takes that from the header and from the definitions of crates/utf7_read, crates/mailbox_read and crates/jp2_read
-//! (specs/Cursor.antt).
+//! takes that from the header and from the definitions of crates/reading (`inText` in specs/Stepping.antt), and of
+//! crates/utf7_read, crates/mailbox_read and crates/jp2_read (specs/Cursor.antt).
 
 mod bits;
 mod call;
@@ -208,6 +208,18 @@ mod tests {
         assert_eq!(last(jp2::steps_from(b"\n\x1BNA", &[0, 0, 6, 100, 1, 0, 0])), (1, 6, 2));
         assert_eq!(last(jp2::steps_from(b"x", &[0, 0, 6, 100, 6, 0x28, 0x42])), (0, 5, 0));
         assert_eq!(last(jp2::steps_from(b"", &[0, 0, 6, 100, 5, 0x4E, 0])), (0, 7, 0));
+    }
+
+    #[test]
+    fn a_cursor_made_by_hand_past_the_end_stands_at_the_end() {
+        let answer = |steps: Steps| (steps.cells.len(), steps.answer.number, steps.answer.place);
+        for (text, at, handed, count) in
+            [(&b""[..], 7, 1, 0), (b"ab", 9, 9, 2), (b"ab", 9, 1, 1), (b"ab", u64::MAX, 3, 2)]
+        {
+            assert_eq!(answer(utf7::steps_from(text, &[at, handed, 0, 0, 0])), (0, 0, count));
+            assert_eq!(answer(mailbox::steps_from(text, &[at, handed, 0, 0, 0])), (0, 0, count));
+            assert_eq!(answer(jp2::steps_from(text, &[at, handed, 6, 0, 0, 0, 0])), (0, 0, count));
+        }
     }
 
     #[test]

@@ -58,12 +58,14 @@ pub fn steps<B>(find: Find<B>, text: &[u8], Cursor { at, handed, before }: Curso
     if let Err(answer) = within_limit(text.len()) {
         return Steps { cells: vec![], answer };
     }
-    let Found { mut cells, fault } = find(text, at.min(text.len()), before);
+    // A cursor made by hand is not believed: past the end it stands at the end, and it has handed out no more cells
+    // than bytes lie before it.
+    let at = at.min(text.len());
+    let Found { mut cells, fault } = find(text, at, before);
     if let Some(answer) = fault {
         cells.retain(|complete| complete.end <= answer.place);
         return Steps { cells, answer };
     }
-    // A cursor made by hand may have counted more cells than bytes lie before it, and is not believed.
     Steps { answer: Answer { number: 0, place: handed.min(at) + cells.len() }, cells }
 }
 
