@@ -2,6 +2,7 @@
 use mathlib.Core.Path.{refl}
 use Rattle.answer.specs.Answer.{limit}
 use Rattle.answer.specs.Output.{deliver}
+use Rattle.answer.proofs.Below.{_and_}
 use Rattle.reading.specs.Reading.{readFrom, reading, readInto}
 use Rattle.reading.specs.Spans.{markedFrom, markedIn}
 use Rattle.jp2.specs.Table.{designations, begins, firstWhere, rowOfNumber, rowOfEscape, rowBegunBy}
@@ -11,10 +12,6 @@ use Rattle.jp2.specs.Writable.{pairSet, shiftSet, ascii, codes, writable
 use Rattle.jp2.specs.Writing.{designating, spell, forceAfter, writeFrom, writing, writeInto}
 use Rattle.jp2.specs.Tally.{countOf, tallyOf}
 use Rattle.jp2.specs.Cases.{AllHold}
-
-infixr 5 _and_
-_and_ : {A B : Type 0} → A → B → A × B
-a and b = (a, b)
 
 pub hold : AllHold
 unfolding limit deliver readFrom reading readInto markedFrom markedIn designations begins firstWhere rowOfNumber
