@@ -7,5 +7,5 @@ use Rattle.answer.proofs.Below.{_and_}
 
 pub hold : AllHold
 unfolding limit deliver
-hold = refl and refl and refl and refl and refl and (λ _ e. rw e) and (λ _ e. rw e) and (λ _ e. rw e) and
-    (λ _ e. rw e) and tt
+hold = refl and refl and refl and refl and refl and refl and refl and (λ _ e. rw e) and (λ _ e. rw e) and
+    (λ _ e. rw e) and (λ _ e. rw e) and tt

@@ -5,9 +5,14 @@ use mathlib.Core.List.{List, [], _∷_}
 use lib.ListN.{length}
 use Rattle.answer.specs.Answer.{numbered}
 use Rattle.answer.specs.Lists.{Each}
-use Rattle.answer.specs.Output.{Outcome, deliver, written}
+use Rattle.answer.specs.Output.{Outcome, leaves, deliver, written}
+use Rattle.answer.specs.declared.Answer.{Answer}
+use Rattle.answer.specs.declared.Answer.the-variants.{Accepted, Refused}
+use Rattle.answer.specs.declared.Refusal.the-variants.{NoRoom}
 
 pub data Case : Type 0 where
+  -- the answer and the output at exit; the number, the place, and the output
+  tells : Answer → List ℕ → ℕ → ℕ → List ℕ → Case
   -- elements for an output, and the output; the number, the place, and the output then
   delivers : List ℕ → List ℕ → ℕ → ℕ → List ℕ → Case
   -- how many cells, which of them is the first that is not writable, their text, and the output; the same
@@ -17,14 +22,18 @@ abbrev pub leaving : ℕ → ℕ → List ℕ → Outcome
 leaving number place out = record { verdict = numbered number place; out = out }
 
 abbrev pub Holds : Case → Type 0
+Holds (tells answer out number place left) = leaves answer out ≡ leaving number place left
 Holds (delivers elements out number place left) = deliver elements out ≡ leaving number place left
 Holds (writes count first text out number place left) =
     (cells : List ℕ) → length cells ≡ count → written cells first text out ≡ leaving number place left
 
 abbrev pub cases : List Case
 cases =
-    -- "9, too little room, elements needed": three into two places, and into none
-    delivers (1 ∷ 2 ∷ 3 ∷ []) (8 ∷ 9 ∷ []) 9 3 (8 ∷ 9 ∷ [])
+    -- the output of a promise is all of it
+    tells (Accepted 1) (8 ∷ 9 ∷ []) 0 1 (8 ∷ 9 ∷ [])
+    ∷ tells (Refused NoRoom 3) (8 ∷ 9 ∷ []) 9 3 (8 ∷ 9 ∷ [])
+    -- "9, too little room, elements needed": three into two places, and one into none
+    ∷ delivers (1 ∷ 2 ∷ 3 ∷ []) (8 ∷ 9 ∷ []) 9 3 (8 ∷ 9 ∷ [])
     ∷ delivers (1 ∷ []) [] 9 1 []
     -- "fills the first count elements and no others": three into three, and into five
     ∷ delivers (1 ∷ 2 ∷ 3 ∷ []) (7 ∷ 8 ∷ 9 ∷ []) 0 3 (1 ∷ 2 ∷ 3 ∷ [])
