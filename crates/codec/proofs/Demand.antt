@@ -1,20 +1,23 @@
 -- Demand 2. Assumes nothing.
-use Prim.Native.Nat.{ℕ, _≤_, _<_}
+use Prim.Native.Nat.{ℕ, suc, _≤_, _<_, _^_}
 use mathlib.Core.Path.{_≡_, refl, sym, ap, _∙_, subst}
-use mathlib.Core.Bool.{Bool, true, false, cond, false≢true}
+use mathlib.Core.Bool.{Bool, true, false, cond, not, false≢true}
 use mathlib.Core.List.{List, [], _∷_}
 use native.Mathlib.Omega.{arith}
 use lib.ListN.{length, take}
 use lib.Dec.{ltb}
-use borrow.Author.Tests.{ltb-true, ltb-false}
+use borrow.Author.Tests.{ltb-true, ltb-false, not-false}
 use Rattle.answer.specs.Answer.{numbered, limit}
 use Rattle.answer.specs.Output.{Outcome, refusing, deliver, written}
+use Rattle.answer.specs.Lists.{Each}
 use Rattle.answer.proofs.Below.{cond-case}
 use Rattle.reading.specs.Reading.{Ending, accepted, fault, onEnding}
 use Rattle.utf7.specs.Sets.{member}
 use Rattle.utf7.specs.Writing.{writing, firstOver, writeInto}
 use Rattle.utf7.specs.declared.Style.the-variants.{Header, Body, Name}
 use Rattle.utf7.proofs.ReadsBack as utf7-back
+use Rattle.jp2.specs.Table.{firstWhere}
+use Rattle.jp2.specs.Writable.{firstForeign}
 use Rattle.jp2.specs.Writing as jp2-writing
 use Rattle.jp2.proofs.ReadsBack as jp2-back
 use Rattle.mailbox.proofs.ReadsBack as mailbox-back
@@ -22,9 +25,9 @@ use Rattle.codec.specs.declared.Format.{Format}
 use Rattle.codec.specs.declared.Format.the-variants.{Utf7, Jp2, Mailbox}
 use Rattle.codec.specs.declared.Kind.{Kind}
 use Rattle.codec.specs.declared.Kind.the-variants as kind
-use Rattle.codec.specs.Kinds.{formatOf, readingOf, readIn, writeIn}
-use Rattle.codec.specs.Demand.{given, Exactly, Room, faultsIn, Reads}
-use Rattle.codec.specs.Demand.{Writer, inKind, inNames, ReadsBack, Writes, Demand2}
+use Rattle.codec.specs.Kinds.{formatOf, readingOf, readIn, firstUnwritable, writeIn}
+use Rattle.codec.specs.Demand.{given, Exactly, Within, Room, faultsIn, Reads, isUnit, writableIn}
+use Rattle.codec.specs.Demand.{Writer, inKind, inNames, AllWritable, firstBad, ReadsBack, Writes, Demand2}
 use Rattle.codec.proofs.ByKind.{read-form, write-form}
 use Rattle.codec.proofs.Faults.{choose, KnownEnd, known}
 
@@ -126,42 +129,89 @@ module _ (format : Format) (text out : List ℕ) where
             (then limit size _ _ (λ z. omega (arith, z)) (ended cells out end (other 9 (none .1)) (cramps cells out)));
       }
 
+-- the same condition in other words
+mapped : {C D : Type 0} {o left : Outcome} → (C → D) → (D → C) → Exactly o C left → Exactly o D left
+mapped f g e = record { when = ((λ z. f (e .when .0 z)), (λ d. e .when .1 (g d))); leaves = λ d. e .leaves (g d) }
+
+-- no cell is bad exactly if each is good
+module _ (good : ℕ → Bool) where
+  none-bad : (cells : List ℕ) → Each (λ v. good v ≡ true) cells → length cells ≤ firstWhere (λ v. not (good v)) cells
+  unfolding firstWhere
+  none-bad [] h = omega arith
+  none-bad (x ∷ xs) h = rw (h .0) (omega (arith, none-bad xs (h .1)))
+
+  all-good : (cells : List ℕ) → length cells ≤ firstWhere (λ v. not (good v)) cells → Each (λ v. good v ≡ true) cells
+  unfolding firstWhere
+  all-good [] h = tt
+  all-good (x ∷ xs) h =
+      cond-case (λ (n : ℕ). suc (length xs) ≤ n → Each (λ v. good v ≡ true) (x ∷ xs)) (not (good x))
+      (λ t k. absurd (omega arith)) (λ t k. (not-false (good x) t, all-good xs (omega arith))) h
+
 -- one of the numbers of writing
 abbrev Told : ℕ → Type 0
 Told n = member (0 ∷ 9 ∷ 10 ∷ 16 ∷ []) n ≡ true
 
 module _ (w : Writer) (cells out : List ℕ) where
+  abbrev bytes : List ℕ
+  bytes = w .writing cells
+
+  abbrev bad : ℕ
+  bad = firstBad w cells out
+
+  late : (n : ℕ) → (0 ≡ n → ⊥) → (9 ≡ n → ⊥) → numberIn (deliver bytes out) ≡ n → ⊥
+  late n = delivers bytes out (λ k. k ≡ n → ⊥)
+
+  -- what follows 16 and 10
+  after :
+      {D : Type 0} {left : Outcome} → (16 ≡ numberIn left → ⊥) → (10 ≡ numberIn left → ⊥) →
+      Exactly (deliver bytes out) D left →
+      Exactly (written cells bad bytes out) (Within cells × (AllWritable w cells out × D)) left
+  after a b d =
+      then limit (length cells) _ _ a
+      (mapped (λ h. (all-good (w .writable) cells (h .0), h .1)) (λ h. (none-bad (w .writable) cells (h .0), h .1))
+      (then bad (length cells) _ _ b d))
+
   writes :
-      w .write cells out ≡ written cells (w .first cells) (w .writing cells) out →
-      ReadsBack w cells out (w .write cells out) → Writes w cells out
+      w .write cells out ≡ written cells bad bytes out → ReadsBack w cells out (w .write cells out) →
+      Writes w cells out
   writes form back =
-      let bytes = w .writing cells in
       let size = length cells in
-      let i = w .first cells in
-      let late : (n : ℕ) → (0 ≡ n → ⊥) → (9 ≡ n → ⊥) → numberIn (deliver bytes out) ≡ n → ⊥ =
-      λ n a b. delivers bytes out (λ k. k ≡ n → ⊥) a b in
       record {
-        accepts =
-            rw form
-            (then limit size _ _ (λ z. omega (arith, z)) (then i size _ _ (λ z. omega (arith, z)) (gives bytes out)));
+        accepts = rw form (after (λ z. omega (arith, z)) (λ z. omega (arith, z)) (gives bytes out));
         over =
             rw form
             (first limit size _ _
-            (choose (λ o. numberIn o ≡ 16 → ⊥) (ltb i size) (λ z. omega (arith, z))
+            (choose (λ o. numberIn o ≡ 16 → ⊥) (ltb bad size) (λ z. omega (arith, z))
             (late 16 (λ z. omega (arith, z)) (λ z. omega (arith, z)))));
         unwritable =
             rw form
             (then limit size _ _ (λ z. omega (arith, z))
-            (first i size _ _ (late 10 (λ z. omega (arith, z)) (λ z. omega (arith, z)))));
-        cramped =
-            rw form
-            (then limit size _ _ (λ z. omega (arith, z)) (then i size _ _ (λ z. omega (arith, z)) (cramps bytes out)));
+            (mapped (λ h all. omega (arith, h, none-bad (w .writable) cells all))
+            (λ h. let some : size ≤ bad → ⊥ = λ z. h (all-good (w .writable) cells z) in omega (arith, some))
+            (first bad size _ _ (late 10 (λ z. omega (arith, z)) (λ z. omega (arith, z))))));
+        cramped = rw form (after (λ z. omega (arith, z)) (λ z. omega (arith, z)) (cramps bytes out));
         only =
             rw form
             (choose (λ o. Told (numberIn o)) (ltb limit size) refl
-            (choose (λ o. Told (numberIn o)) (ltb i size) refl (delivers bytes out Told refl refl)));
+            (choose (λ o. Told (numberIn o)) (ltb bad size) refl (delivers bytes out Told refl refl)));
         back = back;
       }
+
+-- the first cell that is no unit is the first that is not writable
+either-way : (t : Bool) {m n : ℕ} → m ≡ n → cond t (suc m) 0 ≡ cond (not t) 0 (suc n)
+either-way true e = ap suc e
+either-way false e = refl
+
+first-over : (cells : List ℕ) → firstOver cells ≡ firstWhere (λ v. not (isUnit v)) cells
+unfolding firstOver firstWhere
+first-over [] = refl
+first-over (x ∷ xs) = either-way (ltb x (2 ^ 16)) (first-over xs)
+
+first-bad : (k : Kind) (cells : List ℕ) → firstUnwritable k cells ≡ firstWhere (λ v. not (writableIn k v)) cells
+unfolding firstUnwritable firstForeign
+first-bad kind.Utf7Header cells = first-over cells
+first-bad kind.Utf7Body cells = first-over cells
+first-bad kind.Jp2 cells = refl
 
 -- the call as the laws of the formats have it
 accepted-as : (o : Outcome) → numberIn o ≡ 0 → o ≡ record { verdict = numbered 0 (o .verdict .place); out = o .out }
@@ -186,14 +236,15 @@ module _ (cells out : List ℕ) where
       let o = writeInto Name cells out in
       mailbox-back.reads-back cells out (o .out) room (o .verdict .place) (accepted-as o e) few
 
-  names-form : writeInto Name cells out ≡ written cells (firstOver cells) (writing Name cells) out
+  names-form : writeInto Name cells out ≡ written cells (firstBad inNames cells out) (writing Name cells) out
   unfolding writeInto
-  names-form = refl
+  names-form = rw first-over
 
 pub demand2 : Demand2
 demand2 =
     record {
       reads = reads;
-      writes = λ k cells out. writes (inKind k) cells out (write-form k cells out) (kind-back k cells out);
+      writes =
+          λ k cells out. writes (inKind k) cells out (rw (write-form, first-bad)) (kind-back k cells out);
       names = λ cells out. writes inNames cells out (names-form cells out) (names-back cells out);
     }

@@ -1,20 +1,26 @@
 -- Demand 2: exactly what is accepted and given, of every text that is read and all cells that are written; names too.
-use Prim.Native.Nat.{ℕ, _≤_, _<_}
+use Prim.Native.Nat.{ℕ, _≤_, _<_, _^_}
 use mathlib.Core.Path.{_≡_}
 use mathlib.Core.Logic.{_↔_}
-use mathlib.Core.Bool.{true}
+use mathlib.Core.Bool.{Bool, true, not}
 use mathlib.Core.List.{List, [], _∷_}
 use lib.ListN.{length, take}
+use lib.Dec.{ltb}
 use Rattle.answer.specs.Answer.{numbered, limit, tooLong}
+use Rattle.answer.specs.Lists.{Each}
 use Rattle.answer.specs.Output.{Outcome, refusing, filled}
 use Rattle.reading.specs.Reading.{accepted, fault}
 use Rattle.utf7.specs.Sets.{member}
-use Rattle.utf7.specs.Writing.{writing, firstOver, writeInto}
+use Rattle.utf7.specs.Writing.{writing, writeInto}
 use Rattle.utf7.specs.declared.Style.the-variants.{Name}
+use Rattle.jp2.specs.Table.{firstWhere}
+use Rattle.jp2.specs.Writable.{writable}
 use Rattle.codec.specs.declared.Format.{Format}
 use Rattle.codec.specs.declared.Format.the-variants.{Utf7, Jp2, Mailbox}
 use Rattle.codec.specs.declared.Kind.{Kind}
-use Rattle.codec.specs.Kinds.{formatOf, readingOf, readIn, firstUnwritable, writingIn, writeIn}
+use Rattle.codec.specs.declared.Kind.the-variants as kind
+use Rattle.codec.specs.declared.Kind.the-variants.{Utf7Header, Utf7Body}
+use Rattle.codec.specs.Kinds.{formatOf, readingOf, readIn, writingIn, writeIn}
 
 -- what an accepted call leaves: 0 with the count of elements; they are in front of the output, its rest is as it was
 abbrev pub given : List ℕ → List ℕ → Outcome
@@ -57,19 +63,27 @@ module _ (format : Format) (text out : List ℕ) where
         Exactly (readIn format text out) (Within text × (Faultless × (length out < length cellsOf)))
         (refusing (numbered 9 (length cellsOf)) out)
 
--- a way of writing: the format of what is written, the index of the first cell that is not writable (or their count),
--- the bytes, and the call
+-- the cells that can be written: "UTF-7 cells are UTF-16 units, 0 to 65535", and those of JP-2
+abbrev pub isUnit : ℕ → Bool
+isUnit cell = ltb cell (2 ^ 16)
+
+abbrev pub writableIn : Kind → ℕ → Bool
+writableIn Utf7Header cell = isUnit cell
+writableIn Utf7Body cell = isUnit cell
+writableIn kind.Jp2 cell = writable cell
+
+-- a way of writing: the format of what is written, the cells that can be, the bytes, and the call
 pub record Writer : Type 0 where
   pub format : Format
-  pub first : List ℕ → ℕ
+  pub writable : ℕ → Bool
   pub writing : List ℕ → List ℕ
   pub write : List ℕ → List ℕ → Outcome
 
 abbrev pub inKind : Kind → Writer
-inKind k = record { format = formatOf k; first = firstUnwritable k; writing = writingIn k; write = writeIn k }
+inKind k = record { format = formatOf k; writable = writableIn k; writing = writingIn k; write = writeIn k }
 
 abbrev pub inNames : Writer
-inNames = record { format = Mailbox; first = firstOver; writing = writing Name; write = writeInto Name }
+inNames = record { format = Mailbox; writable = isUnit; writing = writing Name; write = writeInto Name }
 
 -- writing cells into an output
 module _ (w : Writer) (cells out : List ℕ) where
@@ -77,7 +91,11 @@ module _ (w : Writer) (cells out : List ℕ) where
   bytesOf = w .writing cells
 
   abbrev pub AllWritable : Type 0
-  AllWritable = length cells ≤ w .first cells
+  AllWritable = Each (λ v. w .writable v ≡ true) cells
+
+  -- the index of the first cell that is not writable, or the number of cells
+  abbrev pub firstBad : ℕ
+  firstBad = firstWhere (λ v. not (w .writable v)) cells
 
   -- what an accepted call wrote, within the limit of reading, reads back as the same cells
   abbrev pub ReadsBack : Outcome → Type 0
@@ -89,8 +107,7 @@ module _ (w : Writer) (cells out : List ℕ) where
     pub accepts : Exactly (w .write cells out) (Within cells × (AllWritable × Room bytesOf out)) (given bytesOf out)
     pub over : Exactly (w .write cells out) (limit < length cells) (refusing tooLong out)
     pub unwritable :
-        Exactly (w .write cells out) (Within cells × (w .first cells < length cells))
-        (refusing (numbered 10 (w .first cells)) out)
+        Exactly (w .write cells out) (Within cells × (AllWritable → ⊥)) (refusing (numbered 10 firstBad) out)
     pub cramped :
         Exactly (w .write cells out) (Within cells × (AllWritable × (length out < length bytesOf)))
         (refusing (numbered 9 (length bytesOf)) out)
