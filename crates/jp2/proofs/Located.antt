@@ -18,7 +18,7 @@ use Rattle.reading.proofs.Located.{cells-by, least-short, least-one, Anew, Make
 use Rattle.jp2.specs.Table.{rowAt, begins, isList, rowOfEscape, rowBegunBy}
 use Rattle.jp2.specs.Rule.{Phase, plain, return, first, shifted, escape, State, state, graphic, cellOf, singleDoes, firstDoes, secondDoes, betweenDoes, shiftedDoes, escapeDoes, inPhase, byteDoes, jp2}
 use Rattle.jp2.specs.Spans.{spanIn}
-use Rattle.jp2.specs.Located.{between, noRun}
+use Rattle.jp2.specs.Located.{between}
 use Rattle.jp2.specs.Writable.{pairSet, shiftSet}
 use Rattle.jp2.proofs.Begins.{begins-whole}
 use Rattle.jp2.proofs.Sets.{either, graphic-range, single, baseSet, shift-case, pair-apart}
@@ -43,6 +43,10 @@ record From (base st : State) : Type 0 where
 
 from-on : {base : State} {g0 g2 : ℕ} {p q : Phase} → From base (state g0 g2 p) → From base (state g0 g2 q)
 from-on f = record { cr = f .cr; so = f .so }
+
+-- JP-2 has no runs
+abbrev noRun : State → ℕ → Bool
+noRun st b = false
 
 abbrev MakesBy : State → State → ℕ → Does State → Type 0
 MakesBy = MakesDoes jp2 between noRun spanIn since From

@@ -1,5 +1,4 @@
--- Which states of JP-2 are between cells, whatever sets are in force: no pair, escape or ESC N is begun. It has no runs.
-use Prim.Native.Nat.{ℕ}
+-- Which states of JP-2 are between cells, whatever sets are in force: no pair, escape or ESC N is begun.
 use mathlib.Core.Bool.{Bool, true, false}
 use Rattle.jp2.specs.Rule.{Phase, plain, return, first, shifted, escape, State}
 
@@ -12,6 +11,3 @@ resting (escape bytes) = false
 
 abbrev pub between : State → Bool
 between st = resting (st .phase)
-
-abbrev pub noRun : State → ℕ → Bool
-noRun st b = false

@@ -10,16 +10,19 @@ use lib.ListN.{length}
 use lib.Dec.{ltb, eqb, lit<}
 use borrow.Author.Tests.{eqb-true}
 use Rattle.answer.proofs.Below.{cond-case}
-use Rattle.bits.specs.Bits.{bits, allZero}
+use Rattle.answer.specs.Bytes.{bytes}
+use Rattle.bits.specs.Bits.{bits, number, allZero}
 use Rattle.bits.proofs.Bits.{length-bits}
 use Rattle.base64.specs.Letters.{valueOf, setB, comma}
 use Rattle.reading.specs.Reading.{Does, give}
-use Rattle.reading.specs.Located.{LocatedIn}
+use Rattle.reading.specs.Spans.{markedFrom, markedIn}
+use Rattle.reading.specs.Cases.{cell}
+use Rattle.reading.specs.Located.{without, LocatedIn}
 use Rattle.reading.proofs.Located.{least-one, Anew, MakesDoes, Making, located}
 use Rattle.utf7.specs.Sets.{printable}
 use Rattle.utf7.proofs.Units.{Pending}
 use Rattle.utf7.proofs.Located.{letter-makes, sign-least}
-use Rattle.mailbox.specs.Rule.{Shift, outside, opening, run, mailbox, outsideDoes, closeDoes, lowDoes, byteDoes}
+use Rattle.mailbox.specs.Rule.{Shift, outside, opening, run, mailbox, outsideDoes, givesUnit, unitDoes, closeDoes, lowDoes, byteDoes}
 use Rattle.mailbox.specs.Spans.{spanIn}
 use Rattle.mailbox.specs.Located.{between, inRun}
 use Rattle.mailbox.proofs.Kept.{SoundShift, mailbox-kept}
@@ -105,6 +108,13 @@ byte-makes base (run pending) b false h s f = other-makes base (run pending) b f
 name-making : Making mailbox between inRun spanIn SoundShift
 name-making =
     record { since = since; From = From; starts = anew false; makes = λ base st b. byte-makes base st b _ refl }
+
+-- which those are, of one name
+pub outside-runs :
+    markedIn (without inRun mailbox) spanIn (bytes "a&-&AKM-b") ≡ cell 0x61 0 1 ∷ cell 0x26 1 3 ∷ cell 0x62 8 9 ∷ []
+unfolding markedIn markedFrom byteDoes lowDoes outsideDoes unitDoes givesUnit closeDoes setB valueOf bits number
+    allZero spanIn
+outside-runs = refl
 
 -- a single byte, and `&-`
 pub cells-located : (text : List ℕ) → LocatedIn mailbox between inRun spanIn text

@@ -10,15 +10,17 @@ use lib.ListN.{length, drop}
 use lib.Dec.{ltb, eqb, lit<}
 use borrow.Author.Tests.{eqb-true}
 use Rattle.answer.proofs.Below.{cond-case}
-use Rattle.bits.specs.Bits.{bits}
+use Rattle.answer.specs.Bytes.{bytes}
+use Rattle.bits.specs.Bits.{bits, number, allZero}
 use Rattle.bits.proofs.Bits.{length-bits}
 use Rattle.base64.specs.Letters.{valueOf, setB, slash}
 use Rattle.reading.specs.Reading.{Does, give, go, bad, Rule, readFrom}
-use Rattle.reading.specs.Spans.{Takes, Marking}
-use Rattle.reading.specs.Located.{Least, LocatedIn}
+use Rattle.reading.specs.Spans.{Takes, Marking, markedFrom, markedIn}
+use Rattle.reading.specs.Cases.{cell}
+use Rattle.reading.specs.Located.{Least, without, LocatedIn}
 use Rattle.reading.proofs.Located.{least-short, least-one, Anew, MakesDoes, Making, located}
 use Rattle.utf7.specs.Sets.{direct, setD, alphanumeric}
-use Rattle.utf7.specs.Rule.{Shift, outside, opening, run, utf7, outsideDoes, mayEnd, endDoes, lowDoes, byteDoes}
+use Rattle.utf7.specs.Rule.{Shift, outside, opening, run, utf7, outsideDoes, unitDoes, mayEnd, endDoes, lowDoes, byteDoes}
 use Rattle.utf7.specs.Spans.{spanIn}
 use Rattle.utf7.specs.Located.{between, inRun}
 use Rattle.utf7.proofs.Kept.{SoundShift, utf7-kept}
@@ -143,6 +145,14 @@ byte-makes base (run pending) b false h s f = other-makes base (run pending) b f
 utf7-making : Making utf7 between inRun spanIn SoundShift
 utf7-making =
     record { since = since; From = From; starts = anew; makes = λ base st b. byte-makes base st b _ refl }
+
+-- which those are, of one text: the byte that ends a run is among them
+pub outside-runs :
+    markedIn (without inRun utf7) spanIn (bytes "a+-+AKM.+AKM-b")
+    ≡ cell 0x61 0 1 ∷ cell 0x2B 1 3 ∷ cell 0x2E 7 8 ∷ cell 0x62 13 14 ∷ []
+unfolding markedIn markedFrom byteDoes lowDoes outsideDoes unitDoes mayEnd endDoes direct setD alphanumeric setB valueOf
+    bits number allZero spanIn
+outside-runs = refl
 
 -- a single byte, and `+-`
 pub cells-located : (text : List ℕ) → LocatedIn utf7 between inRun spanIn text
