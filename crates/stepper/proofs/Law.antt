@@ -12,7 +12,7 @@ use Rattle.answer.specs.Output.{refusing, deliver}
 use Rattle.reading.specs.Reading.{Ending, accepted, fault, Rule, verdictOf, closing, onEnding, reading, readInto}
 use Rattle.reading.specs.Spans.{Marking, noMark, markedIn}
 use Rattle.reading.specs.declared.Marked.{Marked}
-use Rattle.reading.specs.Stepping.{Next, cell, final, onward, onSpot, atStart, afterSteps, answerOf, nthOf}
+use Rattle.reading.specs.Stepping.{Next, cell, final, onward, onSpot, atStart, afterSteps, cellsOf, answerOf, nthOf}
 use Rattle.reading.proofs.Cursors as cursors
 use Rattle.reading.proofs.Cursors.{Cursors, stepFor, cursorAfter}
 use Rattle.utf7_read.proofs.Nth.{utf7-cursors}
@@ -40,6 +40,11 @@ gift-by :
 gift-by m answer p q true = refl
 gift-by m answer p q false = refl
 
+gift-nth :
+    {P Q : Type 0} (cells : List Marked) (answer : Verdict) (n : ℕ) (p : P) (q : Q) →
+    gift (nthOf cells answer n p) ≡ gift (nthOf cells answer n q)
+gift-nth cells answer n p q = gift-by (getD cells n noMark) answer p q (ltb n (length cells))
+
 -- a format whose places are some cursors: it starts at their start, and steps from a place are steps from its cursor
 module _ {S C : Type 0} {rule : Rule S} {marking : Marking S} (cs : Cursors rule marking C) (place : C → Place) (f : Format) (starts : startOf f ≡ place (cs .cursor (atStart rule)))
     (steps : (text : List ℕ) (c : C) → stepOf text (place c) ≡ onward place (stepFor cs text c)) (text : RefT (List ℕ)) where
@@ -59,8 +64,10 @@ module _ {S C : Type 0} {rule : Rule S} {marking : Marking S} (cs : Cursors rule
   nth-given : (n : ℕ) → givenBy (readerAfter text f n) ≡ nthGift (now text) (reading rule (now text)) marked n
   nth-given n =
       let c = cursorAfter cs (now text) n in
+      let cells = cellsOf (now text) marked in
+      let answer = answerOf (now text) (reading rule (now text)) in
       rw (reader-stands n, steps (now text) c, gift-onward place (stepFor cs (now text) c))
-      (ap gift (cursors.nth-step cs (now text) n) ∙ gift-by _ _ _ tt _)
+      (ap gift (cursors.nth-step cs (now text) n) ∙ gift-nth {Q = Unit} cells answer n (cursorAfter cs (now text) (suc n)) tt)
 
 -- the n-th step from `new` gives the n-th cell with its bytes, and after the cells the answer, for ever
 pub nth-step : (text : RefT (List ℕ)) (f : Format) (n : ℕ) → givenBy (readerAfter text f n) ≡ nthGift (now text) (readingOf f (now text)) (markedOf f (now text)) n
