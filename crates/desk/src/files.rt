@@ -18,8 +18,8 @@ pub enum Got {
     Failed,
 }
 
-// What is at a name that is saved to: nothing; a file that may be replaced, with its owner, group and mode; or what a save
-// leaves alone, and that has been said.
+// What is at a name that is saved to: nothing; a file that may be replaced, with its owner, group and mode; or what a
+// save leaves alone, and that has been said.
 enum Spot {
     Free,
     Old(u32, u32, u32),
@@ -157,7 +157,7 @@ fn refuse_kind(name: &[u8], kind: u32) {
     }
 }
 
-// What is at a name that has been looked at: only a regular file that has no other name, and that may be written, is replaced.
+// What is at a name that has been looked at: only a regular file with no other name, which may be written, is replaced.
 fn judged(name: &[u8], path: &[u8; PATH_MAX], seen: stat) -> Spot
     requires { ⌜ Ended (now path) ⌝ }
 {
@@ -213,8 +213,8 @@ fn narrowed(mode: u32) -> u32 {
     (mode & 0o707) | (mode & 0o070 & ((mode & 0o007) << 3))
 }
 
-// Gives a new file the owner, the group and the mode of an old one, as far as the system lets it; and never lets it be read by
-// others than the old one.
+// Gives a new file the owner, the group and the mode of an old one, as far as the system allows. Nobody may read it who
+// could not read the old one.
 fn liken(fd: i32, owner: u32, group: u32, mode: u32) -> bool {
     if libc::fchown(fd, owner, group) == 0 {
         return libc::fchmod(fd, mode & 0o7777) == 0;
@@ -225,8 +225,8 @@ fn liken(fd: i32, owner: u32, group: u32, mode: u32) -> bool {
     libc::fchmod(fd, narrowed(mode)) == 0
 }
 
-// Makes a file under a new name, for which the path has its X's. One that is to replace another is its owner's alone at first;
-// any other is made anew, since the system alone knows the umask.
+// Makes a file under a new name, for which the path has its X's. One that is to replace another is its owner's alone at
+// first; any other is made anew, since the system alone knows the umask.
 fn make(path: &mut [u8], spot: Spot) -> i32 {
     let fd = os::create_temp(&mut *path);
     if fd < 0 {

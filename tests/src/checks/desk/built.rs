@@ -20,14 +20,14 @@ use crate::second::Answer;
 
 /// How long is waited for an answer, or for the end; and how long after that was once too short, while a script is made
 /// smaller.
-const PATIENCE: Duration = Duration::from_secs(15);
+pub const PATIENCE: Duration = Duration::from_secs(15);
 const LITTLE_PATIENCE: Duration = Duration::from_millis(500);
 
 /// How long half a line must not be answered.
 const SILENCE: Duration = Duration::from_millis(20);
 
 pub struct Desk {
-    path: PathBuf,
+    pub path: PathBuf,
     /// The umask that it has, unless a shell sets another.
     pub umask: u32,
     patience: Cell<Duration>,

@@ -3,12 +3,16 @@
 
 mod built;
 mod folder;
+mod harm;
+mod kills;
 mod limit;
 mod same;
 mod script;
 mod seeded;
 mod session;
+mod standing;
 mod system;
+mod trace;
 
 use std::collections::{BTreeMap, BTreeSet};
 
@@ -25,7 +29,8 @@ use script::Script;
 /// The examples, and a part for each kind of page.
 pub fn parts(seed: u64) -> Vec<Part> {
     let of_kind = |kind: Kind| Part::new(format!("desk-{}", kind.name()), move |report| check_kind(report, kind, seed));
-    [Part::new("desk-by-hand", check_by_hand)].into_iter().chain(Kind::ALL.map(of_kind)).collect()
+    let kills = Part::new("desk-kills", move |report| kills::run(report, &Desk::new(), seed));
+    [Part::new("desk-by-hand", check_by_hand), kills].into_iter().chain(Kind::ALL.map(of_kind)).collect()
 }
 
 fn check_by_hand(report: &mut Report) {
@@ -41,6 +46,7 @@ fn check_by_hand(report: &mut Report) {
     check("odd-lines", "lines that are just right", examples::odd_lines());
     check("saves", "files that are saved, and files that cannot be", examples::saves());
     system::run(report, &desk);
+    harm::run(report, &desk);
 }
 
 fn check_kind(report: &mut Report, kind: Kind, seed: u64) {
