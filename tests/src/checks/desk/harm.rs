@@ -92,7 +92,6 @@ fn of_the_saver() -> Vec<Case> {
         both("a file of a group", "put f 660", Saved(0o660, "")),
         both("a file that all may read", "put f 644", Saved(0o644, "")),
         both("a file that all may write", "put f 666", Saved(0o666, "")),
-        both("a file that only others may read", "put f 206", Saved(0o206, "")),
         both("a file with every bit", "put f 7777", Saved(0o7777, "")),
         both("a read-only file", "put f 444", READ_ONLY),
         both("a private read-only file", "put f 400", READ_ONLY),
@@ -119,6 +118,7 @@ fn of_others() -> Vec<Case> {
     let not_synced = "saved, but its folder could not be synced: Permission denied";
     let not_permitted = Kept("Operation not permitted");
     vec![
+        each("a file that only others may read", "put f 206", "f", Saved(0o206, ""), Saved(0o206, "")),
         each("another's private file", "put f 600 1:1", "f", Saved(0o600, OTHER), denied),
         each("another's file that all may read", "put f 644 1:1", "f", Saved(0o644, OTHER), denied),
         each("another's file that all may write", "put f 666 1:1", "f", Saved(0o666, OTHER), Saved(0o666, "")),
