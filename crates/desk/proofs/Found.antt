@@ -14,8 +14,9 @@ use Rattle.answer.specs.declared.Answer.{Answer}
 use Rattle.answer.specs.declared.Answer.the-variants.{Accepted, Refused}
 use Rattle.answer.specs.declared.Refusal.{Refusal}
 use Rattle.answer.proofs.Once.{number-pos}
-use Rattle.reading.specs.Reading.{Does, give, go, bad, Ending, accepted, fault, Rule, Reading, onRead, onEnding, readFrom, reading, readInto}
+use Rattle.reading.specs.Reading.{Ending, accepted, fault, onEnding, reading, readInto}
 use Rattle.reading.proofs.Laws.{SoundEnd, good-reading}
+use Rattle.reading.proofs.Filling.{few-cells}
 use Rattle.ledger.specs.Page.{State}
 use Rattle.ledger.specs.Calls.{replaceOf}
 use Rattle.ledger.specs.Ledger.{Call}
@@ -25,25 +26,7 @@ use Rattle.commands.proofs.Words.{stretch-most, end-within}
 use Rattle.commands.proofs.Kept.{numbers-kept}
 use Rattle.commands.specs.declared.Said.{Said}
 use Rattle.commands.specs.declared.Verb.the-variants.{Replace}
-use Rattle.desk.specs.Desk.{replacing, asked, callIn, afterCall}
-
-module _ {S : Type 0} (rule : Rule S) where
-  few-does :
-      (m : Does S) (at : ℕ) (rest : S → Reading) (n : ℕ) → ((st : S) → length (rest st .cells) ≤ n) →
-      length (onRead m at rest .cells) ≤ suc n
-  few-does (give v st) at rest n h = omega (arith, h st)
-  few-does (go st) at rest n h = omega (arith, h st)
-  few-does (bad k) at rest n h = omega arith
-
-  few-from : (bs : List ℕ) (at : ℕ) (st : S) → length (readFrom rule bs at st .cells) ≤ length bs
-  unfolding readFrom
-  few-from [] at st = omega arith
-  few-from (b ∷ bs) at st =
-      few-does (rule .byte st b) at (readFrom rule bs (at + 1)) (length bs) (few-from bs (at + 1))
-
-  pub few-cells : (s : List ℕ) → length (reading rule s .cells) ≤ length s
-  unfolding reading
-  few-cells s = few-from s 0 (rule .start)
+use Rattle.desk.specs.Desk.{replacing, asked, leaving, quits, callIn, afterCall}
 
 -- the page after one call is that after the same call
 pub same-call : (s : State) {a b : Option Call} → a ≡ b → afterCall a s ≡ afterCall b s
@@ -137,3 +120,9 @@ pub line-calls :
     asked (said .verb) (take (length line - said .rest) (drop (said .rest) line)) ≡ callIn line
 unfolding callIn
 line-calls line e = rw (e, to-end (saidIn line .rest) line)
+
+pub line-quits :
+    (line : List ℕ) {said : Said} → said ≡ saidIn line →
+    leaving (said .verb) (take (length line - said .rest) (drop (said .rest) line)) ≡ quits line
+unfolding quits
+line-quits line e = rw (e, to-end (saidIn line .rest) line)

@@ -1,8 +1,8 @@
 -- The desk keeps demand 3: its lines are a list of calls on its page. Assumes nothing.
 use Prim.Native.Nat.{ℕ}
-use mathlib.Core.Path.{_≡_, refl, _∙_}
-use mathlib.Core.Bool.{true}
-use mathlib.Core.List.{List, [], _∷_}
+use mathlib.Core.Path.{_≡_, refl, sym, ap, _∙_}
+use mathlib.Core.Bool.{Bool, true}
+use mathlib.Core.List.{List, [], _∷_, _++_}
 use mathlib.Core.Option.{Option, none, some}
 use Rattle.codec.specs.declared.Kind.{Kind}
 use Rattle.ledger.specs.Page.{State}
@@ -12,6 +12,9 @@ use Rattle.ledger.specs.Running.{taken, after, heard}
 use Rattle.ledger.specs.Demand.{Promised}
 use Rattle.ledger.proofs.Demand.{demand3}
 use Rattle.desk.specs.Desk.{callIn, afterCall, afterLine, afterLines, withCall, callsIn}
+use Rattle.desk.specs.Desk.{Turn, obeys, waits, Turns, begun, then}
+use Rattle.desk.specs.Hands.{Served, Keeps}
+use Rattle.desk.specs.declared.lines.Hand.{Hand}
 
 -- a line's call comes before those of the lines that follow
 call-first : (s : State) (call : Option Call) (calls : List Call) → after (afterCall call s) calls ≡ after s (withCall call calls)
@@ -29,3 +32,32 @@ pub desk-keeps :
     (heard (opened kind arrived) (openOf kind arrived text history .state) (callsIn lines))
 desk-keeps kind arrived text history ok lines =
     rw (lines-call (openOf kind arrived text history .state) lines) (demand3 kind arrived text history ok (callsIn lines))
+
+-- the lines that some turns obeyed
+record Along (from to : State) : Type 0 where
+  lines : List (List ℕ)
+  arrive : afterLines from lines ≡ to
+
+lines-then : (s : State) (a b : List (List ℕ)) → afterLines s (a ++ b) ≡ afterLines (afterLines s a) b
+lines-then s [] b = refl
+lines-then s (line ∷ a) b = lines-then (afterLine s line) a b
+
+along-turn : {from s t : State} {left : Bool} → Along from s → Turn s t left → Along from t
+along-turn {from} a (obeys line e l) =
+    record {
+      lines = a .lines ++ line ∷ [];
+      arrive = lines-then from (a .lines) (line ∷ []) ∙ (ap (λ (x : State). afterLine x line) (a .arrive) ∙ sym e);
+    }
+along-turn a (waits e l) = record { lines = a .lines; arrive = a .arrive ∙ sym e }
+
+along : {from to : State} {n : ℕ} {left : Bool} → Turns from n to left → Along from to
+along begun = record { lines = []; arrive = refl }
+along (then turns turn) = along-turn (along turns) turn
+
+-- so the page that a desk leaves keeps demand 3 from the accepted open on
+pub served-keeps :
+    (kind : Kind) (letter text history : List ℕ) {to : State} {hand : Hand} → Served kind letter text history to hand →
+    taken (openOf kind letter text history) ≡ true → Keeps kind letter text history to
+served-keeps kind letter text history served ok =
+    let a = along (served .worked ok .led) in
+    record { lines = a .lines; promised = rw (a .arrive) at (desk-keeps kind letter text history ok (a .lines)) }

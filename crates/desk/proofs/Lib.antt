@@ -1,2 +1,4 @@
 pub mod Found
 pub mod Law
+pub mod Working
+pub mod Cases

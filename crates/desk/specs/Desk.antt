@@ -1,6 +1,7 @@
 -- What a desk's lines do to its page: each is a call of document 01's page, or leaves it as it is.
-use Prim.Native.Nat.{ℕ}
-use mathlib.Core.Bool.{cond}
+use Prim.Native.Nat.{ℕ, suc}
+use mathlib.Core.Path.{_≡_}
+use mathlib.Core.Bool.{Bool, false, cond}
 use mathlib.Core.List.{List, [], _∷_}
 use mathlib.Core.Option.{Option, none, some}
 use lib.ListN.{length, drop}
@@ -32,6 +33,20 @@ asked Save words = none
 asked Quit words = none
 asked Unknown words = none
 
+-- "quit" leaves the desk where nothing follows it
+abbrev pub leaving : Verb → List ℕ → Bool
+leaving Quit words = eqb (length words) 0
+leaving Nothing words = false
+leaving Show words = false
+leaving Replace words = false
+leaving Undo words = false
+leaving Redo words = false
+leaving Save words = false
+leaving Unknown words = false
+
+unfoldable pub quits : List ℕ → Bool
+quits line = leaving (saidIn line .verb) (drop (saidIn line .rest) line)
+
 -- the call that a line asks for, if it asks for one
 unfoldable pub callIn : List ℕ → Option Call
 callIn line = asked (saidIn line .verb) (drop (saidIn line .rest) line)
@@ -56,3 +71,13 @@ withCall (some call) calls = call ∷ calls
 abbrev pub callsIn : List (List ℕ) → List Call
 callsIn [] = []
 callsIn (line ∷ rest) = withCall (callIn line) (callsIn rest)
+
+-- a turn of the desk: a line that came is obeyed; or none is, while more of one is got or one too long is passed over
+pub data Turn (s t : State) (left : Bool) : Type 0 where
+  obeys : (line : List ℕ) → t ≡ afterLine s line → left ≡ quits line → Turn s t left
+  waits : t ≡ s → left ≡ false → Turn s t left
+
+-- turns lead from one state to another: after a line that leaves the desk there is none
+pub data Turns (from : State) : ℕ → State → Bool → Type 0 where
+  begun : Turns from 0 from false
+  then : {n : ℕ} {s t : State} {left : Bool} → Turns from n s false → Turn s t left → Turns from (suc n) t left

@@ -6,8 +6,11 @@ use ledger::Page;
 use libc::STDIN_FILENO;
 ghost use Prim.Native.Nat.{_≤_, _<_};
 ghost use mathlib.Core.Path.{_≡_};
+ghost use mathlib.Core.Bool.{false};
 ghost use lib.ListN.{length};
-ghost use Rattle.desk.specs.Hands.{Holds};
+ghost use Rattle.ledger.specs.Page.{stateOf};
+ghost use Rattle.desk.specs.Desk.{Turn};
+ghost use Rattle.desk.specs.Hands.{Holds, lineIn, Took, closed, Worked};
 
 // A proved loop has to end, and nothing says that the input does: so it counts down from a number that no run uses up.
 const ROUNDS: u64 = 18446744073709551615;
@@ -21,7 +24,7 @@ pub struct Hand {
     pub passing: bool,
     // the input has ended
     pub ended: bool,
-    // the desk is left
+    // a line left the desk
     pub left: bool,
 }
 
@@ -69,8 +72,8 @@ fn read_more(buf: &mut [u8], held: usize) -> usize
 }
 
 // The desk with some bytes at the front of the buffer in hand.
-fn holding(page: Page, to: usize, passing: bool, ended: bool, left: bool) -> Hand
-    ensures { λ r. ⌜ r ≡ record { page = page; from = 0; to = to; passing = passing; ended = ended; left = left } ⌝ }
+pub fn holding(page: Page, to: usize, passing: bool, ended: bool) -> Hand
+    ensures { λ r. ⌜ r ≡ record { page = page; from = 0; to = to; passing = passing; ended = ended; left = false } ⌝ }
 {
     Hand {
         page,
@@ -78,34 +81,50 @@ fn holding(page: Page, to: usize, passing: bool, ended: bool, left: bool) -> Han
         to,
         passing,
         ended,
-        left,
+        left: false,
     }
 }
 
 // Gets more of the line in hand. A last line without LF is given one.
 fn fetch(hand: Hand, buf: &mut [u8]) -> Hand
     requires { ⌜ Holds hand (now buf) ⌝ }
-    ensures { λ r. ⌜ Holds r (now (buf .exit)) × (length (now (buf .exit)) ≡ length (now (buf .entry))) × (r .page ≡ hand .page) ⌝ }
+    ensures { λ r. ⌜ Holds r (now (buf .exit)) × (length (now (buf .exit)) ≡ length (now (buf .entry)))
+        × (r .page ≡ hand .page) × (r .left ≡ false) ⌝ }
 {
     let page = hand.page;
     if hand.ended {
-        return holding(page, 0, false, true, true);
+        return holding(page, 0, false, true);
     }
     let from = if hand.passing { hand.to } else { hand.from };
     let held = settle(&mut *buf, from, hand.to);
     if held == buf.len() {
         replies::complain(b"a line is longer than 65535 bytes");
-        return holding(page, 0, true, false, false);
+        return holding(page, 0, true, false);
     }
     let to = read_more(&mut *buf, held);
     if held < to {
-        return holding(page, to, hand.passing, false, false);
+        return holding(page, to, hand.passing, false);
     }
     if held == 0 {
-        return holding(page, 0, false, true, true);
+        return holding(page, 0, false, true);
     }
     buf[held] = b'\n';
-    holding(page, held + 1, false, true, false)
+    holding(page, held + 1, false, true)
+}
+
+// The desk with the next line in hand.
+fn past(hand: Hand, page: Page, from: usize, left: bool) -> Hand
+    ensures { λ r. ⌜ r
+        ≡ record { page = page; from = from; to = hand .to; passing = false; ended = hand .ended; left = left } ⌝ }
+{
+    Hand {
+        page,
+        from,
+        to: hand.to,
+        passing: false,
+        ended: hand.ended,
+        left,
+    }
 }
 
 // Obeys the line that ends at a place, unless it is the rest of one that was too long.
@@ -118,31 +137,28 @@ fn take(
     history: &mut [u32],
 ) -> Hand
     requires { ⌜ Holds hand (now buf) × (hand .from ≤ end) × (end < hand .to) ⌝ }
-    ensures { λ r. ⌜ Holds r (now (buf .entry)) ⌝ }
+    ensures { λ r. ⌜ Holds r (now (buf .entry))
+        × Took (lineIn (now (buf .entry)) (hand .from) end)
+        (stateOf (hand .page) (now (text .entry)) (now (history .entry)))
+        (stateOf (r .page) (now (text .exit)) (now (history .exit))) (r .left) (hand .passing) ⌝ }
 {
     let next = end + 1;
-    let mut page = hand.page;
-    let mut left = false;
-    if !hand.passing {
-        let from = hand.from;
-        let done = orders::obey(page, &buf[from..next], letter, &mut *text, &mut *history);
-        page = done.page;
-        left = done.left;
+    let page = hand.page;
+    if hand.passing {
+        return past(hand, page, next, false);
     }
-    Hand {
-        page,
-        from: next,
-        to: hand.to,
-        passing: false,
-        ended: hand.ended,
-        left,
-    }
+    let from = hand.from;
+    let done = orders::obey(page, &buf[from..next], letter, &mut *text, &mut *history);
+    let kept = done.page;
+    past(hand, kept, next, done.left)
 }
 
 // A line is obeyed, or more of it is got.
 fn turn(hand: Hand, buf: &mut [u8], letter: &[u8], text: &mut [u32], history: &mut [u32]) -> Hand
     requires { ⌜ Holds hand (now buf) ⌝ }
-    ensures { λ r. ⌜ Holds r (now (buf .exit)) ⌝ }
+    ensures { λ r. ⌜ Holds r (now (buf .exit))
+        × Turn (stateOf (hand .page) (now (text .entry)) (now (history .entry)))
+        (stateOf (r .page) (now (text .exit)) (now (history .exit))) (r .left) ⌝ }
 {
     let end = line_end(&*buf, hand.from, hand.to);
     if end < hand.to {
@@ -151,18 +167,35 @@ fn turn(hand: Hand, buf: &mut [u8], letter: &[u8], text: &mut [u32], history: &m
     fetch(hand, &mut *buf)
 }
 
+// No more is obeyed: a line left the desk, or the input has ended and nothing of it is in hand.
+fn is_closed(hand: Hand) -> bool
+    ensures { λ r. ⌜ r ≡ closed hand ⌝ }
+{
+    if hand.left {
+        return true;
+    }
+    if hand.ended {
+        return hand.from == hand.to;
+    }
+    false
+}
+
 // Obeys line after line, until quit or the end of the input.
-pub fn work(page: Page, letter: &[u8], text: &mut [u32], history: &mut [u32]) {
+pub fn work(page: Page, letter: &[u8], text: &mut [u32], history: &mut [u32]) -> Hand
+    ensures { λ r. ⌜ Worked (stateOf page (now (text .entry)) (now (history .entry)))
+        (stateOf (r .page) (now (text .exit)) (now (history .exit))) r ⌝ }
+{
     let mut space = io::large_buffer();
     let buf: &mut [u8] = &mut space;
-    let mut hand = holding(page, 0, false, false, false);
+    let mut hand = holding(page, 0, false, false);
     let mut rounds = ROUNDS;
     while 0 < rounds {
         rounds -= 1;
         let next = turn(hand, &mut *buf, letter, &mut *text, &mut *history);
         hand = next;
-        if hand.left {
-            return;
+        if is_closed(hand) {
+            return hand;
         }
     }
+    hand
 }

@@ -10,6 +10,9 @@ use answer::Answer;
 use codec::Kind;
 use commands::Named;
 use files::Got;
+use lines::Hand;
+ghost use Rattle.ledger.specs.Page.{stateOf};
+ghost use Rattle.desk.specs.Hands.{Served};
 
 // The kind and the file that the program was started with.
 fn main() {
@@ -36,22 +39,27 @@ fn open(kind: Kind) {
     }
     let mut letter = [0u8; 65537];
     let got = files::read(&path[..n], &mut letter);
+    let mut text = [0u32; 65536];
+    let mut history = [0u32; 65536];
     match got {
-        Got::Bytes(size) => serve(kind, &letter[..size]),
+        Got::Bytes(size) => {
+            serve(kind, &letter[..size], &mut text, &mut history);
+        }
         Got::Failed => {}
     }
 }
 
 // Opens the page, and works on it where that is accepted.
-fn serve(kind: Kind, letter: &[u8]) {
-    let mut text = [0u32; 65536];
-    let mut history = [0u32; 65536];
-    let opened = page::open(kind, letter, &mut text, &mut history);
+fn serve(kind: Kind, letter: &[u8], text: &mut [u32], history: &mut [u32]) -> Hand
+    ensures { λ r. ⌜ Served kind (now (letter .entry)) (now (text .entry)) (now (history .entry))
+        (stateOf (r .page) (now (text .exit)) (now (history .exit))) r ⌝ }
+{
+    let opened = page::open(kind, letter, &mut *text, &mut *history);
     let answer = opened.answer;
     let p = opened.page;
     replies::tell(answer);
     match answer {
-        Answer::Accepted(_) => lines::work(p, letter, &mut text, &mut history),
-        Answer::Refused(_, _) => {}
+        Answer::Accepted(_) => lines::work(p, letter, &mut *text, &mut *history),
+        Answer::Refused(_, _) => lines::holding(p, 0, false, false),
     }
 }

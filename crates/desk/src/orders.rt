@@ -15,7 +15,7 @@ ghost use Rattle.answer.specs.Answer.{limit};
 ghost use Rattle.reading.specs.Reading.{accepted};
 ghost use Rattle.ledger.specs.Page.{stateOf};
 ghost use Rattle.commands.specs.declared.Verb.the-variants.{Replace, Undo, Redo};
-ghost use Rattle.desk.specs.Desk.{replacing, asked, afterCall, afterLine};
+ghost use Rattle.desk.specs.Desk.{replacing, asked, leaving, afterCall, afterLine, quits};
 
 // The page after a command, and whether the desk is left.
 pub struct Done {
@@ -175,8 +175,9 @@ fn act(
     history: &mut [u32],
 ) -> Done
     requires { ⌜ length (now words) ≤ limit ⌝ }
-    ensures { λ r. ⌜ stateOf (r .page) (now (text .exit)) (now (history .exit))
-        ≡ afterCall (asked verb (now (words .entry))) (stateOf p (now (text .entry)) (now (history .entry))) ⌝ }
+    ensures { λ r. ⌜ (stateOf (r .page) (now (text .exit)) (now (history .exit))
+        ≡ afterCall (asked verb (now (words .entry))) (stateOf p (now (text .entry)) (now (history .entry))))
+        × (r .left ≡ leaving verb (now (words .entry))) ⌝ }
 {
     match verb {
         Verb::Nothing => stays(p),
@@ -207,8 +208,9 @@ fn act(
 // Obeys a line. The letter is lent again to save.
 pub fn obey(p: Page, line: &[u8], letter: &[u8], text: &mut [u32], history: &mut [u32]) -> Done
     requires { ⌜ length (now line) ≤ limit ⌝ }
-    ensures { λ r. ⌜ stateOf (r .page) (now (text .exit)) (now (history .exit))
-        ≡ afterLine (stateOf p (now (text .entry)) (now (history .entry))) (now (line .entry)) ⌝ }
+    ensures { λ r. ⌜ (stateOf (r .page) (now (text .exit)) (now (history .exit))
+        ≡ afterLine (stateOf p (now (text .entry)) (now (history .entry))) (now (line .entry)))
+        × (r .left ≡ quits (now (line .entry))) ⌝ }
 {
     let said = commands::parse(line);
     let verb = said.verb;

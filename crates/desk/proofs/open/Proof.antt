@@ -51,6 +51,12 @@ slice-aggregate-serve c =
     let w = rw (c .before .before .got .given .1) at (c .before .before .before .before .before .read .ensures) in
     sym (length-take-le _ (c .before .before .before .before .before .read .last .1 .0) (w .1))
 
+slice-aggregate-serve-2 : tie.Need-slice-aggregate-serve-2
+slice-aggregate-serve-2 c = search needs
+
+slice-aggregate-serve-3 : tie.Need-slice-aggregate-serve-3
+slice-aggregate-serve-3 c = search needs
+
 serve-requires : tie.Need-serve-requires
 serve-requires c κs = search needs
 
@@ -81,6 +87,8 @@ open-spec =
     enum-known-got
     array-share-prefix-letter
     slice-aggregate-serve
+    slice-aggregate-serve-2
+    slice-aggregate-serve-3
     serve-requires
     enum-told
     returns-2

@@ -1,3 +1,4 @@
+use mathlib.Core.Path.{refl}
 use borrow.Author.Needs.{needs}
 use Rattle.desk.proofs.orders.act.Statement.{statement}
 use Rattle.desk.proofs.orders.act.Tie as tie
@@ -72,16 +73,16 @@ alone-requires : tie.Need-alone-requires
 alone-requires c κs = search needs
 
 returns : tie.Need-returns
-returns c = rw (c .before .enum-told .given .1, c .stays .ensures)
+returns c = rw (c .before .enum-told .given .1, c .stays .ensures) (refl, refl)
 
 returns-2 : tie.Need-returns-2
-returns-2 c = rw (c .before .before .before .enum-told2 .given .1, c .stays2 .ensures)
+returns-2 c = rw (c .before .before .before .enum-told2 .given .1, c .stays2 .ensures) (refl, refl)
 
 same-length : tie.Need-same-length
 same-length c = search needs
 
 returns-3 : tie.Need-returns-3
-returns-3 c = rw (c .before .before .before .enum-told3 .given .1, c .stays3 .ensures)
+returns-3 c = rw (c .before .before .before .enum-told3 .given .1, c .stays3 .ensures) (refl, refl)
 
 same-length-2 : tie.Need-same-length-2
 same-length-2 c = search needs
@@ -90,7 +91,7 @@ same-length-3 : tie.Need-same-length-3
 same-length-3 c = search needs
 
 returns-4 : tie.Need-returns-4
-returns-4 c = rw (c .before .before .before .before .enum-told4 .given .1, c .stays4 .ensures)
+returns-4 c = rw (c .before .before .before .before .enum-told4 .given .1, c .stays4 .ensures) (refl, refl)
 
 same-length-4 : tie.Need-same-length-4
 same-length-4 c = search needs
@@ -99,7 +100,9 @@ same-length-5 : tie.Need-same-length-5
 same-length-5 c = search needs
 
 returns-5 : tie.Need-returns-5
-returns-5 c = rw (c .before .before .before .before .before .before .before .before .enum-told5 .given .1, c .stays5 .ensures) (c .before .before .before .before .before .replace .ensures)
+returns-5 c =
+    let d = c .before .before .before .before .before in
+    rw (d .before .before .before .enum-told5 .given .1, c .stays5 .ensures) (d .replace .ensures, refl)
 
 same-length-6 : tie.Need-same-length-6
 same-length-6 c = search needs
@@ -108,7 +111,9 @@ same-length-7 : tie.Need-same-length-7
 same-length-7 c = search needs
 
 returns-6 : tie.Need-returns-6
-returns-6 c = rw (c .before .before .before .before .before .before .enum-told6 .given .1, c .stays6 .ensures) (c .before .before .before .undo .ensures)
+returns-6 c =
+    let d = c .before .before .before in
+    rw (d .before .before .before .enum-told6 .given .1, c .stays6 .ensures) (d .undo .ensures, refl)
 
 same-length-8 : tie.Need-same-length-8
 same-length-8 c = search needs
@@ -117,10 +122,12 @@ same-length-9 : tie.Need-same-length-9
 same-length-9 c = search needs
 
 returns-7 : tie.Need-returns-7
-returns-7 c = rw (c .before .before .before .before .before .before .enum-told7 .given .1, c .stays7 .ensures) (c .before .before .before .redo .ensures)
+returns-7 c =
+    let d = c .before .before .before in
+    rw (d .before .before .before .enum-told7 .given .1, c .stays7 .ensures) (d .redo .ensures, refl)
 
 returns-8 : tie.Need-returns-8
-returns-8 c = rw (c .before .enum-told8 .given .1)
+returns-8 c = rw (c .before .enum-told8 .given .1) (refl, c .alone .ensures)
 
 pub act-spec : {M : Type 1} → statement M
 act-spec =

@@ -1,5 +1,5 @@
 use mathlib.Core.Path.{_∙_}
-use Rattle.desk.proofs.Found.{same-call, rest-within, line-calls}
+use Rattle.desk.proofs.Found.{same-call, rest-within, line-calls, line-quits}
 use borrow.Author.Needs.{needs}
 use Rattle.desk.proofs.orders.obey.Statement.{statement}
 use Rattle.desk.proofs.orders.obey.Tie as tie
@@ -26,7 +26,13 @@ same-length-2 : tie.Need-same-length-2
 same-length-2 c = search needs
 
 returns : tie.Need-returns
-returns c = c .before .before .before .before .act .ensures ∙ same-call _ (line-calls (c .before .before .before .before .before .before .before .before .before .before .before .before .before .args .line .now) (c .before .before .before .before .before .before .before .before .parse .ensures))
+returns c =
+    let a = c .before .before .before .before in
+    let p = a .before .before .before .before in
+    let line = p .before .before .before .before .before .args .line .now in (
+      a .act .ensures .0 ∙ same-call _ (line-calls line (p .parse .ensures)),
+      a .act .ensures .1 ∙ line-quits line (p .parse .ensures),
+    )
 
 pub obey-spec : {M : Type 1} → statement M
 obey-spec =
