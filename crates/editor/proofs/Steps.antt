@@ -1,15 +1,17 @@
 -- Steps on a text and their records, in order and with the latest first. Assumes nothing.
 use Prim.Native.Nat.{ℕ, _+_, _≤_}
 use mathlib.Core.Path.{_≡_, refl, sym, ap, _∙_, subst}
-use mathlib.Core.Bool.{true}
-use mathlib.Core.List.{List, [], _∷_, _++_, reverseAux, reverse, reverseAux-eq}
+use mathlib.Core.Bool.{Bool, true, false, _&&_}
+use mathlib.Core.List.{List, [], _∷_, _++_, reverseAux, reverse, map}
 use native.Mathlib.Omega.{arith}
 use lib.ListN.{length, take, drop, length-append, length-take, length-drop}
 use borrow.Author.Tests.{le-leb}
-use Rattle.ledger.specs.Words.{Entry, lengthAfter, lengthsFit, reached}
-use Rattle.ledger.specs.Calls.{applied, entryAt}
-use Rattle.ledger.specs.Ledger.{Step, textAfter}
-use Rattle.ledger.proofs.Words.{and-true, words, words-append}
+use Rattle.editor.specs.Ledger.{Step, textAfter}
+use Rattle.editor.specs.Records.{Entry, stepOf, applied, entryAt, lengthAfter, lengthsFit, reached}
+
+pub and-true : (a b : Bool) → a ≡ true → b ≡ true → (a && b) ≡ true
+and-true true b p q = q
+and-true false b p q = p
 
 -- a step, and its record, on a text
 abbrev pub stepped : Step → List ℕ → List ℕ
@@ -23,7 +25,7 @@ abbrev pub recordsOf : List ℕ → List Step → List Entry
 recordsOf text [] = []
 recordsOf text (x ∷ rest) = recordOf text x ∷ recordsOf (stepped x text) rest
 
--- the text after standing steps, and their records; here the latest step is first, as in `Parted`
+-- the text after standing steps, and their records; here the latest step is first, as in `Editor`
 abbrev pub textBack : List ℕ → List Step → List ℕ
 textBack text [] = text
 textBack text (x ∷ back) = stepped x (textBack text back)
@@ -46,12 +48,6 @@ pub records-in-order :
     recordsOf text (reverseAux back rest) ≡ reverseAux (recordsBack text back) (recordsOf (textBack text back) rest)
 records-in-order text [] rest = refl
 records-in-order text (x ∷ back) rest = records-in-order text back (x ∷ rest)
-
-pub words-in-order :
-    (text : List ℕ) (back rest : List Step) →
-    words (recordsOf text (reverseAux back rest)) ≡ words (reverse (recordsBack text back)) ++ words (recordsOf (textBack text back) rest)
-words-in-order text back rest =
-    rw (records-in-order text back rest, reverseAux-eq) (words-append (reverse (recordsBack text back)) (recordsOf (textBack text back) rest))
 
 -- every step in order is within its text, and no text exceeds the room
 abbrev pub Fits : ℕ → List ℕ → List Step → Type 0
@@ -101,3 +97,9 @@ unfolding reached textAfter
 length-reached room text [] f = refl
 length-reached room text (x ∷ rest) f =
     ap (λ (n : ℕ). reached n (recordsOf (stepped x text) rest)) (sym (length-stepped text x (f .1))) ∙ length-reached room (stepped x text) rest (f .2)
+
+-- the records of steps are of those steps
+pub steps-of : (room : ℕ) (text : List ℕ) (steps : List Step) → Fits room text steps → map stepOf (recordsOf text steps) ≡ steps
+steps-of room text [] f = refl
+steps-of room text (x ∷ rest) f =
+    λ i. record { place = x .place; count = length-removed text x (f .1) i; added = x .added } ∷ steps-of room (stepped x text) rest (f .2) i

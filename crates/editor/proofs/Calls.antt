@@ -1,0 +1,206 @@
+-- Each call turns the editor that a ledger determines into the one that the ledger then determines. Assumes nothing.
+use Prim.Native.Nat.{ℕ, _+_, _≤_}
+use mathlib.Core.Path.{_≡_, refl, sym, ap, _∙_, subst, subst₂}
+use mathlib.Core.Bool.{Bool, true, false, false≢true}
+use mathlib.Core.List.{List, [], _∷_, reverseAux, reverse, reverse-cons}
+use native.Mathlib.Omega.{arith}
+use lib.ListN.{length}
+use lib.Dec.{ltb, eqb}
+use borrow.Author.Tests.{ltb-false}
+use Rattle.answer.specs.Answer.{numbered}
+use Rattle.answer.specs.Output as output
+use Rattle.answer.proofs.Below.{cond-case}
+use Rattle.codec.specs.Kinds.{firstUnwritable, readsAs, writingIn, writeIn}
+use Rattle.editor.specs.Ledger.{Step, Ledger, Call, replace, undo, redo, save, lastOf, beforeLast, acceptedCall, fed, textOf}
+use Rattle.editor.specs.Records.{Entry, applied, turned}
+use Rattle.editor.specs.Editor.{Editor, Space, Turn, moves, edited, saved, undoLast, redoNext, replaceFitting, replaceAt, saveStanding, turnOf}
+use Rattle.editor.specs.Demand.{bytesFor}
+use Rattle.editor.proofs.Steps.{recordOf, recordsBack, recordsOf, fits-rest, fits-new, applied-stepped, text-standing}
+use Rattle.editor.proofs.Turned.{turned-back, removes-entry}
+use Rattle.editor.proofs.Ends.{Fills, leaves, deliver-fills, write-fills}
+use Rattle.editor.proofs.Held.{Frame, textAt, editorOf, ledgerOf, Good, Held, same, text-fits}
+
+-- the last of steps in order, and those before it
+last-back : (back : List Step) (x : Step) (rest : List Step) → lastOf (reverseAux back (x ∷ rest)) ≡ lastOf (x ∷ rest)
+last-back [] x rest = refl
+last-back (y ∷ back) x rest = last-back back y (x ∷ rest)
+
+before-back :
+    (back : List Step) (x : Step) (rest : List Step) →
+    beforeLast (reverseAux back (x ∷ rest)) ≡ reverseAux back (beforeLast (x ∷ rest))
+before-back [] x rest = refl
+before-back (y ∷ back) x rest = before-back back y (x ∷ rest)
+
+-- a turn that is a save, refused or with these bytes
+pub record SavesAs (e : Editor) (out bytes : List ℕ) (t : Turn) : Type 0 where
+  pub output : output.Outcome
+  pub is : t ≡ saved e output
+  pub fills : Fills out bytes output
+
+-- a turn is accepted
+abbrev pub accepts : Turn → Bool
+accepts t = eqb (t .verdict .number) 0
+
+module _ {arrived : List ℕ} (o : Frame arrived) where
+  -- what the call leaves belongs to the ledger that has heard of it
+  abbrev Next : List Step → List Step → Call → Turn → Type 0
+  Next back undone call t = Held arrived (t .editor) (fed (ledgerOf o back undone) call (accepts t))
+
+  -- undo and redo go between the same two editors
+  module _ (back : List Step) (x : Step) (undone : List Step) (good : Good o (reverseAux back (x ∷ undone))) where
+    within : x .place + x .count ≤ length (textAt o back)
+    within = fits-rest (o .room) (o .reading) back (x ∷ undone) (good .fits) .1
+
+    abbrev arriving : List Step → List Step → Turn
+    arriving back undone =
+        record { verdict = numbered 0 (length (textAt o back)); output = []; editor = editorOf o back undone; change = moves }
+
+    pub undo-some :
+        undoLast (editorOf o (x ∷ back) undone) (recordsBack (o .reading) (x ∷ back)) ≡ arriving back (x ∷ undone)
+    unfolding undoLast
+    undo-some =
+        let text : applied (turned (recordOf (textAt o back) x)) (textAt o (x ∷ back)) ≡ textAt o back =
+        rw (← applied-stepped (textAt o back) x within)
+        (turned-back (removes-entry (textAt o back) (x .place) (x .count) (x .added) within)) in
+        λ i. edited (editorOf o (x ∷ back) undone) (text i) (recordsBack (o .reading) back)
+        (recordsOf (textAt o back) (x ∷ undone)) moves
+
+    pub redo-some :
+        redoNext (editorOf o back (x ∷ undone)) (recordsOf (textAt o back) (x ∷ undone)) ≡ arriving (x ∷ back) undone
+    unfolding redoNext
+    redo-some =
+        λ i. edited (editorOf o back (x ∷ undone)) (applied-stepped (textAt o back) x within i)
+        (recordsBack (o .reading) (x ∷ back)) (recordsOf (textAt o (x ∷ back)) undone) moves
+
+  undo-next :
+      (back undone : List Step) → Good o (reverseAux back undone) →
+      Next back undone undo (undoLast (editorOf o back undone) (recordsBack (o .reading) back))
+  unfolding acceptedCall undoLast
+  undo-next [] undone good = same o [] undone good
+  undo-next (x ∷ back) undone good =
+      subst (Next (x ∷ back) undone undo) (sym (undo-some back x undone good))
+      (record {
+        frame = o;
+        back = back;
+        undone = x ∷ undone;
+        editor = refl;
+        ledger = rw (last-back back x [], before-back back x []);
+        good = good;
+      })
+
+  redo-next :
+      (back undone : List Step) → Good o (reverseAux back undone) →
+      Next back undone redo (redoNext (editorOf o back undone) (recordsOf (textAt o back) undone))
+  unfolding acceptedCall redoNext
+  redo-next back [] good = same o back [] good
+  redo-next back (x ∷ undone) good =
+      subst (Next back (x ∷ undone) redo) (sym (redo-some back x undone good))
+      (record { frame = o; back = x ∷ back; undone = undone; editor = refl; ledger = rw (reverse-cons x back); good = good })
+
+  module _ (space : Space) (back undone : List Step) (good : Good o (reverseAux back undone)) (x : Step) where
+    abbrev After : Turn → Type 0
+    After = Next back undone (replace (x .place) (x .count) (x .added))
+
+    fitting-next :
+        x .place + x .count ≤ length (textAt o back) →
+        After (replaceFitting space (editorOf o back undone) (recordOf (textAt o back) x))
+    unfolding replaceFitting acceptedCall
+    fitting-next within =
+        let r : Entry = recordOf (textAt o back) x in
+        let text : applied r (textAt o back) ≡ textAt o (x ∷ back) = applied-stepped (textAt o back) x within in
+        cond-case After (ltb (o .room) (length (applied r (textAt o back)))) (λ _. same o back undone good)
+        (λ short. cond-case After (ltb (space .words) (space .needed r)) (λ _. same o back undone good)
+        (λ _.
+        let below : length (applied r (textAt o back)) ≤ o .room = ltb-false _ _ short in
+        record {
+          frame = o;
+          back = x ∷ back;
+          undone = [];
+          editor =
+              λ i. record {
+                kind = o .kind;
+                room = o .room;
+                text = text i;
+                standing = recordsBack (o .reading) (x ∷ back);
+                undone = [];
+              };
+          ledger = rw (reverse-cons x back);
+          good =
+              record {
+                fits =
+                    fits-new (o .room) (o .reading) back undone (x ∷ []) (good .fits)
+                    (text-fits o back undone good, within, omega (arith, ap length text));
+                few = good .few;
+                reads = good .reads;
+              };
+        }))
+
+    replace-next : After (replaceAt space (editorOf o back undone) (x .place) (x .count) (x .added))
+    unfolding replaceAt
+    replace-next =
+        cond-case After (ltb (length (textAt o back)) (x .place + x .count)) (λ _. same o back undone good)
+        (λ within. cond-case After (ltb (firstUnwritable (o .kind) (x .added)) (length (x .added)))
+        (λ _. same o back undone good) (λ _. fitting-next (ltb-false _ _ within)))
+
+  -- a step stands, so the ledger's text is written
+  bytes-some :
+      (l : Ledger) (lent : List ℕ) (back : List Step) (x : Step) (rest : List Step) →
+      bytesFor l (reverseAux back (x ∷ rest)) lent ≡ writingIn (l .kind) (textOf l)
+  bytes-some l lent [] x rest = refl
+  bytes-some l lent (y ∷ back) x rest = bytes-some l lent back y (x ∷ rest)
+
+  -- a save is refused, or gives the bytes that the ledger says
+  pub save-fills :
+      (back undone : List Step) (lent out : List ℕ) →
+      SavesAs (editorOf o back undone) out (bytesFor (ledgerOf o back undone) (reverse back) lent)
+      (saveStanding (editorOf o back undone) lent out (recordsBack (o .reading) back))
+  unfolding saveStanding
+  save-fills [] undone lent out =
+      record {
+        output = _;
+        is = refl;
+        fills =
+            cond-case (Fills out lent) (readsAs (o .kind) lent (o .reading)) (λ _. deliver-fills out lent)
+            (λ _. leaves _ refl);
+      }
+  save-fills (x ∷ back) undone lent out =
+      record {
+        output = _;
+        is = refl;
+        fills =
+            subst (λ (bytes : List ℕ). Fills out bytes (writeIn (o .kind) (textAt o (x ∷ back)) out))
+            (ap (writingIn (o .kind)) (sym (text-standing (o .reading) (x ∷ back)))
+            ∙ sym (bytes-some (ledgerOf o (x ∷ back) undone) lent back x []))
+            (write-fills (o .kind) (textAt o (x ∷ back)) out);
+      }
+
+  module _ (back undone : List Step) (good : Good o (reverseAux back undone)) (lent out : List ℕ) where
+    -- accepted or not, the ledger hears of no step
+    heard-save : (taken : Bool) → Held arrived (editorOf o back undone) (fed (ledgerOf o back undone) (save lent out) taken)
+    unfolding acceptedCall
+    heard-save true = same o back undone good
+    heard-save false = same o back undone good
+
+    save-next :
+        Next back undone (save lent out)
+        (saveStanding (editorOf o back undone) lent out (recordsBack (o .reading) back))
+    save-next =
+        let t = save-fills back undone lent out in
+        subst (Next back undone (save lent out)) (sym (t .is)) (heard-save (eqb (t .output .verdict .number) 0))
+
+  next :
+      (space : Space) (back undone : List Step) → Good o (reverseAux back undone) → (c : Call) →
+      Next back undone c (turnOf space (editorOf o back undone) c)
+  next space back undone good (replace place count cells) =
+      replace-next space back undone good (record { place = place; count = count; added = cells })
+  next space back undone good undo = undo-next back undone good
+  next space back undone good redo = redo-next back undone good
+  next space back undone good (save lent out) = save-next back undone good lent out
+
+-- so a call keeps an editor and its ledger together
+pub held-turn :
+    {arrived : List ℕ} (space : Space) {e : Editor} {l : Ledger} → Held arrived e l → (c : Call) →
+    Held arrived (turnOf space e c .editor) (fed l c (accepts (turnOf space e c)))
+held-turn {arrived} space h c =
+    subst₂ (λ (e : Editor) (l : Ledger). Held arrived (turnOf space e c .editor) (fed l c (accepts (turnOf space e c))))
+    (sym (h .editor)) (sym (h .ledger)) (next (h .frame) space (h .back) (h .undone) (h .good) c)

@@ -1,0 +1,6 @@
+pub mod Steps
+pub mod Turned
+pub mod Ends
+pub mod Held
+pub mod Calls
+pub mod Promises

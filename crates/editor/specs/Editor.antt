@@ -1,0 +1,119 @@
+-- One text being edited: what the calls see of it and leave of it, whatever words its history is laid out in.
+use Prim.Native.Nat.{ℕ, _+_}
+use mathlib.Core.Bool.{Bool, false, cond}
+use mathlib.Core.List.{List, [], _∷_}
+use lib.ListN.{length}
+use lib.Dec.{ltb}
+use Rattle.answer.specs.Answer.{Verdict, numbered, limit}
+use Rattle.answer.specs.Output as output
+use Rattle.codec.specs.declared.Kind.{Kind}
+use Rattle.codec.specs.Kinds.{firstUnwritable, readsAs, writeIn}
+use Rattle.editor.specs.Ledger.{Call, replace, undo, redo, save}
+use Rattle.editor.specs.Records.{Entry, applied, turned, entryAt}
+
+pub record Editor : Type 0 where
+  pub kind : Kind
+  -- the length of the text buffer
+  pub room : ℕ
+  pub text : List ℕ
+  -- the records: those that stand, the latest first, and those that can be redone
+  pub standing : List Entry
+  pub undone : List Entry
+
+-- what has to be laid out anew: nothing (save and every refusal); the text and how many records stand (undo and redo); a
+-- new record as well, in place of those that could be redone (replace)
+pub data Change : Type 0 where
+  stays : Change
+  moves : Change
+  records : Entry → Change
+
+-- what a call comes to: its answer, the output as it is left, the editor after it, and what it changes
+pub record Turn : Type 0 where
+  pub verdict : Verdict
+  pub output : List ℕ
+  pub editor : Editor
+  pub change : Change
+
+-- the history as replace sees it: its length, and the words needed in all with a new record
+pub record Space : Type 0 where
+  pub words : ℕ
+  pub needed : Entry → ℕ
+
+-- "A refusal changes no page and no buffer"
+abbrev pub refused : Editor → List ℕ → Verdict → Turn
+refused e out verdict = record { verdict = verdict; output = out; editor = e; change = stays }
+
+abbrev pub withText : Editor → List ℕ → List Entry → List Entry → Editor
+withText e text standing undone =
+    record { kind = e .kind; room = e .room; text = text; standing = standing; undone = undone }
+
+-- "replace, undo and redo answer the new length"
+abbrev pub edited : Editor → List ℕ → List Entry → List Entry → Change → Turn
+edited e text standing undone change =
+    record {
+      verdict = numbered 0 (length text);
+      output = [];
+      editor = withText e text standing undone;
+      change = change;
+    }
+
+-- "Undo puts the last standing step's removed cells back"; 13 where there is none
+unfoldable pub undoLast : Editor → List Entry → Turn
+undoLast e [] = refused e [] (numbered 13 0)
+undoLast e (x ∷ back) = edited e (applied (turned x) (e .text)) back (x ∷ e .undone) moves
+
+-- "redo does the next one again"
+unfoldable pub redoNext : Editor → List Entry → Turn
+redoNext e [] = refused e [] (numbered 13 0)
+redoNext e (x ∷ rest) = edited e (applied x (e .text)) (x ∷ e .standing) rest moves
+
+-- 9, the new length; 12, the words needed; else "Replace drops what could be redone, then records its step"
+unfoldable pub replaceFitting : Space → Editor → Entry → Turn
+replaceFitting space e x =
+    cond (ltb (e .room) (length (applied x (e .text)))) (refused e [] (numbered 9 (length (applied x (e .text)))))
+    (cond (ltb (space .words) (space .needed x)) (refused e [] (numbered 12 (space .needed x)))
+    (edited e (applied x (e .text)) (x ∷ e .standing) [] (records x)))
+
+-- 11, then 10
+unfoldable pub replaceAt : Space → Editor → ℕ → ℕ → List ℕ → Turn
+replaceAt space e place count cells =
+    cond (ltb (length (e .text)) (place + count)) (refused e [] (numbered 11 (length (e .text))))
+    (cond (ltb (firstUnwritable (e .kind) cells) (length cells))
+    (refused e [] (numbered 10 (firstUnwritable (e .kind) cells)))
+    (replaceFitting space e (entryAt (e .text) place count cells)))
+
+-- a save changes nothing but the output
+abbrev pub saved : Editor → output.Outcome → Turn
+saved e o = record { verdict = o .verdict; output = o .out; editor = e; change = stays }
+
+-- "if no step stands, the arrived bytes, lent again, as they are; otherwise the text written in the page's kind": 15 where
+-- no step stands or 10 where one does, then 9
+unfoldable pub saveStanding : Editor → List ℕ → List ℕ → List Entry → Turn
+saveStanding e arrived out [] =
+    saved e
+    (cond (readsAs (e .kind) arrived (e .text)) (output.deliver arrived out) (output.refusing (numbered 15 0) out))
+saveStanding e arrived out (x ∷ back) = saved e (writeIn (e .kind) (e .text) out)
+
+-- what a call comes to where there is an editor
+abbrev pub turnOf : Space → Editor → Call → Turn
+turnOf space e (replace place count cells) = replaceAt space e place count cells
+turnOf space e undo = undoLast e (e .standing)
+turnOf space e redo = redoNext e (e .undone)
+turnOf space e (save arrived out) = saveStanding e arrived out (e .standing)
+
+abbrev pub over : List ℕ → Bool
+over l = ltb limit (length l)
+
+-- 16, by the list that a call lends: "cells to add, save's arrived bytes even if unused"
+abbrev pub overlong : Call → Bool
+overlong (replace place count cells) = over cells
+overlong undo = false
+overlong redo = false
+overlong (save arrived out) = over arrived
+
+-- the output that a call lends: only save has one
+abbrev pub outputOf : Call → List ℕ
+outputOf (replace place count cells) = []
+outputOf undo = []
+outputOf redo = []
+outputOf (save arrived out) = out

@@ -1,0 +1,65 @@
+-- A layout of an editor in some state, such as a page and the buffers lent beside it; and a list of calls on such a state.
+use Prim.Native.Nat.{ℕ}
+use mathlib.Core.Bool.{Bool, cond, _||_}
+use mathlib.Core.List.{List, [], _∷_}
+use mathlib.Core.Option.{Option, none, some}
+use lib.Dec.{eqb}
+use Rattle.answer.specs.Answer.{Verdict, numbered, tooLong}
+use Rattle.editor.specs.Ledger.{Ledger, Call, fed}
+use Rattle.editor.specs.Records.{Entry}
+use Rattle.editor.specs.Editor.{Editor, Space, Change, stays, moves, records, Turn, turnOf, overlong, outputOf}
+
+-- what a call answers, and everything that it leaves; the output is save's, and empty for the others
+pub record Outcome (S : Type 0) : Type 0 where
+  pub verdict : Verdict
+  pub state : S
+  pub output : List ℕ
+
+-- "A refusal changes no page and no buffer"
+abbrev pub refusing : {S : Type 0} → S → List ℕ → Verdict → Outcome S
+refusing s out verdict = record { verdict = verdict; state = s; output = out }
+
+-- "0, accepted"
+abbrev pub taken : {S : Type 0} → Outcome S → Bool
+taken o = eqb (o .verdict .number) 0
+
+pub record Layout (S : Type 0) : Type 0 where
+  -- a buffer is over the limit
+  pub long : S → Bool
+  -- the editor that is found in a state; none where the state is not sound
+  pub editorIn : S → Option Editor
+  -- the first length cells of the text buffer
+  pub textIn : S → List ℕ
+  pub spaceIn : S → Space
+  -- the state with this editor's text and as much standing; and the state with its new record, too
+  pub moved : S → Editor → S
+  pub recorded : S → Editor → Entry → S
+
+module _ {S : Type 0} (layout : Layout S) where
+  abbrev pub changed : S → Editor → Change → S
+  changed s e stays = s
+  changed s e moves = layout .moved s e
+  changed s e (records x) = layout .recorded s e x
+
+  -- a turn of the editor, laid out
+  abbrev pub laid : S → Turn → Outcome S
+  laid s t = record { verdict = t .verdict; state = changed s (t .editor) (t .change); output = t .output }
+
+  unfoldable pub callOn : S → Call → Option Editor → Outcome S
+  callOn s c none = refusing s (outputOf c) (numbered 14 0)
+  callOn s c (some e) = laid s (turnOf (layout .spaceIn s) e c)
+
+  -- 16, 14, then what the editor makes of the call
+  unfoldable pub outcomeOf : S → Call → Outcome S
+  outcomeOf s c =
+      cond (overlong c || layout .long s) (refusing s (outputOf c) tooLong) (callOn s c (layout .editorIn s))
+
+  -- the state after the calls, each given what the last one left
+  abbrev pub after : S → List Call → S
+  after s [] = s
+  after s (c ∷ cs) = after (outcomeOf s c .state) cs
+
+  -- the ledger after them: it hears each call and whether it was accepted
+  abbrev pub heard : Ledger → S → List Call → Ledger
+  heard l s [] = l
+  heard l s (c ∷ cs) = heard (fed l c (taken (outcomeOf s c))) (outcomeOf s c .state) cs

@@ -1,0 +1,5 @@
+pub mod Ledger
+pub mod Records
+pub mod Editor
+pub mod Layout
+pub mod Demand
