@@ -7,13 +7,18 @@ use native.Mathlib.Omega.{arith}
 use lib.ListN.{replicate}
 use borrow.Author.Tests.{le-ltb}
 use Rattle.answer.specs.Answer.{numbered, limit}
+use Rattle.answer.specs.Output as output
 use Rattle.reading.specs.Reading.{fault}
 use Rattle.codec.specs.declared.Kind.the-variants.{Utf7Body}
 use Rattle.codec.specs.Kinds.{firstUnwritable}
+use Rattle.codec.proofs.ByKind.{write-form}
 use Rattle.codec.proofs.Worked.{letter, cellsRead, cellsEdited, cellsGreat, written, letter-reads, letter-reads-as, letter-reads-other, sign-writable, great-unwritable, edited-writable, edited-writes}
-use Rattle.ledger.specs.Words.{recordsIn, reached, lengthsFit, partAt, zeros}
+use Rattle.editor.specs.Records.{reached, lengthsFit}
+use Rattle.editor.specs.Editor.{undoLast, redoNext, replaceFitting, replaceAt, saveStanding}
+use Rattle.editor.specs.Layout as editor
+use Rattle.ledger.specs.Words.{recordsIn, partAt, zeros}
 use Rattle.ledger.specs.Page.{State, stateOf, framed, reachedAtDone, fitting, records, Outcome}
-use Rattle.ledger.specs.Calls.{undoLast, undoParted, undoOf, redoNext, redoParted, redoOf, replaceFitting, replaceSound, replaceParted, replaceOf, savedAs, saveStanding, saveParted, saveOf, openRead, openOf}
+use Rattle.ledger.specs.Calls.{undoOf, redoOf, replaceOf, saveOf, openRead, openOf}
 
 -- a body page of four cells, with its words used and done, beside these buffers
 abbrev pub page : ℕ → ℕ → List ℕ → List ℕ → State
@@ -55,13 +60,13 @@ pub record Worked : Type 0 where
   pub four-words : replaceOf (page 0 0 (cellsRead ++ 0 ∷ []) (replicate 4 0)) 1 1 (0x3D ∷ []) .verdict ≡ numbered 12 5
 
 pub worked : Worked
-unfolding limit recordsIn reached lengthsFit partAt zeros framed reachedAtDone fitting records undoLast undoParted undoOf redoNext redoParted redoOf replaceFitting replaceSound replaceParted replaceOf savedAs saveStanding saveParted saveOf openRead openOf
+unfolding limit recordsIn reached lengthsFit partAt zeros framed reachedAtDone fitting records editor.callOn editor.outcomeOf undoLast redoNext replaceFitting replaceAt saveStanding output.deliver openRead openOf
 worked =
     record {
       opens = rw letter-reads;
       opens-short = rw letter-reads;
       replaces = rw sign-writable;
-      saves = rw (edited-writable, edited-writes);
+      saves = rw (write-form, edited-writable, edited-writes);
       undoes = refl;
       redoes = refl;
       saves-letter = rw letter-reads-as;
@@ -87,7 +92,7 @@ pub record Damaged : Type 0 where
       ≡ numbered 14 0
 
 pub damaged : Damaged
-unfolding limit recordsIn reached lengthsFit partAt zeros framed reachedAtDone fitting records undoLast undoParted undoOf
+unfolding limit recordsIn reached lengthsFit partAt zeros framed reachedAtDone fitting records editor.callOn editor.outcomeOf undoLast
 damaged =
     record {
       text-past-length = refl;
@@ -118,7 +123,7 @@ pub record Ordered : Type 0 where
   pub open-fault : openRead Utf7Body [] [] (fault 2 2) (0x41 ∷ []) .verdict ≡ numbered 2 2
 
 pub ordered : Ordered
-unfolding limit recordsIn reached lengthsFit partAt zeros framed reachedAtDone fitting records undoParted undoOf redoParted redoOf replaceFitting replaceSound replaceParted replaceOf savedAs saveStanding saveParted saveOf openRead
+unfolding limit recordsIn reached lengthsFit partAt zeros framed reachedAtDone fitting records editor.callOn editor.outcomeOf undoLast redoNext replaceFitting replaceAt saveStanding openRead
 ordered =
     record {
       replace-14 = refl;
@@ -129,7 +134,7 @@ ordered =
       redo-14 = refl;
       save-14 = refl;
       save-15 = rw letter-reads-other;
-      save-10 = rw great-unwritable;
+      save-10 = rw (write-form, great-unwritable);
       open-fault = refl;
     }
 
@@ -139,7 +144,7 @@ pub record Recorded : Type 0 where
   pub nothing : replaceOf onOpen 1 0 [] ≡ accepts 4 (page 3 3 (cellsRead ++ 0 ∷ []) (1 ∷ 0 ∷ 0 ∷ 0 ∷ 0 ∷ [])) []
 
 pub recorded : Recorded
-unfolding limit recordsIn reached lengthsFit partAt zeros framed reachedAtDone fitting records replaceFitting replaceSound replaceParted replaceOf
+unfolding limit recordsIn reached lengthsFit partAt zeros framed reachedAtDone fitting records editor.callOn editor.outcomeOf replaceFitting replaceAt
 recorded =
     record {
       room-again = rw sign-writable;

@@ -1,14 +1,7 @@
 pub mod Words
 pub mod Sound
 pub mod Parts
-pub mod Steps
-pub mod States
-pub mod Turned
-pub mod Moves
-pub mod Replaces
-pub mod Saves
+pub mod Lying
 pub mod Opens
 pub mod Demand
-pub mod Limit
 pub mod Example
-pub mod Refusals

@@ -1,4 +1,4 @@
--- An accepted open leaves the state that the ledger at first determines. Assumes nothing.
+-- What an accepted open finds and leaves, and that a refused one changes nothing. Assumes nothing.
 use Prim.Native.Nat.{ℕ, _≤_}
 use mathlib.Core.Path.{_≡_, refl, sym}
 use mathlib.Core.Bool.{true, Bool, false, _||_, false≢true}
@@ -8,55 +8,53 @@ use native.Mathlib.Nat.{sub-zero}
 use lib.ListN.{length}
 use lib.Dec.{ltb}
 use borrow.Author.Tests.{ltb-false, eqb-true}
-use Rattle.answer.specs.Answer.{limit}
+use Rattle.answer.specs.Answer.{Verdict, limit, tooLong}
 use Rattle.answer.proofs.Below.{cond-case}
 use Rattle.reading.specs.Reading.{Ending, accepted, fault}
 use Rattle.reading.proofs.Laws.{SoundEnd}
 use Rattle.codec.specs.declared.Kind.{Kind}
 use Rattle.codec.specs.Kinds.{readingIn}
-use Rattle.codec.proofs.ByKind.{fault-numbered}
-use Rattle.ledger.specs.Page.{State, Outcome}
-use Rattle.ledger.specs.Calls.{over, openRead, openOf}
-use Rattle.ledger.specs.Ledger.{opened}
-use Rattle.ledger.specs.Running.{taken}
-use Rattle.ledger.proofs.States.{Opening, Held}
+use Rattle.codec.proofs.ByKind.{fault-numbered, reads-itself}
+use Rattle.editor.specs.Ledger.{opened}
+use Rattle.editor.specs.Layout.{refusing, taken}
+use Rattle.editor.specs.Demand.{Unchanged}
+use Rattle.editor.proofs.Held.{Frame, editorOf, Good, Held, same, legal}
+use Rattle.editor.proofs.Promises.{Kept, kept}
+use Rattle.ledger.specs.Page.{State, stateOf, Outcome}
+use Rattle.ledger.specs.Calls.{over, noPage, openRead, openOf}
+use Rattle.ledger.specs.Demand.{OpenRefused}
+use Rattle.ledger.proofs.Lying.{Lies, page-lays}
 
 or-parts : (a b : Bool) → (a || b) ≡ false → (a ≡ false) × (b ≡ false)
 or-parts true b e = absurd (false≢true (sym e))
 or-parts false b e = (refl, e)
 
-abbrev pub openingOf : Kind → List ℕ → ℕ → ℕ → Opening
-openingOf kind arrived room space = record { kind = kind; reading = readingIn kind arrived .cells; room = room; space = space }
-
--- an accepted open
-pub record Begun (kind : Kind) (arrived : List ℕ) (room space : ℕ) (s : State) : Type 0 where
-  pub few : length arrived ≤ limit
-  pub ends : readingIn kind arrived .ending ≡ accepted
-  pub held : Held (openingOf kind arrived room space) s (opened kind arrived)
-
 module _ (kind : Kind) (arrived text history : List ℕ) where
-  abbrev pub Begins : Outcome → Type 0
-  Begins r = taken r ≡ true → Begun kind arrived (length text) (length history) (r .state)
+  -- an accepted open leaves the page of the ledger at first
+  abbrev Begins : Outcome → Type 0
+  Begins r = taken r ≡ true → Kept page-lays arrived (r .state) (opened kind arrived)
 
   open-read :
-      length arrived ≤ limit → length text ≤ limit → length history ≤ limit → (e : Ending) → readingIn kind arrived .ending ≡ e → SoundEnd e →
+      length arrived ≤ limit → length text ≤ limit → length history ≤ limit → (e : Ending) →
+      readingIn kind arrived .ending ≡ e → SoundEnd e →
       Begins (openRead kind text history e (readingIn kind arrived .cells))
   unfolding openRead
   open-read a t h accepted e n =
       cond-case Begins (ltb (length text) (length (readingIn kind arrived .cells))) (λ _ ok. absurd (false≢true ok))
       (λ q _.
-      record {
-        few = a;
-        ends = e;
-        held =
-            record {
-              back = [];
-              undone = [];
-              ledger = refl;
-              state = rw sub-zero;
-              good = record { fits = ltb-false (length text) (length (readingIn kind arrived .cells)) q; few = omega arith; small-text = t; small-history = h };
-            };
+      let o : Frame arrived = record { kind = kind; reading = readingIn kind arrived .cells; room = length text } in
+      let held : Held arrived (editorOf o [] []) (opened kind arrived) =
+      same o [] [] (record { fits = ltb-false _ _ q; few = a; reads = reads-itself kind arrived e }) in
+      kept page-lays
+      (record {
+        space = length history;
+        state = rw sub-zero;
+        few = omega arith;
+        small-text = t;
+        small-history = h;
+        legal = legal held;
       })
+      held)
   open-read a t h (fault k place) e n = λ ok. absurd (omega (arith, n, eqb-true k 0 ok))
 
   pub begun : Begins (openOf kind arrived text history)
@@ -66,5 +64,32 @@ module _ (kind : Kind) (arrived text history : List ℕ) where
       (λ q.
       let p = or-parts (over arrived) (over text || over history) q in
       let r = or-parts (over text) (over history) (p .1) in
-      open-read (ltb-false limit (length arrived) (p .0)) (ltb-false limit (length text) (r .0)) (ltb-false limit (length history) (r .1))
+      open-read (ltb-false limit (length arrived) (p .0)) (ltb-false limit (length text) (r .0))
+      (ltb-false limit (length history) (r .1))
       (readingIn kind arrived .ending) refl (fault-numbered kind arrived))
+
+  -- "16 comes first"
+  pub open-long :
+      (over arrived || (over text || over history)) ≡ true →
+      openOf kind arrived text history ≡ refusing (stateOf (noPage kind) text history) [] tooLong
+  unfolding openOf
+  open-long long = rw long
+
+  abbrev Stays : Outcome → Type 0
+  Stays r = taken r ≡ false → Unchanged (stateOf (noPage kind) text history) [] r
+
+  stays : (v : Verdict) → Stays (refusing (stateOf (noPage kind) text history) [] v)
+  stays v _ = record { state = refl; output = refl }
+
+  read-stays : (e : Ending) (cells : List ℕ) → Stays (openRead kind text history e cells)
+  unfolding openRead
+  read-stays accepted cells =
+      cond-case Stays (ltb (length text) (length cells)) (λ _. stays _) (λ _ q. absurd (false≢true (sym q)))
+  read-stays (fault k place) cells = stays _
+
+pub open-refused : OpenRefused
+unfolding openOf
+open-refused kind arrived text history =
+    cond-case (Stays kind arrived text history) (over arrived || (over text || over history))
+    (λ _. stays kind arrived text history _)
+    (λ _. read-stays kind arrived text history (readingIn kind arrived .ending) (readingIn kind arrived .cells))

@@ -5,8 +5,9 @@ use mathlib.Core.List.{List, [], reverse}
 use mathlib.Core.Option.{Option, none, some}
 use lib.ListN.{length, take, drop}
 use lib.Dec.{leb, eqb}
-use Rattle.answer.specs.Answer.{Verdict, inNumbers}
+use Rattle.answer.specs.Answer.{inNumbers}
 use Rattle.answer.specs.declared.Answer.{Answer}
+use Rattle.editor.specs.Layout as editor
 use Rattle.ledger.specs.Words.{Entry, Parted, recordsIn, reached, lengthsFit, partAt, zeros}
 use Rattle.ledger.specs.declared.Page.{Page}
 use Rattle.ledger.specs.declared.Edited.{Edited}
@@ -47,10 +48,8 @@ unfoldable pub records : State → Option Parted
 records s = cond (framed s) (fitting s (recordsIn (s .page .used) (take (s .page .used) (s .history)))) none
 
 -- what a call answers, and everything that it leaves; the output is save's, and empty for the others
-pub record Outcome : Type 0 where
-  pub verdict : Verdict
-  pub state : State
-  pub output : List ℕ
+abbrev pub Outcome : Type 0
+Outcome = editor.Outcome State
 
 -- what a call that gives a page back leaves: its answer in numbers, the page, the text and the history at exit
 abbrev pub leaves : Edited → List ℕ → List ℕ → Outcome

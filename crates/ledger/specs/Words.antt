@@ -1,22 +1,24 @@
--- Document 01, "The page": the records of the steps, and the words that they are.
+-- Document 01, "The page": the words that the records of the steps are.
 use Prim.Native.Nat.{ℕ, zero, suc, _+_, _-_}
 use mathlib.Core.Bool.{Bool, true, cond, _&&_}
 use mathlib.Core.List.{List, [], _∷_, _++_}
 use mathlib.Core.Option.{Option, none, some}
 use lib.ListN.{length, take, drop, replicate}
 use lib.Dec.{leb, eqb}
+pub use Rattle.editor.specs.Records.{Entry, lengthAfter}
+unfoldable pub use Rattle.editor.specs.Records.{reached, lengthsFit}
 
 -- "A step's record is: place, count removed, count added, the removed cells, the added cells."
-pub record Entry : Type 0 where
-  pub place : ℕ
-  pub removed : List ℕ
-  pub added : List ℕ
-
 abbrev pub wordsOf : Entry → List ℕ
 wordsOf e = e .place ∷ length (e .removed) ∷ length (e .added) ∷ (e .removed ++ e .added)
 
 abbrev pub sizeOf : Entry → ℕ
 sizeOf e = 3 + length (e .removed) + length (e .added)
+
+-- how many words records are
+abbrev pub sizes : List Entry → ℕ
+sizes [] = 0
+sizes (e ∷ es) = sizes es + sizeOf e
 
 abbrev pub onto : Entry → Option (List Entry) → Option (List Entry)
 onto e none = none
@@ -33,20 +35,6 @@ recordsIn (suc n) (p ∷ r ∷ a ∷ ws) =
     cond (leb (r + a) (length ws))
     (onto (record { place = p; removed = take r ws; added = take a (drop r ws) }) (recordsIn n (drop (r + a) ws)))
     none
-
--- the length of a text after a record
-abbrev pub lengthAfter : ℕ → Entry → ℕ
-lengthAfter n e = n - length (e .removed) + length (e .added)
-
-unfoldable pub reached : ℕ → List Entry → ℕ
-reached n [] = n
-reached n (e ∷ es) = reached (lengthAfter n e) es
-
--- "each record's removed part lies within the text length reached so far", "no such length exceeds the text buffer"
-unfoldable pub lengthsFit : ℕ → ℕ → List Entry → Bool
-lengthsFit room n [] = true
-lengthsFit room n (e ∷ es) =
-    leb (e .place + length (e .removed)) n && leb (lengthAfter n e) room && lengthsFit room (lengthAfter n e) es
 
 -- records, parted: those that stand, the latest first, and those that can be redone
 pub record Parted : Type 0 where

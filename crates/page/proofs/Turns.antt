@@ -14,7 +14,11 @@ use Rattle.answer.specs.declared.Answer.{Answer}
 use Rattle.answer.proofs.Below.{both}
 use Rattle.ledger.specs.Words.{Entry, wordsOf, sizeOf, lengthAfter, lengthsFit, reached}
 use Rattle.ledger.specs.Page.{State, Outcome, textIn}
-use Rattle.ledger.specs.Calls.{refusing, edited, turned, moved, undoLast, redoNext, undoParted, redoParted, undoOf, redoOf}
+use Rattle.ledger.specs.Calls.{refusing, applied, turned}
+use Rattle.editor.specs.Ledger.{undo, redo}
+use Rattle.editor.specs.Editor.{undoLast, redoNext}
+use Rattle.editor.specs.Layout.{laid, callOn, outcomeOf}
+use Rattle.ledger.specs.Layout.{editorOf, editorFor, left, page}
 use Rattle.ledger.proofs.Words.{words, sizes, length-words, words-append, sizes-reverse, lengths-append}
 use Rattle.ledger.proofs.Sound.{Sound}
 use Rattle.records.specs.Walking.{lastBegin, judgeOf}
@@ -105,6 +109,14 @@ module _ (s : State) (back : List Entry) (e : Entry) (rest : List Entry) where
         after = leb-true _ _ (q .1);
       }
 
+-- an accepted undo or redo that makes this of the text, and leaves so many words done
+abbrev edited : State → List ℕ → ℕ → Outcome
+edited s text done =
+    record { verdict = numbered 0 (length text); state = left s text (s .page .used) done (s .history); output = [] }
+
+abbrev moved : State → Entry → ℕ → Outcome
+moved s e done = edited s (applied e (textIn s)) done
+
 -- what the code reads of the record, and what the call then leaves
 pub record Moves (forward : Bool) (s : State) (q : Change) : Type 0 where
   pub place : q .place + q .count ≤ s .page .length
@@ -113,7 +125,7 @@ pub record Moves (forward : Bool) (s : State) (q : Change) : Type 0 where
   pub room : s .page .length - q .count + (q .to - q .from) ≤ length (s .text)
   pub outcome :
       steppedOf forward s
-      ≡ edited s (spliced (q .place) (q .count) (take (q .to - q .from) (drop (q .from) (s .history))) (textIn s)) (s .page .used) (q .done) (s .history)
+      ≡ edited s (spliced (q .place) (q .count) (take (q .to - q .from) (drop (q .from) (s .history))) (textIn s)) (q .done)
 
 -- the record at a word can be moved over
 pub record Ready (forward : Bool) (s : State) (at : ℕ) : Type 0 where
@@ -122,8 +134,8 @@ pub record Ready (forward : Bool) (s : State) (at : ℕ) : Type 0 where
 
 -- the step to be moved over is the last that stands, or the first undone one
 abbrev next : Bool → State → List Entry → List Entry → Outcome
-next false s standing undone = undoLast s standing
-next true s standing undone = redoNext s undone
+next false s standing undone = laid page s (undoLast (editorOf s (record { standing = standing; undone = undone })) standing)
+next true s standing undone = laid page s (redoNext (editorOf s (record { standing = standing; undone = undone })) undone)
 
 module _ (s : State) where
   ready-at :
@@ -188,12 +200,13 @@ module _ (s : State) where
         let r : At (s .history) last e = rw at at (record-at s back e undone (h .tiles)) in
         let long : s .page .length ≡ lengthAfter (before s back e undone) e =
         sym (h .reach) ∙ ap (reached (s .page .opening)) (reverseAux-eq back (e ∷ [])) ∙ reached-append (s .page .opening) (reverse back) (e ∷ []) in
-        ready-at false last e r (moves-back back e undone last r (lengths s back e undone (fr .opens) (h .fits)) long (rw b o))
+        ready-at false last e r (moves-back back e undone last r (lengths s back e undone (fr .opens) (h .fits)) long (rw (← at) o))
     ready-next true standing [] h o b q = absurd (q (omega (arith, ends standing [] h)))
     ready-next true standing (e ∷ rest) h o b q =
         let r : At (s .history) (s .page .done) e = rw (h .end) at (record-at s standing e rest (h .tiles)) in
         ready-at true (s .page .done) e r
-        (moves-forward standing e rest (s .page .done) r (lengths s standing e rest (fr .opens) (h .fits)) (sym (h .reach)) o)
+        (moves-forward standing e rest (s .page .done) r (lengths s standing e rest (fr .opens) (h .fits)) (sym (h .reach))
+        (o ∙ ap (λ (n : ℕ). moved s e (n + sizeOf e)) (h .end)))
 
     none-next :
         (forward : Bool) (standing undone : List Entry) → Sound s (record { standing = standing; undone = undone }) →
@@ -206,7 +219,7 @@ module _ (s : State) where
 
   module _ (last : ℕ) (f : Fit s last) where
     stepped-next : (forward : Bool) → steppedOf forward s ≡ next forward s (f .parted .standing) (f .parted .undone)
-    unfolding undoOf undoParted redoOf redoParted
+    unfolding outcomeOf callOn
     stepped-next false = rw (f .short, f .found)
     stepped-next true = rw (f .short, f .found)
 
@@ -226,6 +239,6 @@ module _ (s : State) where
 
   -- a page that was refused, in either direction
   pub step-unfit : (forward : Bool) {j : Judged} {a : Answer} → j ≡ judgeOf s → j ≡ Unfit a → steppedOf forward s ≡ refusing s [] (inNumbers a)
-  unfolding undoOf undoParted redoOf redoParted
-  step-unfit false d e = unfit s _ [] (undoParted s) refl d e
-  step-unfit true d e = unfit s _ [] (redoParted s) refl d e
+  unfolding outcomeOf callOn
+  step-unfit false d e = unfit s _ [] (λ x. callOn page s undo (editorFor s x)) refl d e
+  step-unfit true d e = unfit s _ [] (λ x. callOn page s redo (editorFor s x)) refl d e

@@ -1,7 +1,7 @@
--- What an accepted edit gives back, a page just opened, and what save gives of a sound page.
+-- What an accepted edit gives back, what replace and save come to on a sound page, and a page just opened.
 use Prim.Native.Nat.{ℕ}
 use mathlib.Core.Bool.{cond}
-use mathlib.Core.List.{List}
+use mathlib.Core.List.{List, []}
 use lib.ListN.{length}
 use lib.Dec.{eqb}
 use Rattle.answer.specs.Answer.{numbered}
@@ -9,6 +9,11 @@ use Rattle.answer.specs.Output.{Outcome, refusing, deliver}
 use Rattle.answer.specs.declared.Answer.the-variants.{Accepted}
 use Rattle.codec.specs.declared.Kind.{Kind}
 use Rattle.codec.specs.Kinds.{readsAs, writeIn}
+use Rattle.editor.specs.Records.{Entry}
+use Rattle.editor.specs.Editor as editor
+use Rattle.editor.specs.Layout.{laid}
+use Rattle.ledger.specs.Page as ledger
+use Rattle.ledger.specs.Layout.{editorOf, spaceIn, page}
 use Rattle.ledger.specs.declared.Page.{Page}
 use Rattle.ledger.specs.declared.Edited.{Edited}
 
@@ -19,6 +24,16 @@ editedAs page text used done =
       answer = Accepted (length text);
       page = record { kind = page .kind; opening = page .opening; length = length text; used = used; done = done };
     }
+
+-- replace looks at no record, so on a sound page it does as on one that has none
+abbrev pub bare : ledger.State → editor.Editor
+bare s = editorOf s (record { standing = []; undone = [] })
+
+unfoldable pub replaceFitting : ledger.State → Entry → ledger.Outcome
+replaceFitting s x = laid page s (editor.replaceFitting (spaceIn s) (bare s) x)
+
+unfoldable pub replaceSound : ledger.State → ℕ → ℕ → List ℕ → ledger.Outcome
+replaceSound s place count cells = laid page s (editor.replaceAt (spaceIn s) (bare s) place count cells)
 
 -- a page of this length on which nothing was done; of length 0, the page of a refused open
 abbrev pub freshPage : Kind → ℕ → Page

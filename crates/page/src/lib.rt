@@ -17,10 +17,10 @@ ghost use Rattle.records.specs.declared.Judged.the-variants.{Sound};
 ghost use Rattle.records.specs.Walking.{judgeOf};
 ghost use Rattle.ledger.specs.Words.{wordsOf, pad};
 ghost use Rattle.ledger.specs.Page.{stateOf, leaves, keeps};
-ghost use Rattle.ledger.specs.Calls.{undoOf, redoOf, entryAt, replaceFitting, replaceSound, replaceOf, openOf, saveOf};
+ghost use Rattle.ledger.specs.Calls.{undoOf, redoOf, entryAt, replaceOf, openOf, saveOf};
 ghost use Rattle.splice.specs.Splice.{spliced, Filled};
 ghost use Rattle.page.specs.Steps.{steppedOf, spanOf, changeIn};
-ghost use Rattle.page.specs.Outcomes.{editedAs, freshPage, savedIn};
+ghost use Rattle.page.specs.Outcomes.{editedAs, replaceFitting, replaceSound, freshPage, savedIn};
 
 // Words of the history: those of the step to be moved over, or none.
 struct Span {

@@ -13,7 +13,8 @@ returns : tie.Need-returns
 returns c =
     let a = c .before .before .before .before .before .args in
     let s : State = stateOf (a .page) (a .text .now) (a .history .now) in
-    rw (c .refused .ensures) (sym (beyond s (a .place) (a .count) (a .cells .now) (omega arith)))
+    let fits = c .before .before .before .before .before .pre .0 .fits in
+    rw (c .refused .ensures) (sym (beyond s (a .place) (a .count) (a .cells .now) fits (omega arith)))
 
 refused-requires-2 : tie.Need-refused-requires-2
 refused-requires-2 c κs = search needs
@@ -22,7 +23,8 @@ returns-2 : tie.Need-returns-2
 returns-2 c =
     let a = c .before .before .before .before .before .before .args in
     let s : State = stateOf (a .page) (a .text .now) (a .history .now) in
-    rw (c .refused2 .ensures) (sym (beyond s (a .place) (a .count) (a .cells .now) (omega arith)))
+    let fits = c .before .before .before .before .before .before .pre .0 .fits in
+    rw (c .refused2 .ensures) (sym (beyond s (a .place) (a .count) (a .cells .now) fits (omega arith)))
 
 first-unwritable-requires : tie.Need-first-unwritable-requires
 first-unwritable-requires c κs = search needs
@@ -34,7 +36,8 @@ returns-3 : tie.Need-returns-3
 returns-3 c =
     let a = c .before .before .before .before .before .before .before .before .args in
     let s : State = stateOf (a .page) (a .text .now) (a .history .now) in
-    rw (c .refused3 .ensures) (sym (unwritable s (a .place) (a .count) (a .cells .now) (omega arith) (c .before .before .first-unwritable .result) (c .before .before .first-unwritable .ensures) (omega arith)))
+    let fits = c .before .before .before .before .before .before .before .before .pre .0 .fits in
+    rw (c .refused3 .ensures) (sym (unwritable s (a .place) (a .count) (a .cells .now) fits (omega arith) (c .before .before .first-unwritable .result) (c .before .before .first-unwritable .ensures) (omega arith)))
 
 replace-fitting-requires : tie.Need-replace-fitting-requires
 replace-fitting-requires c κs = search needs
@@ -49,7 +52,8 @@ returns-4 : tie.Need-returns-4
 returns-4 c =
     let a = c .before .before .before .before .before .before .before .before .before .before .before .before .before .before .args in
     let s : State = stateOf (a .page) (a .text .now) (a .history .now) in
-    c .before .before .before .before .replace-fitting .ensures ∙ sym (writable s (a .place) (a .count) (a .cells .now) (omega arith) (c .before .before .before .before .before .before .before .before .first-unwritable .result) (c .before .before .before .before .before .before .before .before .first-unwritable .ensures) (omega arith))
+    let fits = c .before .before .before .before .before .before .before .before .before .before .before .before .before .before .pre .0 .fits in
+    c .before .before .before .before .replace-fitting .ensures ∙ sym (writable s (a .place) (a .count) (a .cells .now) fits (omega arith) (c .before .before .before .before .before .before .before .before .first-unwritable .result) (c .before .before .before .before .before .before .before .before .first-unwritable .ensures) (omega arith))
 
 pub replace-sound-spec : {M : Type 1} → statement M
 replace-sound-spec =

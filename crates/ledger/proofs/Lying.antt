@@ -1,0 +1,155 @@
+-- The page is a layout: an editor that lies in a page is found there, and what a call changes lies in the page that it leaves.
+-- Assumes nothing.
+use Prim.Native.Nat.{ℕ, _+_, _≤_}
+use mathlib.Core.Path.{_≡_, refl, sym, ap, _∙_, subst}
+use mathlib.Core.Bool.{true, false, _||_}
+use mathlib.Core.List.{List, [], _∷_, _++_, reverseAux, reverse, reverse-cons, append-nil, append-assoc, reverseAux-eq}
+use mathlib.Core.Option.{some}
+use native.Mathlib.Omega.{arith}
+use lib.ListN.{length, take, length-append}
+use lib.Seq.{take-at}
+use borrow.Author.Tests.{le-leb, le-ltb}
+use Rattle.answer.specs.Answer.{limit}
+use Rattle.editor.specs.Editor.{Editor, withText, over}
+use Rattle.editor.proofs.Steps.{and-true}
+use Rattle.editor.proofs.Ends.{entries}
+use Rattle.editor.proofs.Held.{Legal}
+use Rattle.editor.proofs.Promises.{Lays}
+use Rattle.ledger.specs.Words.{Entry, Parted, wordsOf, sizeOf, sizes, pad}
+use Rattle.ledger.specs.Page.{State, stateOf, framed, records}
+use Rattle.ledger.specs.Layout.{page}
+use Rattle.ledger.proofs.Words.{length-pad, take-pad, zeros-pad, words, length-words, words-append, sizes-reverse}
+use Rattle.ledger.proofs.Sound.{Sound, sound-records}
+
+-- the page with its buffers in which an editor lies, by its opening length and the length of its history
+abbrev pub pageOf : ℕ → ℕ → Editor → State
+pageOf opening space e =
+    stateOf
+    (record {
+      kind = e .kind;
+      opening = opening;
+      length = length (e .text);
+      used = length (words (entries e));
+      done = sizes (e .standing);
+    })
+    (pad (e .room) (e .text)) (pad space (words (entries e)))
+
+pub record Lies (opening : ℕ) (s : State) (e : Editor) : Type 0 where
+  pub space : ℕ
+  pub state : s ≡ pageOf opening space e
+  pub few : length (words (entries e)) ≤ space
+  pub small-text : e .room ≤ limit
+  pub small-history : space ≤ limit
+  pub legal : Legal opening e
+
+module _ (opening space : ℕ) (e : Editor) (legal : Legal opening e) (few : length (words (entries e)) ≤ space) where
+  abbrev here : State
+  here = pageOf opening space e
+
+  length-text : length (here .text) ≡ e .room
+  length-text = length-pad (e .room) (e .text) (legal .room)
+
+  length-history : length (here .history) ≡ space
+  length-history = length-pad space (words (entries e)) few
+
+  framed-here : framed here ≡ true
+  unfolding framed
+  framed-here =
+      rw (length-text, length-history)
+      (and-true _ _
+      (and-true _ _
+      (and-true _ _ (and-true _ _ (le-leb _ _ (legal .opens)) (le-leb _ _ (legal .room))) (le-leb _ _ few))
+      (zeros-pad (e .room) (e .text))) (zeros-pad space (words (entries e))))
+
+  sound-here : Sound here (record { standing = e .standing; undone = e .undone })
+  sound-here =
+      record {
+        frame = framed-here;
+        tiles = sym (take-pad space (words (entries e)));
+        end = refl;
+        fits = rw length-text (legal .fits);
+        reach = legal .reach;
+      }
+
+  found-here : page .editorIn here ≡ some e
+  found-here =
+      rw (sound-records here (record { standing = e .standing; undone = e .undone }) sound-here)
+      (λ i. some
+      (record {
+        kind = e .kind;
+        room = length-text i;
+        text = take-pad (e .room) (e .text) i;
+        standing = e .standing;
+        undone = e .undone;
+      }))
+
+  -- undo and redo leave the history: the same records are parted elsewhere
+  moved-here :
+      (text : List ℕ) (standing undone : List Entry) → reverseAux standing undone ≡ entries e →
+      page .moved here (withText e text standing undone) ≡ pageOf opening space (withText e text standing undone)
+  moved-here text standing undone p = rw (length-text, p)
+
+  -- replace puts its record after those that stand
+  module _ (text : List ℕ) (x : Entry) where
+    abbrev after : Editor
+    after = withText e text (x ∷ e .standing) []
+
+    abbrev first : List ℕ
+    first = words (reverse (e .standing))
+
+    length-first : length first ≡ sizes (e .standing)
+    length-first = omega (arith, length-words (reverse (e .standing)), sizes-reverse (e .standing) [])
+
+    words-after : words (entries after) ≡ first ++ wordsOf x
+    words-after = rw (reverse-cons x (e .standing), words-append, append-nil)
+
+    pub length-after : length (words (entries after)) ≡ sizes (e .standing) + sizeOf x
+    length-after = rw words-after (simp length-append (omega (arith, length-first)))
+
+    recorded-here : page .recorded here after x ≡ pageOf opening space after
+    recorded-here =
+        let old : take (sizes (e .standing)) (here .history) ≡ first =
+        rw (reverseAux-eq (e .standing) (e .undone), words-append, append-assoc)
+        (take-at first _ (sizes (e .standing)) length-first) in
+        rw (length-text, length-history, old, ← length-after, words-after)
+
+pub page-lays : Lays page Lies
+page-lays =
+    record {
+      short =
+          λ {n} {s} {e} l.
+          let t : over (pad (e .room) (e .text)) ≡ false = le-ltb limit _ (omega (arith, length-text n (l .space) e (l .legal) (l .few), l .small-text)) in
+          let h : over (pad (l .space) (words (entries e))) ≡ false =
+          le-ltb limit _ (omega (arith, length-history n (l .space) e (l .legal) (l .few), l .small-history)) in
+          rw (l .state, t, h);
+      sees = λ {n} {s} {e} l. rw (l .state) (found-here n (l .space) e (l .legal) (l .few));
+      shows = λ {n} {s} {e} l. rw (l .state) (take-pad (e .room) (e .text));
+      moves =
+          λ {n} {s} {e} l text standing undone p ok.
+          record {
+            space = l .space;
+            state = rw (l .state) (moved-here n (l .space) e (l .legal) (l .few) text standing undone p);
+            few = rw p (l .few);
+            small-text = l .small-text;
+            small-history = l .small-history;
+            legal = ok;
+          };
+      records =
+          λ {n} {s} {e} l text x fits ok.
+          let room : page .spaceIn (pageOf n (l .space) e) .needed x ≤ page .spaceIn (pageOf n (l .space) e) .words =
+          subst (λ (s : State). page .spaceIn s .needed x ≤ page .spaceIn s .words) (l .state) fits in
+          record {
+            space = l .space;
+            state = rw (l .state) (recorded-here n (l .space) e (l .legal) (l .few) text x);
+            few =
+                omega (
+                  arith,
+                  room,
+                  length-after n (l .space) e (l .legal) (l .few) text x,
+                  length-history n (l .space) e (l .legal) (l .few),
+                );
+            small-text = l .small-text;
+            small-history = l .small-history;
+            legal = ok;
+          };
+    }

@@ -1,0 +1,51 @@
+-- Document 01, "The page": a page with its buffers as a layout of one text being edited.
+use Prim.Native.Nat.{ℕ, _+_}
+use mathlib.Core.Bool.{_||_}
+use mathlib.Core.List.{List, _++_}
+use mathlib.Core.Option.{Option, none, some}
+use lib.ListN.{length, take}
+use Rattle.editor.specs.Editor.{Editor, Space, over}
+use Rattle.editor.specs.Layout.{Layout}
+use Rattle.ledger.specs.Words.{Parted, wordsOf, sizeOf, sizes, pad}
+use Rattle.ledger.specs.Page.{State, stateOf, textIn, records}
+
+-- what the calls see of a page with these records
+abbrev pub editorOf : State → Parted → Editor
+editorOf s v =
+    record {
+      kind = s .page .kind;
+      room = length (s .text);
+      text = textIn s;
+      standing = v .standing;
+      undone = v .undone;
+    }
+
+abbrev pub editorFor : State → Option Parted → Option Editor
+editorFor s none = none
+editorFor s (some v) = some (editorOf s v)
+
+-- "12 is given exactly when done + 3 + removed + added exceeds the history's length"
+abbrev pub spaceIn : State → Space
+spaceIn s = record { words = length (s .history); needed = λ e. s .page .done + sizeOf e }
+
+-- after an accepted edit "text past the length [is] 0"
+abbrev pub left : State → List ℕ → ℕ → ℕ → List ℕ → State
+left s text used done history =
+    stateOf
+    (record { kind = s .page .kind; opening = s .page .opening; length = length text; used = used; done = done })
+    (pad (length (s .text)) text) history
+
+abbrev pub page : Layout State
+page =
+    record {
+      long = λ s. over (s .text) || over (s .history);
+      editorIn = λ s. editorFor s (records s);
+      textIn = textIn;
+      spaceIn = spaceIn;
+      -- undo and redo: "Neither changes the history."
+      moved = λ s e. left s (e .text) (s .page .used) (sizes (e .standing)) (s .history);
+      -- "Replace drops what could be redone, then records its step": the words before done, and the new record
+      recorded =
+          λ s e x. left s (e .text) (s .page .done + sizeOf x) (s .page .done + sizeOf x)
+          (pad (length (s .history)) (take (s .page .done) (s .history) ++ wordsOf x));
+    }
