@@ -1,7 +1,7 @@
 -- Each call turns the editor that a ledger determines into the one that the ledger then determines. Assumes nothing.
 use Prim.Native.Nat.{ℕ, _+_, _≤_}
 use mathlib.Core.Path.{_≡_, refl, sym, ap, _∙_, subst, subst₂}
-use mathlib.Core.Bool.{Bool, true, false, false≢true}
+use mathlib.Core.Bool.{Bool, true, false}
 use mathlib.Core.List.{List, [], _∷_, reverseAux, reverse, reverse-cons}
 use native.Mathlib.Omega.{arith}
 use lib.ListN.{length}
@@ -53,7 +53,12 @@ module _ {arrived : List ℕ} (o : Frame arrived) where
 
     abbrev arriving : List Step → List Step → Turn
     arriving back undone =
-        record { verdict = numbered 0 (length (textAt o back)); output = []; editor = editorOf o back undone; change = moves }
+        record {
+          verdict = numbered 0 (length (textAt o back));
+          output = [];
+          editor = editorOf o back undone;
+          change = moves;
+        }
 
     pub undo-some :
         undoLast (editorOf o (x ∷ back) undone) (recordsBack (o .reading) (x ∷ back)) ≡ arriving back (x ∷ undone)
@@ -95,7 +100,14 @@ module _ {arrived : List ℕ} (o : Frame arrived) where
   redo-next back [] good = same o back [] good
   redo-next back (x ∷ undone) good =
       subst (Next back (x ∷ undone) redo) (sym (redo-some back x undone good))
-      (record { frame = o; back = x ∷ back; undone = undone; editor = refl; ledger = rw (reverse-cons x back); good = good })
+      (record {
+        frame = o;
+        back = x ∷ back;
+        undone = undone;
+        editor = refl;
+        ledger = rw (reverse-cons x back);
+        good = good;
+      })
 
   module _ (space : Space) (back undone : List Step) (good : Good o (reverseAux back undone)) (x : Step) where
     abbrev After : Turn → Type 0
@@ -176,7 +188,8 @@ module _ {arrived : List ℕ} (o : Frame arrived) where
 
   module _ (back undone : List Step) (good : Good o (reverseAux back undone)) (lent out : List ℕ) where
     -- accepted or not, the ledger hears of no step
-    heard-save : (taken : Bool) → Held arrived (editorOf o back undone) (fed (ledgerOf o back undone) (save lent out) taken)
+    heard-save :
+        (taken : Bool) → Held arrived (editorOf o back undone) (fed (ledgerOf o back undone) (save lent out) taken)
     unfolding acceptedCall
     heard-save true = same o back undone good
     heard-save false = same o back undone good

@@ -1,6 +1,6 @@
 -- How a turn of an editor can end; so a refusal changes nothing, in any layout, and 16 comes first. Assumes nothing.
 use Prim.Native.Nat.{ℕ, _+_, _≤_}
-use mathlib.Core.Path.{_≡_, refl, sym, ap, _∙_}
+use mathlib.Core.Path.{_≡_, refl, sym, ap}
 use mathlib.Core.Bool.{Bool, true, false, _||_, false≢true}
 use mathlib.Core.List.{List, [], _∷_, reverseAux}
 use mathlib.Core.Option.{Option, none, some}
@@ -15,7 +15,7 @@ use Rattle.codec.specs.Kinds.{firstUnwritable, writingIn, readsAs, writeIn}
 use Rattle.codec.proofs.ByKind.{write-form}
 use Rattle.editor.specs.Ledger.{Call, replace, undo, redo, save}
 use Rattle.editor.specs.Records.{Entry, applied, entryAt}
-use Rattle.editor.specs.Editor.{Editor, Space, Turn, refused, edited, saved, undoLast, redoNext, replaceFitting, replaceAt, saveStanding, turnOf, overlong, outputOf}
+use Rattle.editor.specs.Editor.{Editor, Space, Turn, refused, edited, saved, undoLast, redoNext, replaceFitting, replaceAt, saveStanding, turnOf, over, overlong, outputOf}
 use Rattle.editor.specs.Editor as change
 use Rattle.editor.specs.Layout.{Outcome, refusing, taken, Layout, laid, callOn, outcomeOf}
 use Rattle.editor.specs.Demand.{Unchanged, RefusedSame}
@@ -116,7 +116,26 @@ module _ {S : Type 0} (layout : Layout S) where
       (λ _. call-same s c (layout .editorIn s))
 
   -- "16 comes first": whatever else a call could refuse, a list or buffer over the limit is what it says
-  pub long-first :
-      (s : S) (c : Call) → (overlong c || layout .long s) ≡ true → outcomeOf layout s c ≡ refusing s (outputOf c) tooLong
+  long-first :
+      (s : S) (c : Call) → (overlong c || layout .long s) ≡ true →
+      outcomeOf layout s c ≡ refusing s (outputOf c) tooLong
   unfolding outcomeOf
   long-first s c long = rw long
+
+  pub cells-long :
+      (s : S) (place count : ℕ) (cells : List ℕ) → over cells ≡ true →
+      outcomeOf layout s (replace place count cells) ≡ refusing s [] tooLong
+  cells-long s place count cells long = long-first s (replace place count cells) (rw long)
+
+  pub arrived-long :
+      (s : S) (arrived out : List ℕ) → over arrived ≡ true →
+      outcomeOf layout s (save arrived out) ≡ refusing s out tooLong
+  arrived-long s arrived out long = long-first s (save arrived out) (rw long)
+
+  or-right : (a b : Bool) → b ≡ true → (a || b) ≡ true
+  or-right true b p = refl
+  or-right false b p = p
+
+  pub buffer-long :
+      (s : S) (c : Call) → layout .long s ≡ true → outcomeOf layout s c ≡ refusing s (outputOf c) tooLong
+  buffer-long s c long = long-first s c (or-right (overlong c) (layout .long s) long)

@@ -58,7 +58,7 @@ pub same :
 same o back undone good =
     record { frame = o; back = back; undone = undone; editor = refl; ledger = refl; good = good }
 
--- what a layout needs of an editor for its state to be sound: from the opening length its records lead within the room to its text
+-- what a layout needs of an editor to be sound: from the opening length its records lead within the room to its text
 pub record Legal (opening : ℕ) (e : Editor) : Type 0 where
   pub opens : opening ≤ e .room
   pub room : length (e .text) ≤ e .room

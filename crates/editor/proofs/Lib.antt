@@ -4,3 +4,4 @@ pub mod Ends
 pub mod Held
 pub mod Calls
 pub mod Promises
+pub mod Cases

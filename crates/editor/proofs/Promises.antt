@@ -1,5 +1,5 @@
 -- Demand 3 for any layout in which the editor lies. Assumes nothing.
-use Prim.Native.Nat.{ℕ, zero, suc, _≤_}
+use Prim.Native.Nat.{ℕ, _≤_}
 use mathlib.Core.Path.{_≡_, refl, sym, ap, _∙_, subst, subst₂}
 use mathlib.Core.Bool.{Bool, true, false, cond, _||_, false≢true}
 use mathlib.Core.List.{List, [], _∷_, reverseAux, reverse, cons≢nil}
@@ -14,15 +14,15 @@ use Rattle.answer.specs.Output as output
 use Rattle.answer.proofs.Below.{cond-case}
 use Rattle.editor.specs.Ledger.{Step, Ledger, Call, undo, redo, save, fed}
 use Rattle.editor.specs.Records.{Entry}
-use Rattle.editor.specs.Editor.{Editor, Turn, refused, withText, saved, turnOf, overlong, outputOf, undoLast, redoNext, saveStanding}
-use Rattle.editor.specs.Layout.{Outcome, refusing, taken, Layout, changed, laid, callOn, outcomeOf, after, heard}
-use Rattle.editor.specs.Demand.{Agrees, bytesFor, savedBytes, undone-by, Promised}
+use Rattle.editor.specs.Editor.{Editor, Turn, withText, saved, turnOf, overlong, outputOf, undoLast, redoNext, saveStanding}
+use Rattle.editor.specs.Layout.{Outcome, refusing, taken, Layout, laid, callOn, outcomeOf, after, heard}
+use Rattle.editor.specs.Demand.{bytesFor, savedBytes, undone-by, Promised}
 use Rattle.editor.proofs.Steps.{text-standing}
 use Rattle.editor.proofs.Ends.{entries, Fills, leaves, fills, Ends, refuses, gives, moves, records, turn-ends}
 use Rattle.editor.proofs.Held.{Frame, editorOf, ledgerOf, Good, Held, same, Legal, legal-of, legal, standing-steps, undone-steps, reading-kept}
 use Rattle.editor.proofs.Calls.{accepts, undo-some, redo-some, save-fills, held-turn}
 
--- an editor lies in a state of a layout: it is found there, and what a call changes is laid out so that it is found again
+-- an editor lies in a state of a layout: it is found there, and what a call makes of it lies in what the call leaves
 pub record Lays {S : Type 0} (layout : Layout S) (Lies : ℕ → S → Editor → Type 0) : Type 0 where
   pub short : {n : ℕ} {s : S} {e : Editor} → Lies n s e → layout .long s ≡ false
   pub sees : {n : ℕ} {s : S} {e : Editor} → Lies n s e → layout .editorIn s ≡ some e
@@ -79,7 +79,9 @@ module _ {S : Type 0} {layout : Layout S} {Lies : ℕ → S → Editor → Type 
     pub lies : Lies (length (frame .reading)) s (editorOf frame back undone)
     pub good : Good frame (reverseAux back undone)
 
-  pub kept : {arrived : List ℕ} {s : S} {e : Editor} {l : Ledger} → Lies (length (l .reading)) s e → Held arrived e l → Kept arrived s l
+  pub kept :
+      {arrived : List ℕ} {s : S} {e : Editor} {l : Ledger} → Lies (length (l .reading)) s e → Held arrived e l →
+      Kept arrived s l
   kept {s = s} lies h =
       record {
         frame = h .frame;
@@ -87,7 +89,8 @@ module _ {S : Type 0} {layout : Layout S} {Lies : ℕ → S → Editor → Type 
         undone = h .undone;
         ledger = h .ledger;
         lies =
-            subst₂ (λ (r : List ℕ) (e : Editor). Lies (length r) s e) (ap (λ (l : Ledger). l .reading) (h .ledger)) (h .editor) lies;
+            subst₂ (λ (r : List ℕ) (e : Editor). Lies (length r) s e) (ap (λ (l : Ledger). l .reading) (h .ledger))
+            (h .editor) lies;
         good = h .good;
       }
 
@@ -105,11 +108,8 @@ module _ {S : Type 0} {layout : Layout S} {Lies : ℕ → S → Editor → Type 
         let r : fed l c (accepts t) .reading ≡ l .reading = reading-kept l c (accepts t) in
         rw (k .ledger, outcome-is (k .lies) c)
         (cond-case (λ (o : Outcome S). Kept arrived (o .state) (fed l c (taken o))) (overlong c)
-        (λ _. record { frame = k .frame; back = k .back; undone = k .undone; ledger = refl; lies = k .lies; good = k .good })
-        (λ _. kept
-        (rw r
-        (turn-lies (k .lies) t (turn-ends (layout .spaceIn s) e c) (subst (λ (x : List ℕ). Legal (length x) (t .editor)) r (legal h))))
-        h))
+        (λ _. kept (k .lies) (same (k .frame) (k .back) (k .undone) (k .good)))
+        (λ _. kept (rw r (turn-lies (k .lies) t (turn-ends (layout .spaceIn s) e c) (rw r at (legal h)))) h))
 
     -- and so does a list of calls
     pub kept-calls :
@@ -143,7 +143,8 @@ module _ {S : Type 0} {layout : Layout S} {Lies : ℕ → S → Editor → Type 
     unfolding redoNext
     redo-answers back [] lies good = thirteen _ [] (ap (λ (r : Outcome S). r .verdict) (outcome-is lies redo)) refl
     redo-answers back (x ∷ undone) lies good =
-        zero-else _ (x ∷ undone) (ap taken (outcome-is lies redo) ∙ ap accepts (redo-some o back x undone good)) cons≢nil
+        zero-else _ (x ∷ undone) (ap taken (outcome-is lies redo) ∙ ap accepts (redo-some o back x undone good))
+        cons≢nil
 
     -- an undo that is accepted leaves the editor without its last step
     undo-lies :
@@ -178,12 +179,14 @@ module _ {S : Type 0} {layout : Layout S} {Lies : ℕ → S → Editor → Type 
         rw (outcome-is lies (save lent out))
         (cond-case (λ (r : Outcome S). taken r ≡ true → r ≡ savedBytes s out bytes) (overlong (save lent out))
         (λ _ q. absurd (false≢true q))
-        (λ _. subst (λ (u : Turn). taken (laid layout s u) ≡ true → laid layout s u ≡ savedBytes s out bytes) (sym (t .is))
+        (λ _.
+        subst (λ (u : Turn). taken (laid layout s u) ≡ true → laid layout s u ≡ savedBytes s out bytes) (sym (t .is))
         (fills-give s (editorOf o back undone) out bytes (t .fills))))
 
     -- where nothing stands, a save gives the arrived bytes
     saves-arrived :
-        (s : S) (undone : List Step) → LiesAt s [] undone → Good o undone → (out : List ℕ) → length arrived ≤ length out →
+        (s : S) (undone : List Step) → LiesAt s [] undone → Good o undone → (out : List ℕ) →
+        length arrived ≤ length out →
         outcomeOf layout s (save arrived out) ≡ savedBytes s out arrived
     unfolding saveStanding output.deliver
     saves-arrived s undone lies good out fits =
@@ -195,12 +198,13 @@ module _ {S : Type 0} {layout : Layout S} {Lies : ℕ → S → Editor → Type 
         )
 
   -- where undo gives 13, nothing stands
-  module _
-    {arrived : List ℕ}
-    (P : S → Ledger → Type 0)
-    (f : (o : Frame arrived) (s : S) (undone : List Step) → LiesAt o s [] undone → Good o undone → P s (ledgerOf o [] undone)) where
+  abbrev AtBottom : {arrived : List ℕ} → (S → Ledger → Type 0) → Frame arrived → Type 0
+  AtBottom P o = (s : S) (undone : List Step) → LiesAt o s [] undone → Good o undone → P s (ledgerOf o [] undone)
+
+  module _ {arrived : List ℕ} (P : S → Ledger → Type 0) (f : (o : Frame arrived) → AtBottom P o) where
     bottom-here :
-        (o : Frame arrived) {s : S} (back undone : List Step) → LiesAt o s back undone → Good o (reverseAux back undone) →
+        (o : Frame arrived) {s : S} (back undone : List Step) → LiesAt o s back undone →
+        Good o (reverseAux back undone) →
         outcomeOf layout s undo .verdict ≡ numbered 13 0 → P s (ledgerOf o back undone)
     bottom-here o {s} [] undone lies good e = f o s undone lies good
     bottom-here o (x ∷ back) undone lies good e =
@@ -208,7 +212,8 @@ module _ {S : Type 0} {layout : Layout S} {Lies : ℕ → S → Editor → Type 
         absurd (omega (arith, length-reverse (x ∷ back), ap length n))
 
     at-bottom : {s : S} {l : Ledger} → Kept arrived s l → outcomeOf layout s undo .verdict ≡ numbered 13 0 → P s l
-    at-bottom {s} k e = subst (P s) (sym (k .ledger)) (bottom-here (k .frame) (k .back) (k .undone) (k .lies) (k .good) e)
+    at-bottom {s} k e =
+        subst (P s) (sym (k .ledger)) (bottom-here (k .frame) (k .back) (k .undone) (k .lies) (k .good) e)
 
   module _ {arrived : List ℕ} {s : S} {l : Ledger} (k : Kept arrived s l) where
     brings-back :
@@ -225,14 +230,15 @@ module _ {S : Type 0} {layout : Layout S} {Lies : ℕ → S → Editor → Type 
         outcomeOf layout (undone-by layout n s) (save arrived out) ≡ savedBytes (undone-by layout n s) out arrived
     gives-back n =
         at-bottom
-        (λ s _. (out : List ℕ) → length arrived ≤ length out → outcomeOf layout s (save arrived out) ≡ savedBytes s out arrived)
+        (λ s _.
+        (out : List ℕ) → length arrived ≤ length out → outcomeOf layout s (save arrived out) ≡ savedBytes s out arrived)
         saves-arrived (kept-calls k (replicate n undo))
 
-  module _ {arrived : List ℕ} {s : S} (o : Frame arrived) (back undone : List Step) (lies : LiesAt o s back undone) (good : Good o (reverseAux back undone)) where
-    promised-here : Promised layout arrived s (ledgerOf o back undone)
-    promised-here =
-        let k : Kept arrived s (ledgerOf o back undone) =
-        record { frame = o; back = back; undone = undone; ledger = refl; lies = lies; good = good } in
+  module _ {arrived : List ℕ} {s : S} (o : Frame arrived) (back undone : List Step) where
+    promised-here :
+        LiesAt o s back undone → Good o (reverseAux back undone) → Promised layout arrived s (ledgerOf o back undone)
+    promised-here lies good =
+        let k : Kept arrived s (ledgerOf o back undone) = kept lies (same o back undone good) in
         let u = undo-answers o back undone lies good in
         let r = redo-answers o back undone lies good in
         record {
@@ -257,4 +263,5 @@ module _ {S : Type 0} {layout : Layout S} {Lies : ℕ → S → Editor → Type 
 
   pub promised : {arrived : List ℕ} {s : S} {l : Ledger} → Kept arrived s l → Promised layout arrived s l
   promised {arrived} {s} k =
-      subst (Promised layout arrived s) (sym (k .ledger)) (promised-here (k .frame) (k .back) (k .undone) (k .lies) (k .good))
+      subst (Promised layout arrived s) (sym (k .ledger))
+      (promised-here (k .frame) (k .back) (k .undone) (k .lies) (k .good))

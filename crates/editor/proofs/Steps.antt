@@ -34,7 +34,9 @@ abbrev pub recordsBack : List ℕ → List Step → List Entry
 recordsBack text [] = []
 recordsBack text (x ∷ back) = recordOf (textBack text back) x ∷ recordsBack text back
 
-pub text-in-order : (text : List ℕ) (back rest : List Step) → textAfter text (reverseAux back rest) ≡ textAfter (textBack text back) rest
+pub text-in-order :
+    (text : List ℕ) (back rest : List Step) →
+    textAfter text (reverseAux back rest) ≡ textAfter (textBack text back) rest
 unfolding textAfter
 text-in-order text [] rest = refl
 text-in-order text (x ∷ back) rest = text-in-order text back (x ∷ rest)
@@ -59,12 +61,15 @@ module _ (room : ℕ) where
   fits-first text [] f = f
   fits-first text (x ∷ rest) f = f .0
 
-  pub fits-rest : (text : List ℕ) (back rest : List Step) → Fits room text (reverseAux back rest) → Fits room (textBack text back) rest
+  pub fits-rest :
+      (text : List ℕ) (back rest : List Step) → Fits room text (reverseAux back rest) →
+      Fits room (textBack text back) rest
   fits-rest text [] rest f = f
   fits-rest text (x ∷ back) rest f = fits-rest text back (x ∷ rest) f .2
 
   pub fits-new :
-      (text : List ℕ) (back rest new : List Step) → Fits room text (reverseAux back rest) → Fits room (textBack text back) new →
+      (text : List ℕ) (back rest new : List Step) → Fits room text (reverseAux back rest) →
+      Fits room (textBack text back) new →
       Fits room text (reverseAux back new)
   fits-new text [] rest new f g = g
   fits-new text (x ∷ back) rest new f g =
@@ -81,25 +86,34 @@ module _ (text : List ℕ) (x : Step) (within : x .place + x .count ≤ length t
   pub applied-stepped : applied (recordOf text x) text ≡ stepped x text
   applied-stepped = rw length-removed
 
-pub lengths-fit : (room : ℕ) (text : List ℕ) (steps : List Step) → Fits room text steps → lengthsFit room (length text) (recordsOf text steps) ≡ true
+pub lengths-fit :
+    (room : ℕ) (text : List ℕ) (steps : List Step) → Fits room text steps →
+    lengthsFit room (length text) (recordsOf text steps) ≡ true
 unfolding lengthsFit
 lengths-fit room text [] f = refl
 lengths-fit room text (x ∷ rest) f =
     let cut = length-removed text x (f .1) in
     let long = length-stepped text x (f .1) in
     let within : x .place + length (recordOf text x .removed) ≤ length text = omega (arith, f .1) in
-    let below : lengthAfter (length text) (recordOf text x) ≤ room = omega (arith, fits-first room (stepped x text) rest (f .2)) in
+    let below : lengthAfter (length text) (recordOf text x) ≤ room =
+    omega (arith, fits-first room (stepped x text) rest (f .2)) in
     and-true _ _ (and-true _ _ (le-leb _ _ within) (le-leb _ _ below))
-    (subst (λ (n : ℕ). lengthsFit room n (recordsOf (stepped x text) rest) ≡ true) long (lengths-fit room (stepped x text) rest (f .2)))
+    (subst (λ (n : ℕ). lengthsFit room n (recordsOf (stepped x text) rest) ≡ true) long
+    (lengths-fit room (stepped x text) rest (f .2)))
 
-pub length-reached : (room : ℕ) (text : List ℕ) (steps : List Step) → Fits room text steps → reached (length text) (recordsOf text steps) ≡ length (textAfter text steps)
+pub length-reached :
+    (room : ℕ) (text : List ℕ) (steps : List Step) → Fits room text steps →
+    reached (length text) (recordsOf text steps) ≡ length (textAfter text steps)
 unfolding reached textAfter
 length-reached room text [] f = refl
 length-reached room text (x ∷ rest) f =
-    ap (λ (n : ℕ). reached n (recordsOf (stepped x text) rest)) (sym (length-stepped text x (f .1))) ∙ length-reached room (stepped x text) rest (f .2)
+    ap (λ (n : ℕ). reached n (recordsOf (stepped x text) rest)) (sym (length-stepped text x (f .1)))
+    ∙ length-reached room (stepped x text) rest (f .2)
 
 -- the records of steps are of those steps
-pub steps-of : (room : ℕ) (text : List ℕ) (steps : List Step) → Fits room text steps → map stepOf (recordsOf text steps) ≡ steps
+pub steps-of :
+    (room : ℕ) (text : List ℕ) (steps : List Step) → Fits room text steps → map stepOf (recordsOf text steps) ≡ steps
 steps-of room text [] f = refl
 steps-of room text (x ∷ rest) f =
-    λ i. record { place = x .place; count = length-removed text x (f .1) i; added = x .added } ∷ steps-of room (stepped x text) rest (f .2) i
+    λ i. record { place = x .place; count = length-removed text x (f .1) i; added = x .added }
+    ∷ steps-of room (stepped x text) rest (f .2) i

@@ -14,7 +14,7 @@ use Rattle.editor.specs.Records.{stepOf}
 use Rattle.editor.specs.Editor.{Editor, outputOf}
 use Rattle.editor.specs.Layout.{Outcome, taken, Layout, outcomeOf, after}
 
--- "the records are proved to agree with it, step for step, in place, count removed and cells added": the state is sound, too
+-- "the records are proved to agree with it, step for step, in place, count removed and cells added"; the state is sound
 pub record Agrees (found : Option Editor) (l : Ledger) : Type 0 where
   pub editor : Editor
   pub sound : found ≡ some editor
@@ -40,8 +40,8 @@ module _ {S : Type 0} (layout : Layout S) where
     pub agrees : Agrees (layout .editorIn s) l
     -- "the first length cells of the text buffer equal the ledger's text"
     pub text : layout .textIn s ≡ textOf l
-    -- "An undo then gives 13 exactly when the standing list is empty, a redo exactly when the undone list is; else they are
-    -- accepted."
+    -- "An undo then gives 13 exactly when the standing list is empty, a redo exactly when the undone list is; else they
+    -- are accepted."
     pub undo-none : (outcomeOf layout s undo .verdict ≡ numbered 13 0) ↔ (l .standing ≡ [])
     pub undo-some : (l .standing ≡ [] → ⊥) → taken (outcomeOf layout s undo) ≡ true
     pub redo-none : (outcomeOf layout s redo .verdict ≡ numbered 13 0) ↔ (l .undone ≡ [])

@@ -20,8 +20,8 @@ pub record Editor : Type 0 where
   pub standing : List Entry
   pub undone : List Entry
 
--- what has to be laid out anew: nothing (save and every refusal); the text and how many records stand (undo and redo); a
--- new record as well, in place of those that could be redone (replace)
+-- what has to be laid out anew: nothing (save and every refusal); the text and how many records stand (undo and redo);
+-- a new record as well, in place of those that could be redone (replace)
 pub data Change : Type 0 where
   stays : Change
   moves : Change
@@ -86,8 +86,8 @@ replaceAt space e place count cells =
 abbrev pub saved : Editor → output.Outcome → Turn
 saved e o = record { verdict = o .verdict; output = o .out; editor = e; change = stays }
 
--- "if no step stands, the arrived bytes, lent again, as they are; otherwise the text written in the page's kind": 15 where
--- no step stands or 10 where one does, then 9
+-- "if no step stands, the arrived bytes, lent again, as they are; otherwise the text written in the page's kind"; "15
+-- where no step stands or 10 where one does, then 9"
 unfoldable pub saveStanding : Editor → List ℕ → List ℕ → List Entry → Turn
 saveStanding e arrived out [] =
     saved e

@@ -1,4 +1,4 @@
--- A layout of an editor in some state, such as a page and the buffers lent beside it; and a list of calls on such a state.
+-- A layout of an editor in some state, such as a page with the buffers lent beside it; and a list of calls on a state.
 use Prim.Native.Nat.{ℕ}
 use mathlib.Core.Bool.{Bool, cond, _||_}
 use mathlib.Core.List.{List, [], _∷_}

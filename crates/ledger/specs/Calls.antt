@@ -1,5 +1,5 @@
--- Document 01, "The page" and "Numbers given back": the five calls and everything they leave. Replace, undo, redo and save
--- are the editor's, laid out in the page.
+-- Document 01, "The page" and "Numbers given back": the five calls, and everything they leave. Replace, undo, redo and
+-- save are the editor's calls, laid out in the page.
 use Prim.Native.Nat.{ℕ}
 use mathlib.Core.Bool.{cond, _||_}
 use mathlib.Core.List.{List, []}
@@ -54,7 +54,8 @@ openedOn kind cells text history =
 
 unfoldable pub openRead : Kind → List ℕ → List ℕ → Ending → List ℕ → Outcome
 openRead kind text history accepted cells =
-    cond (ltb (length text) (length cells)) (refusing (stateOf (noPage kind) text history) [] (numbered 9 (length cells)))
+    cond (ltb (length text) (length cells))
+    (refusing (stateOf (noPage kind) text history) [] (numbered 9 (length cells)))
     (openedOn kind cells text history)
 openRead kind text history (fault k place) cells = refusing (stateOf (noPage kind) text history) [] (numbered k place)
 

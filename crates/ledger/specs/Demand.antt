@@ -1,5 +1,5 @@
--- Demand 3 of the page: one claim about every list of calls after an accepted open. And "A refusal changes no page and no
--- buffer", of every call on every state.
+-- Demand 3 of the page: "a single claim about the whole list of calls" after an accepted open. And "A refusal changes
+-- no page and no buffer", of every call on every state.
 use Prim.Native.Nat.{ℕ}
 use mathlib.Core.Path.{_≡_}
 use mathlib.Core.Bool.{true, false}
@@ -14,15 +14,17 @@ use Rattle.ledger.specs.Layout.{page}
 use Rattle.ledger.specs.Calls.{noPage, openOf}
 use Rattle.ledger.specs.Running.{after, heard}
 
--- what holds of a page with its buffers and of the ledger that heard the calls that led to it: the records agree with the
--- ledger, the text is the ledger's, undo, redo and save answer by the ledger, and undo leads back to the arrived bytes
+-- what holds of a page with its buffers, and of the ledger that heard the calls that led to it (editor, Demand): the
+-- records agree with the ledger step for step, the text is the ledger's, undo, redo and save answer by the ledger, and
+-- undo leads back to the arrived bytes
 abbrev pub Promised : List ℕ → State → Ledger → Type 0
 Promised arrived s l = editor.Promised page arrived s l
 
 -- for every kind, arrived bytes, buffers and list of calls
 abbrev pub Demand3 : Type 0
 Demand3 =
-    (kind : Kind) (arrived text history : List ℕ) → taken (openOf kind arrived text history) ≡ true → (calls : List Call) →
+    (kind : Kind) (arrived text history : List ℕ) → taken (openOf kind arrived text history) ≡ true →
+    (calls : List Call) →
     Promised arrived (after (openOf kind arrived text history .state) calls)
     (heard (opened kind arrived) (openOf kind arrived text history .state) calls)
 

@@ -25,7 +25,7 @@ use Rattle.records.specs.declared.Judged.the-variants.{Unfit}
 use Rattle.records.specs.Walking.{judgeOf}
 use Rattle.records.proofs.Found.{Fit, unfit}
 use Rattle.splice.specs.Splice.{spliced}
-use Rattle.page.specs.Outcomes.{editedAs, bare, replaceFitting, replaceSound}
+use Rattle.page.specs.Outcomes.{editedAs, replaceFitting, replaceSound}
 
 -- what is made of two tests that go the same way is the same if it is so on either side
 by-test :
@@ -95,11 +95,16 @@ module _ (s : State) (place count : ℕ) (cells : List ℕ) where
     text-is : length (textIn s) ≡ s .page .length
     text-is = length-take-le (s .page .length) (s .text) fits
 
-    pub beyond : s .page .length < place + count → replaceSound s place count cells ≡ refusing s [] (numbered 11 (s .page .length))
+    pub beyond :
+        s .page .length < place + count →
+        replaceSound s place count cells ≡ refusing s [] (numbered 11 (s .page .length))
     unfolding replaceSound editor.replaceAt
     beyond q = rw (text-is, lt-ltb (s .page .length) (place + count) q)
 
-    module _ (within : place + count ≤ s .page .length) (first : ℕ) (e : first ≡ firstUnwritable (s .page .kind) cells) where
+    module _
+        (within : place + count ≤ s .page .length)
+        (first : ℕ)
+        (e : first ≡ firstUnwritable (s .page .kind) cells) where
       pub unwritable : first < length cells → replaceSound s place count cells ≡ refusing s [] (numbered 10 first)
       unfolding replaceSound editor.replaceAt
       unwritable q = rw (text-is, le-ltb (s .page .length) (place + count) within, ← e, lt-ltb first (length cells) q)
@@ -113,7 +118,9 @@ module _ (s : State) (place count : ℕ) (cells : List ℕ) where
   replace-long q = rw q
 
   -- whatever the records are
-  any-records : (v : Parted) → laid page s (editor.replaceAt (spaceIn s) (editorOf s v) place count cells) ≡ replaceSound s place count cells
+  any-records :
+      (v : Parted) →
+      laid page s (editor.replaceAt (spaceIn s) (editorOf s v) place count cells) ≡ replaceSound s place count cells
   unfolding replaceSound editor.replaceAt editor.replaceFitting
   any-records v =
       by-test (laid page s) (ltb (length (textIn s)) (place + count)) refl

@@ -53,7 +53,8 @@ keeping s o = record { verdict = o .verdict; state = s; output = o .out }
 module _ (s : State) (arrived out : List ℕ) where
   saved-standing :
       (v : Parted) (standing : List Entry) → sizes standing ≡ s .page .done →
-      laid page s (saveStanding (editorOf s v) arrived out standing) ≡ keeping s (savedIn (s .page) (textIn s) arrived out)
+      laid page s (saveStanding (editorOf s v) arrived out standing)
+      ≡ keeping s (savedIn (s .page) (textIn s) arrived out)
   unfolding saveStanding
   saved-standing v [] e = rw (eq-eqb (s .page .done) 0 (sym e))
   saved-standing v (x ∷ back) e =

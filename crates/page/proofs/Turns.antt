@@ -134,8 +134,10 @@ pub record Ready (forward : Bool) (s : State) (at : ℕ) : Type 0 where
 
 -- the step to be moved over is the last that stands, or the first undone one
 abbrev next : Bool → State → List Entry → List Entry → Outcome
-next false s standing undone = laid page s (undoLast (editorOf s (record { standing = standing; undone = undone })) standing)
-next true s standing undone = laid page s (redoNext (editorOf s (record { standing = standing; undone = undone })) undone)
+next false s standing undone =
+    laid page s (undoLast (editorOf s (record { standing = standing; undone = undone })) standing)
+next true s standing undone =
+    laid page s (redoNext (editorOf s (record { standing = standing; undone = undone })) undone)
 
 module _ (s : State) where
   ready-at :
@@ -200,13 +202,14 @@ module _ (s : State) where
         let r : At (s .history) last e = rw at at (record-at s back e undone (h .tiles)) in
         let long : s .page .length ≡ lengthAfter (before s back e undone) e =
         sym (h .reach) ∙ ap (reached (s .page .opening)) (reverseAux-eq back (e ∷ [])) ∙ reached-append (s .page .opening) (reverse back) (e ∷ []) in
-        ready-at false last e r (moves-back back e undone last r (lengths s back e undone (fr .opens) (h .fits)) long (rw (← at) o))
+        ready-at false last e r
+        (moves-back back e undone last r (lengths s back e undone (fr .opens) (h .fits)) long (rw (← at) o))
     ready-next true standing [] h o b q = absurd (q (omega (arith, ends standing [] h)))
     ready-next true standing (e ∷ rest) h o b q =
         let r : At (s .history) (s .page .done) e = rw (h .end) at (record-at s standing e rest (h .tiles)) in
         ready-at true (s .page .done) e r
-        (moves-forward standing e rest (s .page .done) r (lengths s standing e rest (fr .opens) (h .fits)) (sym (h .reach))
-        (o ∙ ap (λ (n : ℕ). moved s e (n + sizeOf e)) (h .end)))
+        (moves-forward standing e rest (s .page .done) r (lengths s standing e rest (fr .opens) (h .fits))
+        (sym (h .reach)) (o ∙ ap (λ (n : ℕ). moved s e (n + sizeOf e)) (h .end)))
 
     none-next :
         (forward : Bool) (standing undone : List Entry) → Sound s (record { standing = standing; undone = undone }) →
