@@ -11,11 +11,14 @@ use Rattle.answer.specs.Answer.{numbered}
 use Rattle.answer.specs.Output as output
 use Rattle.answer.proofs.Below.{cond-case}
 use Rattle.codec.specs.Kinds.{firstUnwritable, readsAs, writingIn, writeIn}
-use Rattle.editor.specs.Ledger.{Step, Ledger, Call, replace, undo, redo, save, lastOf, beforeLast, acceptedCall, fed, textOf}
+use Rattle.editor.specs.Ledger.{Step, Ledger, Call, replace, undo, redo, save, lastOf, beforeLast, acceptedCall}
+use Rattle.editor.specs.Ledger.{fed, textOf}
 use Rattle.editor.specs.Records.{Entry, applied, turned}
-use Rattle.editor.specs.Editor.{Editor, Space, Turn, moves, edited, saved, undoLast, redoNext, replaceFitting, replaceAt, saveStanding, turnOf}
+use Rattle.editor.specs.Editor.{Editor, Space, Turn, moves, edited, saved, undoLast, redoNext, replaceFitting}
+use Rattle.editor.specs.Editor.{replaceAt, saveStanding, turnOf}
 use Rattle.editor.specs.Demand.{bytesFor}
-use Rattle.editor.proofs.Steps.{recordOf, recordsBack, recordsOf, fits-rest, fits-new, applied-stepped, text-standing}
+use Rattle.editor.proofs.Steps.{recordOf, recordsBack, recordsOf, fits-rest, fits-new, applied-stepped}
+use Rattle.editor.proofs.Steps.{text-standing}
 use Rattle.editor.proofs.Turned.{turned-back, removes-entry}
 use Rattle.editor.proofs.Ends.{Fills, leaves, deliver-fills, write-fills}
 use Rattle.editor.proofs.Held.{Frame, textAt, editorOf, ledgerOf, Good, Held, same, text-fits}

@@ -10,10 +10,12 @@ use Rattle.answer.specs.Output.{deliver}
 use Rattle.codec.specs.declared.Kind.the-variants.{Utf7Body}
 use Rattle.codec.specs.Kinds.{firstUnwritable}
 use Rattle.codec.proofs.ByKind.{write-form}
-use Rattle.codec.proofs.Worked.{letter, cellsRead, cellsEdited, cellsGreat, written, letter-reads-as, letter-reads-other, sign-writable, great-unwritable, edited-writable, edited-writes}
+use Rattle.codec.proofs.Worked.{letter, cellsRead, cellsEdited, cellsGreat, written, letter-reads-as}
+use Rattle.codec.proofs.Worked.{letter-reads-other, sign-writable, great-unwritable, edited-writable, edited-writes}
 use Rattle.editor.specs.Ledger.{replace, undo, redo, save}
 use Rattle.editor.specs.Records.{Entry}
-use Rattle.editor.specs.Editor.{Editor, Space, moves, records, edited, saved, undoLast, redoNext, replaceFitting, replaceAt, saveStanding, turnOf}
+use Rattle.editor.specs.Editor.{Editor, Space, moves, records, edited, saved, undoLast, redoNext, replaceFitting}
+use Rattle.editor.specs.Editor.{replaceAt, saveStanding, turnOf}
 
 -- a body text in a buffer of this length, with standing and undone records
 abbrev editing : ℕ → List ℕ → List Entry → List Entry → Editor

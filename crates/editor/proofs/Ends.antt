@@ -15,7 +15,8 @@ use Rattle.codec.specs.Kinds.{firstUnwritable, writingIn, readsAs, writeIn}
 use Rattle.codec.proofs.ByKind.{write-form}
 use Rattle.editor.specs.Ledger.{Call, replace, undo, redo, save}
 use Rattle.editor.specs.Records.{Entry, applied, entryAt}
-use Rattle.editor.specs.Editor.{Editor, Space, Turn, refused, edited, saved, undoLast, redoNext, replaceFitting, replaceAt, saveStanding, turnOf, over, overlong, outputOf}
+use Rattle.editor.specs.Editor.{Editor, Space, Turn, refused, edited, saved, undoLast, redoNext, replaceFitting}
+use Rattle.editor.specs.Editor.{replaceAt, saveStanding, turnOf, over, overlong, outputOf}
 use Rattle.editor.specs.Editor as change
 use Rattle.editor.specs.Layout.{Outcome, refusing, taken, Layout, laid, callOn, outcomeOf}
 use Rattle.editor.specs.Demand.{Unchanged, RefusedSame}

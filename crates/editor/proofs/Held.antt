@@ -11,7 +11,8 @@ use Rattle.editor.specs.Ledger.{Step, Ledger, Call, replace, undo, redo,
 use Rattle.editor.specs.Records.{stepOf, lengthsFit, reached}
 use Rattle.editor.specs.Editor.{Editor}
 use Rattle.editor.proofs.Ends.{entries}
-use Rattle.editor.proofs.Steps.{recordsOf, recordsBack, textBack, Fits, fits-first, fits-rest, fits-new, lengths-fit, length-reached, records-in-order, text-standing, steps-of}
+use Rattle.editor.proofs.Steps.{recordsOf, recordsBack, textBack, Fits, fits-first, fits-rest, fits-new}
+use Rattle.editor.proofs.Steps.{lengths-fit, length-reached, records-in-order, text-standing, steps-of}
 
 -- all of an editor but its steps, where these bytes arrived
 pub record Frame (arrived : List ℕ) : Type 0 where

@@ -14,12 +14,14 @@ use Rattle.answer.specs.Output as output
 use Rattle.answer.proofs.Below.{cond-case}
 use Rattle.editor.specs.Ledger.{Step, Ledger, Call, undo, redo, save, fed}
 use Rattle.editor.specs.Records.{Entry}
-use Rattle.editor.specs.Editor.{Editor, Turn, withText, saved, turnOf, overlong, outputOf, undoLast, redoNext, saveStanding}
+use Rattle.editor.specs.Editor.{Editor, Turn, withText, saved, turnOf, overlong, outputOf, undoLast, redoNext}
+use Rattle.editor.specs.Editor.{saveStanding}
 use Rattle.editor.specs.Layout.{Outcome, refusing, taken, Layout, laid, callOn, outcomeOf, after, heard}
 use Rattle.editor.specs.Demand.{bytesFor, savedBytes, undone-by, Promised}
 use Rattle.editor.proofs.Steps.{text-standing}
 use Rattle.editor.proofs.Ends.{entries, Fills, leaves, fills, Ends, refuses, gives, moves, records, turn-ends}
-use Rattle.editor.proofs.Held.{Frame, editorOf, ledgerOf, Good, Held, same, Legal, legal-of, legal, standing-steps, undone-steps, reading-kept}
+use Rattle.editor.proofs.Held.{Frame, editorOf, ledgerOf, Good, Held, same, Legal, legal-of, legal}
+use Rattle.editor.proofs.Held.{standing-steps, undone-steps, reading-kept}
 use Rattle.editor.proofs.Calls.{accepts, undo-some, redo-some, save-fills, held-turn}
 
 -- an editor lies in a state of a layout: it is found there, and what a call makes of it lies in what the call leaves

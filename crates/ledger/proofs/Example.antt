@@ -12,7 +12,8 @@ use Rattle.reading.specs.Reading.{fault}
 use Rattle.codec.specs.declared.Kind.the-variants.{Utf7Body}
 use Rattle.codec.specs.Kinds.{firstUnwritable}
 use Rattle.codec.proofs.ByKind.{write-form}
-use Rattle.codec.proofs.Worked.{letter, cellsRead, cellsEdited, written, letter-reads, letter-reads-as, sign-writable, edited-writable, edited-writes}
+use Rattle.codec.proofs.Worked.{letter, cellsRead, cellsEdited, written, letter-reads, letter-reads-as, sign-writable}
+use Rattle.codec.proofs.Worked.{edited-writable, edited-writes}
 use Rattle.editor.specs.Records.{reached, lengthsFit}
 use Rattle.editor.specs.Editor.{undoLast, redoNext, replaceFitting, replaceAt, saveStanding}
 use Rattle.editor.specs.Layout as editor
@@ -60,7 +61,8 @@ pub record Worked : Type 0 where
   pub four-words : replaceOf (page 0 0 (cellsRead ++ 0 ∷ []) (replicate 4 0)) 1 1 (0x3D ∷ []) .verdict ≡ numbered 12 5
 
 pub worked : Worked
-unfolding limit recordsIn reached lengthsFit partAt zeros framed reachedAtDone fitting records editor.callOn editor.outcomeOf undoLast redoNext replaceFitting replaceAt saveStanding output.deliver openRead openOf
+unfolding limit recordsIn reached lengthsFit partAt zeros framed reachedAtDone fitting records editor.callOn
+    editor.outcomeOf undoLast redoNext replaceFitting replaceAt saveStanding output.deliver openRead openOf
 worked =
     record {
       opens = rw letter-reads;
@@ -92,7 +94,8 @@ pub record Damaged : Type 0 where
       ≡ numbered 14 0
 
 pub damaged : Damaged
-unfolding limit recordsIn reached lengthsFit partAt zeros framed reachedAtDone fitting records editor.callOn editor.outcomeOf undoLast
+unfolding limit recordsIn reached lengthsFit partAt zeros framed reachedAtDone fitting records editor.callOn
+    editor.outcomeOf undoLast
 damaged =
     record {
       text-past-length = refl;
@@ -114,7 +117,8 @@ pub record Ordered : Type 0 where
   pub open-fault : openRead Utf7Body [] [] (fault 2 2) (0x41 ∷ []) .verdict ≡ numbered 2 2
 
 pub ordered : Ordered
-unfolding limit recordsIn reached lengthsFit partAt zeros framed reachedAtDone fitting records editor.callOn editor.outcomeOf openRead
+unfolding limit recordsIn reached lengthsFit partAt zeros framed reachedAtDone fitting records editor.callOn
+    editor.outcomeOf openRead
 ordered = record { replace-14 = refl; undo-14 = refl; redo-14 = refl; save-14 = refl; open-fault = refl }
 
 -- what is recorded: "room of dropped steps is used again", and "Removing nothing and adding nothing is a step too."
@@ -123,7 +127,8 @@ pub record Recorded : Type 0 where
   pub nothing : replaceOf onOpen 1 0 [] ≡ accepts 4 (page 3 3 (cellsRead ++ 0 ∷ []) (1 ∷ 0 ∷ 0 ∷ 0 ∷ 0 ∷ [])) []
 
 pub recorded : Recorded
-unfolding limit recordsIn reached lengthsFit partAt zeros framed reachedAtDone fitting records editor.callOn editor.outcomeOf replaceFitting replaceAt
+unfolding limit recordsIn reached lengthsFit partAt zeros framed reachedAtDone fitting records editor.callOn
+    editor.outcomeOf replaceFitting replaceAt
 recorded =
     record {
       room-again = rw sign-writable;

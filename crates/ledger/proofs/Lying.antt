@@ -18,7 +18,8 @@ use Rattle.editor.proofs.Promises.{Lays}
 use Rattle.ledger.specs.Words.{Entry, wordsOf, sizeOf, sizes, pad}
 use Rattle.ledger.specs.Page.{State, stateOf, framed, records}
 use Rattle.ledger.specs.Layout.{page}
-use Rattle.ledger.proofs.Words.{length-pad, take-pad, zeros-pad, words, length-words, words-append, sizes-reverse}
+use Rattle.ledger.proofs.Words.{length-pad, take-pad, zeros-pad, words, length-words, words-append}
+use Rattle.ledger.proofs.Words.{sizes-reverse}
 use Rattle.ledger.proofs.Sound.{Sound, sound-records}
 
 -- the page with its buffers in which an editor lies, by its opening length and the length of its history

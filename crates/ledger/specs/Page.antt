@@ -41,7 +41,9 @@ reachedAtDone page (some v) = cond (eqb (reached (page .opening) (reverse (v .st
 unfoldable pub fitting : State → Option (List Entry) → Option Parted
 fitting s none = none
 fitting s (some es) =
-    cond (lengthsFit (length (s .text)) (s .page .opening) es) (reachedAtDone (s .page) (partAt es (s .page .done) [])) none
+    cond (lengthsFit (length (s .text)) (s .page .opening) es)
+    (reachedAtDone (s .page) (partAt es (s .page .done) []))
+    none
 
 -- the records of a sound page, parted at done; none where the page is not sound
 unfoldable pub records : State → Option Parted

@@ -1,4 +1,5 @@
--- Soundness in two parts, the records before done and those after it: what the code computes. proofs/Parts.antt: it is document 01's.
+-- Soundness in two parts, the records before done and those after it: what the code computes. proofs/Parts.antt: it is
+-- document 01's.
 use Prim.Native.Nat.{_-_}
 use mathlib.Core.Bool.{cond, _&&_}
 use mathlib.Core.List.{List, reverse}
