@@ -152,7 +152,7 @@ fn save(p: Page, words: &[u8], letter: &[u8], text: &[u32], history: &[u32]) {
         replies::complain(b"save FILE: the name is missing");
         return;
     }
-    let mut out = [0u8; 393219];
+    let mut out = [0u8; codec::Kind::MOST_BYTES];
     save_in(p, &words[..end], letter, text, history, &mut out);
 }
 
