@@ -30,7 +30,7 @@ unfoldable pub groups : ℕ → ℕ → List Bool → List ℕ
 groups w zero bs = []
 groups w (suc k) bs = number (take w bs) ∷ groups w k (drop w bs)
 
--- "each full w bits", as numbers; and the bits left over
+-- "each full 16 bits are a unit": each full w bits as a number; and the bits left over
 unfoldable pub full : ℕ → List Bool → List ℕ
 full w bs = groups w (length bs / w) bs
 
