@@ -6,7 +6,7 @@ use Rattle.commands.specs.Lines.{stretch, same, verbOf, saidIn}
 use Rattle.desk.specs.Desk.{quits}
 
 pub record Cases : Type 0 where
-  -- "quit", alone and with a word behind it
+  -- `quit`, alone and with a word behind it
   pub quit : quits (113 ∷ 117 ∷ 105 ∷ 116 ∷ 10 ∷ []) ≡ true
   pub followed : quits (113 ∷ 117 ∷ 105 ∷ 116 ∷ 32 ∷ 49 ∷ 10 ∷ []) ≡ false
   -- "undo", and an empty line

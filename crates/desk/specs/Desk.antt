@@ -15,14 +15,14 @@ use Rattle.commands.specs.Numbers.{numbers}
 use Rattle.commands.specs.declared.Verb.{Verb}
 use Rattle.commands.specs.declared.Verb.the-variants.{Nothing, Show, Replace, Undo, Redo, Save, Quit, Unknown}
 
--- "replace PLACE COUNT CELL..", where all of it can be read
+-- `replace PLACE COUNT CELL..`, where all of it can be read
 abbrev pub replacing : Ending → List ℕ → Option Call
 replacing accepted [] = none
 replacing accepted (place ∷ []) = none
 replacing accepted (place ∷ count ∷ cells) = some (replace place count cells)
 replacing (fault k at) cells = none
 
--- what a command asks for: "undo" and "redo" stand alone, "show", "save" and "quit" change nothing
+-- what a command asks for: `undo` and `redo` stand alone, `show`, `save` and `quit` change nothing
 abbrev pub asked : Verb → List ℕ → Option Call
 asked Replace words = replacing (reading numbers words .ending) (reading numbers words .cells)
 asked Undo words = cond (eqb (length words) 0) (some undo) none
@@ -33,7 +33,7 @@ asked Save words = none
 asked Quit words = none
 asked Unknown words = none
 
--- "quit" leaves the desk where nothing follows it
+-- `quit` leaves the desk where nothing follows it
 abbrev pub leaving : Verb → List ℕ → Bool
 leaving Quit words = eqb (length words) 0
 leaving Nothing words = false

@@ -46,7 +46,7 @@ fn replace_by(p: Page, numbers: &[u32], text: &mut [u32], history: &mut [u32]) -
     told(page::replace(p, place, count, &numbers[2..], &mut *text, &mut *history))
 }
 
-// "replace PLACE COUNT CELL.."
+// `replace PLACE COUNT CELL..`
 fn replace(p: Page, words: &[u8], text: &mut [u32], history: &mut [u32]) -> Page
     requires { ⌜ length (now words) ≤ limit ⌝ }
     ensures { λ r. ⌜ stateOf r (now (text .exit)) (now (history .exit))
@@ -82,7 +82,7 @@ fn alone(words: &[u8]) -> bool
     false
 }
 
-// "undo"
+// `undo`
 fn undo(p: Page, words: &[u8], text: &mut [u32], history: &[u32]) -> Page
     ensures { λ r. ⌜ stateOf r (now (text .exit)) (now (history .entry))
         ≡ afterCall (asked Undo (now (words .entry))) (stateOf p (now (text .entry)) (now (history .entry))) ⌝ }
@@ -93,7 +93,7 @@ fn undo(p: Page, words: &[u8], text: &mut [u32], history: &[u32]) -> Page
     told(lent::undo_kept(p, &mut *text, history))
 }
 
-// "redo"
+// `redo`
 fn redo(p: Page, words: &[u8], text: &mut [u32], history: &[u32]) -> Page
     ensures { λ r. ⌜ stateOf r (now (text .exit)) (now (history .entry))
         ≡ afterCall (asked Redo (now (words .entry))) (stateOf p (now (text .entry)) (now (history .entry))) ⌝ }
@@ -104,7 +104,7 @@ fn redo(p: Page, words: &[u8], text: &mut [u32], history: &[u32]) -> Page
     told(lent::redo_kept(p, &mut *text, history))
 }
 
-// "show"
+// `show`
 fn show(p: Page, words: &[u8], text: &[u32]) {
     if !alone(words) {
         return;
@@ -145,7 +145,7 @@ fn save_in(p: Page, name: &[u8], letter: &[u8], text: &[u32], history: &[u32], o
     }
 }
 
-// "save FILE": the name goes to the end of the line and may hold spaces. The answer is told when the file is in its place.
+// `save FILE`: the name goes to the end of the line and may hold spaces. The answer is told when the file is in its place.
 fn save(p: Page, words: &[u8], letter: &[u8], text: &[u32], history: &[u32]) {
     let end = name_end(words);
     if end == 0 {

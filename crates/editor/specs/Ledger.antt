@@ -45,7 +45,7 @@ withSteps l standing undone = record { kind = l .kind; reading = l .reading; sta
 
 -- "An accepted replace puts its step at the end of the standing list and empties the undone list." "An accepted undo
 -- moves the last standing step, if any, to the front of the undone list. An accepted redo moves the first undone step,
--- if any, to the end of the standing list." "Save [..] change[s] nothing."
+-- if any, to the end of the standing list." "Save and every refused call change nothing."
 unfoldable pub acceptedCall : Ledger → Call → Ledger
 acceptedCall l (replace place count cells) =
     withSteps l (l .standing ++ record { place = place; count = count; added = cells } ∷ []) []
@@ -53,7 +53,7 @@ acceptedCall l undo = withSteps l (beforeLast (l .standing)) (lastOf (l .standin
 acceptedCall l redo = withSteps l (l .standing ++ take 1 (l .undone)) (drop 1 (l .undone))
 acceptedCall l (save arrived out) = l
 
--- "each call with its arguments and whether it was accepted"; "every refused call change[s] nothing"
+-- "each call with its arguments and whether it was accepted"; "Save and every refused call change nothing."
 abbrev pub fed : Ledger → Call → Bool → Ledger
 fed l call taken = cond taken (acceptedCall l call) l
 

@@ -28,7 +28,7 @@ editorFor s (some v) = some (editorOf s v)
 abbrev pub spaceIn : State → Space
 spaceIn s = record { words = length (s .history); needed = λ e. s .page .done + sizeOf e }
 
--- after an accepted edit "text past the length [is] 0"
+-- "After an accepted open, replace, undo or redo, text past the length and history past *used* are 0."
 abbrev pub left : State → List ℕ → ℕ → ℕ → List ℕ → State
 left s text used done history =
     stateOf

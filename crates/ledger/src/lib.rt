@@ -2,7 +2,7 @@
 use answer::Answer;
 use codec::Kind;
 
-// "A page has a kind, an opening length, a length, words used and words done."
+// "A page has a kind (UTF-7 header, UTF-7 body, JP-2), an opening length, a length, words used and words done."
 pub struct Page {
     pub kind: Kind,
     pub opening: usize,
