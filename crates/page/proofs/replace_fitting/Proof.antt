@@ -57,10 +57,13 @@ part-put-record-end c = search needs
 
 put-record-requires : tie.Need-put-record-requires
 put-record-requires c κs =
-    let a = c .before .before .before .before .before .before .before .before .before .args in
+    let b = c .before .before .before .before .before .before .before .before .before in
+    let a = b .args in
+    let p = b .pre in
     let s : State = stateOf (a .page) (a .text .now) (a .history .now) in
-    let n = length-part s (a .place) (a .count) (a .cells .now) (omega arith) (omega arith) in
-    (c .before .before .before .before .before .before .before .before .before .pre .3, omega arith, omega arith, omega (arith, limit-small), omega (arith, limit-small), omega (arith, limit-small))
+    let k = c .before .before .before .if2 .left in
+    let n = length-part s (a .place) (a .count) (a .cells .now) (omega (arith, p)) (omega (arith, p)) in
+    (p .3, omega (arith, p), omega (arith, p, k), omega (arith, p, limit-small), omega (arith, p, limit-small), omega (arith, p, limit-small))
 
 accept-requires : tie.Need-accept-requires
 accept-requires c κs = search needs
