@@ -9,7 +9,7 @@ pub record Cases : Type 0 where
   -- `quit`, alone and with a word behind it
   pub quit : quits (113 ∷ 117 ∷ 105 ∷ 116 ∷ 10 ∷ []) ≡ true
   pub followed : quits (113 ∷ 117 ∷ 105 ∷ 116 ∷ 32 ∷ 49 ∷ 10 ∷ []) ≡ false
-  -- "undo", and an empty line
+  -- `undo`, and an empty line
   pub undo : quits (117 ∷ 110 ∷ 100 ∷ 111 ∷ 10 ∷ []) ≡ false
   pub empty : quits (10 ∷ []) ≡ false
 
