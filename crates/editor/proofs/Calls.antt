@@ -11,17 +11,21 @@ use Rattle.answer.specs.Answer.{numbered}
 use Rattle.answer.specs.Output as output
 use Rattle.answer.proofs.Below.{cond-case}
 use Rattle.codec.specs.Kinds.{firstUnwritable, readsAs, writingIn, writeIn}
+use Rattle.editor.specs.declared.Mark.{Mark}
+use Rattle.editor.specs.declared.Mark.the-variants.{At}
+use Rattle.editor.specs.Marks.{replacedMark}
 use Rattle.editor.specs.Ledger.{Step, Ledger, Call, replace, undo, redo, save, lastOf, beforeLast, acceptedCall}
-use Rattle.editor.specs.Ledger.{fed, textOf}
-use Rattle.editor.specs.Records.{Entry, applied, turned}
-use Rattle.editor.specs.Editor.{Editor, Space, Turn, moves, edited, saved, undoLast, redoNext, replaceFitting}
+use Rattle.editor.specs.Ledger.{fed, textOf, weightOf, doneBy}
+use Rattle.editor.specs.Records.{Entry, applied, turned, markFits}
+use Rattle.editor.specs.Editor.{Editor, Space, Turn, moves, edited, savedAs, undoLast, redoNext, replaceFitting}
 use Rattle.editor.specs.Editor.{replaceAt, saveStanding, turnOf}
 use Rattle.editor.specs.Demand.{bytesFor}
-use Rattle.editor.proofs.Steps.{recordOf, recordsBack, recordsOf, fits-rest, fits-new, applied-stepped}
+use Rattle.editor.proofs.Steps.{recordOf, recordsBack, recordsOf, Fits, fits-rest, fits-new, applied-stepped}
 use Rattle.editor.proofs.Steps.{text-standing}
 use Rattle.editor.proofs.Turned.{turned-back, removes-entry}
-use Rattle.editor.proofs.Ends.{Fills, leaves, deliver-fills, write-fills}
-use Rattle.editor.proofs.Held.{Frame, textAt, editorOf, ledgerOf, Good, Held, same, text-fits}
+use Rattle.editor.proofs.Marks.{saved-fits, replaced-fits}
+use Rattle.editor.proofs.Ends.{Fills, leaves, fills, deliver-fills, write-fills}
+use Rattle.editor.proofs.Held.{Frame, remarked, textAt, editorOf, ledgerOf, Good, Held, same, text-fits}
 
 -- the last of steps in order, and those before it
 last-back : (back : List Step) (x : Step) (rest : List Step) → lastOf (reverseAux back (x ∷ rest)) ≡ lastOf (x ∷ rest)
@@ -35,9 +39,9 @@ before-back [] x rest = refl
 before-back (y ∷ back) x rest = before-back back y (x ∷ rest)
 
 -- a turn that is a save, refused or with these bytes
-pub record SavesAs (e : Editor) (out bytes : List ℕ) (t : Turn) : Type 0 where
+pub record SavesAs (space : Space) (e : Editor) (out bytes : List ℕ) (t : Turn) : Type 0 where
   pub output : output.Outcome
-  pub is : t ≡ saved e output
+  pub is : t ≡ savedAs space e output
   pub fills : Fills out bytes output
 
 -- a turn is accepted
@@ -45,12 +49,45 @@ abbrev pub accepts : Turn → Bool
 accepts t = eqb (t .verdict .number) 0
 
 module _ {arrived : List ℕ} (o : Frame arrived) where
+  -- a step stands, so the ledger's text is written
+  bytes-some :
+      (l : Ledger) (lent : List ℕ) (back : List Step) (x : Step) (rest : List Step) →
+      bytesFor l (reverseAux back (x ∷ rest)) lent ≡ writingIn (l .kind) (textOf l)
+  bytes-some l lent [] x rest = refl
+  bytes-some l lent (y ∷ back) x rest = bytes-some l lent back y (x ∷ rest)
+
+  -- a save is refused, or gives the bytes that the ledger says
+  pub save-fills :
+      (space : Space) (back undone : List Step) (lent out : List ℕ) →
+      SavesAs space (editorOf o back undone) out (bytesFor (ledgerOf o back undone) (reverse back) lent)
+      (saveStanding space (editorOf o back undone) lent out (recordsBack (o .reading) back))
+  unfolding saveStanding
+  save-fills space [] undone lent out =
+      record {
+        output = _;
+        is = refl;
+        fills =
+            cond-case (Fills out lent) (readsAs (o .kind) lent (o .reading)) (λ _. deliver-fills out lent)
+            (λ _. leaves _ refl);
+      }
+  save-fills space (x ∷ back) undone lent out =
+      record {
+        output = _;
+        is = refl;
+        fills =
+            subst (λ (bytes : List ℕ). Fills out bytes (writeIn (o .kind) (textAt o (x ∷ back)) out))
+            (ap (writingIn (o .kind)) (sym (text-standing (o .reading) (x ∷ back)))
+            ∙ sym (bytes-some (ledgerOf o (x ∷ back) undone) lent back x []))
+            (write-fills (o .kind) (textAt o (x ∷ back)) out);
+      }
+
+module _ (weigh : Step → ℕ) {arrived : List ℕ} (o : Frame arrived) where
   -- what the call leaves belongs to the ledger that has heard of it
   abbrev Next : List Step → List Step → Call → Turn → Type 0
-  Next back undone call t = Held arrived (t .editor) (fed (ledgerOf o back undone) call (accepts t))
+  Next back undone call t = Held weigh arrived (t .editor) (fed weigh (ledgerOf o back undone) call (accepts t))
 
   -- undo and redo go between the same two editors
-  module _ (back : List Step) (x : Step) (undone : List Step) (good : Good o (reverseAux back (x ∷ undone))) where
+  module _ (back : List Step) (x : Step) (undone : List Step) (good : Good o weigh (reverseAux back (x ∷ undone))) where
     within : x .place + x .count ≤ length (textAt o back)
     within = fits-rest (o .room) (o .reading) back (x ∷ undone) (good .fits) .1
 
@@ -71,20 +108,20 @@ module _ {arrived : List ℕ} (o : Frame arrived) where
         rw (← applied-stepped (textAt o back) x within)
         (turned-back (removes-entry (textAt o back) (x .place) (x .count) (x .added) within)) in
         λ i. edited (editorOf o (x ∷ back) undone) (text i) (recordsBack (o .reading) back)
-        (recordsOf (textAt o back) (x ∷ undone)) moves
+        (recordsOf (textAt o back) (x ∷ undone)) (o .mark) moves
 
     pub redo-some :
         redoNext (editorOf o back (x ∷ undone)) (recordsOf (textAt o back) (x ∷ undone)) ≡ arriving (x ∷ back) undone
     unfolding redoNext
     redo-some =
         λ i. edited (editorOf o back (x ∷ undone)) (applied-stepped (textAt o back) x within i)
-        (recordsBack (o .reading) (x ∷ back)) (recordsOf (textAt o (x ∷ back)) undone) moves
+        (recordsBack (o .reading) (x ∷ back)) (recordsOf (textAt o (x ∷ back)) undone) (o .mark) moves
 
   undo-next :
-      (back undone : List Step) → Good o (reverseAux back undone) →
+      (back undone : List Step) → Good o weigh (reverseAux back undone) →
       Next back undone undo (undoLast (editorOf o back undone) (recordsBack (o .reading) back))
   unfolding acceptedCall undoLast
-  undo-next [] undone good = same o [] undone good
+  undo-next [] undone good = same weigh o [] undone good
   undo-next (x ∷ back) undone good =
       subst (Next (x ∷ back) undone undo) (sym (undo-some back x undone good))
       (record {
@@ -97,10 +134,10 @@ module _ {arrived : List ℕ} (o : Frame arrived) where
       })
 
   redo-next :
-      (back undone : List Step) → Good o (reverseAux back undone) →
+      (back undone : List Step) → Good o weigh (reverseAux back undone) →
       Next back undone redo (redoNext (editorOf o back undone) (recordsOf (textAt o back) undone))
   unfolding acceptedCall redoNext
-  redo-next back [] good = same o back [] good
+  redo-next back [] good = same weigh o back [] good
   redo-next back (x ∷ undone) good =
       subst (Next back (x ∷ undone) redo) (sym (redo-some back x undone good))
       (record {
@@ -112,111 +149,100 @@ module _ {arrived : List ℕ} (o : Frame arrived) where
         good = good;
       })
 
-  module _ (space : Space) (back undone : List Step) (good : Good o (reverseAux back undone)) (x : Step) where
-    abbrev After : Turn → Type 0
-    After = Next back undone (replace (x .place) (x .count) (x .added))
+  -- what is done, by the steps that stand
+  abbrev doneAt : List Step → ℕ
+  doneAt back = weightOf weigh (reverse back)
 
-    fitting-next :
-        x .place + x .count ≤ length (textAt o back) →
-        After (replaceFitting space (editorOf o back undone) (recordOf (textAt o back) x))
-    unfolding replaceFitting acceptedCall
-    fitting-next within =
-        let r : Entry = recordOf (textAt o back) x in
-        let text : applied r (textAt o back) ≡ textAt o (x ∷ back) = applied-stepped (textAt o back) x within in
-        cond-case After (ltb (o .room) (length (applied r (textAt o back)))) (λ _. same o back undone good)
-        (λ short. cond-case After (ltb (space .words) (space .needed r)) (λ _. same o back undone good)
-        (λ _.
-        let below : length (applied r (textAt o back)) ≤ o .room = ltb-false _ _ short in
-        record {
-          frame = o;
-          back = x ∷ back;
-          undone = [];
-          editor =
-              λ i. record {
-                kind = o .kind;
-                room = o .room;
-                text = text i;
-                standing = recordsBack (o .reading) (x ∷ back);
-                undone = [];
-              };
-          ledger = rw (reverse-cons x back);
-          good =
-              record {
-                fits =
-                    fits-new (o .room) (o .reading) back undone (x ∷ []) (good .fits)
-                    (text-fits o back undone good, within, omega (arith, ap length text));
-                few = good .few;
-                reads = good .reads;
-              };
-        }))
+  -- other steps, and another mark among them
+  remark :
+      (mark : Mark) {steps new : List Step} → Good o weigh steps → Fits (o .room) (o .reading) new →
+      markFits weigh mark new ≡ true →
+      Good (remarked o mark) weigh new
+  remark mark good fits marked = record { fits = fits; few = good .few; reads = good .reads; marked = marked }
 
-    replace-next : After (replaceAt space (editorOf o back undone) (x .place) (x .count) (x .added))
-    unfolding replaceAt
-    replace-next =
-        cond-case After (ltb (length (textAt o back)) (x .place + x .count)) (λ _. same o back undone good)
-        (λ within. cond-case After (ltb (firstUnwritable (o .kind) (x .added)) (length (x .added)))
-        (λ _. same o back undone good) (λ _. fitting-next (ltb-false _ _ within)))
+  module _
+      (space : Space)
+      (back undone : List Step)
+      (done : space .done ≡ doneAt back)
+      (good : Good o weigh (reverseAux back undone)) where
+    module _ (x : Step) where
+      abbrev After : Turn → Type 0
+      After = Next back undone (replace (x .place) (x .count) (x .added))
 
-  -- a step stands, so the ledger's text is written
-  bytes-some :
-      (l : Ledger) (lent : List ℕ) (back : List Step) (x : Step) (rest : List Step) →
-      bytesFor l (reverseAux back (x ∷ rest)) lent ≡ writingIn (l .kind) (textOf l)
-  bytes-some l lent [] x rest = refl
-  bytes-some l lent (y ∷ back) x rest = bytes-some l lent back y (x ∷ rest)
+      fitting-next :
+          x .place + x .count ≤ length (textAt o back) →
+          After (replaceFitting space (editorOf o back undone) (recordOf (textAt o back) x))
+      unfolding replaceFitting acceptedCall
+      fitting-next within =
+          let r : Entry = recordOf (textAt o back) x in
+          let text : applied r (textAt o back) ≡ textAt o (x ∷ back) = applied-stepped (textAt o back) x within in
+          cond-case After (ltb (o .room) (length (applied r (textAt o back)))) (λ _. same weigh o back undone good)
+          (λ short. cond-case After (ltb (space .words) (space .needed r)) (λ _. same weigh o back undone good)
+          (λ _.
+          let below : length (applied r (textAt o back)) ≤ o .room = ltb-false _ _ short in
+          let mark : Mark = replacedMark (doneAt back) (o .mark) in
+          record {
+            frame = remarked o mark;
+            back = x ∷ back;
+            undone = [];
+            editor =
+                λ i. record {
+                  kind = o .kind;
+                  room = o .room;
+                  text = text i;
+                  standing = recordsBack (o .reading) (x ∷ back);
+                  undone = [];
+                  saved = replacedMark (done i) (o .mark);
+                };
+            ledger = rw (reverse-cons x back);
+            good =
+                remark mark good
+                (fits-new (o .room) (o .reading) back undone (x ∷ []) (good .fits)
+                (text-fits weigh o back undone good, within, omega (arith, ap length text)))
+                (replaced-fits weigh back undone (x ∷ []) (o .mark) (good .marked));
+          }))
 
-  -- a save is refused, or gives the bytes that the ledger says
-  pub save-fills :
-      (back undone : List Step) (lent out : List ℕ) →
-      SavesAs (editorOf o back undone) out (bytesFor (ledgerOf o back undone) (reverse back) lent)
-      (saveStanding (editorOf o back undone) lent out (recordsBack (o .reading) back))
-  unfolding saveStanding
-  save-fills [] undone lent out =
-      record {
-        output = _;
-        is = refl;
-        fills =
-            cond-case (Fills out lent) (readsAs (o .kind) lent (o .reading)) (λ _. deliver-fills out lent)
-            (λ _. leaves _ refl);
-      }
-  save-fills (x ∷ back) undone lent out =
-      record {
-        output = _;
-        is = refl;
-        fills =
-            subst (λ (bytes : List ℕ). Fills out bytes (writeIn (o .kind) (textAt o (x ∷ back)) out))
-            (ap (writingIn (o .kind)) (sym (text-standing (o .reading) (x ∷ back)))
-            ∙ sym (bytes-some (ledgerOf o (x ∷ back) undone) lent back x []))
-            (write-fills (o .kind) (textAt o (x ∷ back)) out);
-      }
+      replace-next : After (replaceAt space (editorOf o back undone) (x .place) (x .count) (x .added))
+      unfolding replaceAt
+      replace-next =
+          cond-case After (ltb (length (textAt o back)) (x .place + x .count)) (λ _. same weigh o back undone good)
+          (λ within. cond-case After (ltb (firstUnwritable (o .kind) (x .added)) (length (x .added)))
+          (λ _. same weigh o back undone good) (λ _. fitting-next (ltb-false _ _ within)))
 
-  module _ (back undone : List Step) (good : Good o (reverseAux back undone)) (lent out : List ℕ) where
-    -- accepted or not, the ledger hears of no step
-    heard-save :
-        (taken : Bool) → Held arrived (editorOf o back undone) (fed (ledgerOf o back undone) (save lent out) taken)
-    unfolding acceptedCall
-    heard-save true = same o back undone good
-    heard-save false = same o back undone good
+    module _ (lent out : List ℕ) where
+      fills-next :
+          {bytes : List ℕ} {r : output.Outcome} → Fills out bytes r →
+          Next back undone (save lent out) (savedAs space (editorOf o back undone) r)
+      unfolding acceptedCall
+      fills-next (leaves v n) = rw (n, n) (same weigh o back undone good)
+      fills-next fills =
+          rw done
+          (same weigh (remarked o (At (doneAt back))) back undone
+          (remark (At (doneAt back)) good (good .fits) (saved-fits weigh back undone)))
 
-    save-next :
-        Next back undone (save lent out)
-        (saveStanding (editorOf o back undone) lent out (recordsBack (o .reading) back))
-    save-next =
-        let t = save-fills back undone lent out in
-        subst (Next back undone (save lent out)) (sym (t .is)) (heard-save (eqb (t .output .verdict .number) 0))
+      save-next :
+          Next back undone (save lent out)
+          (saveStanding space (editorOf o back undone) lent out (recordsBack (o .reading) back))
+      save-next =
+          let t = save-fills o space back undone lent out in
+          subst (Next back undone (save lent out)) (sym (t .is)) (fills-next (t .fills))
 
-  next :
-      (space : Space) (back undone : List Step) → Good o (reverseAux back undone) → (c : Call) →
-      Next back undone c (turnOf space (editorOf o back undone) c)
-  next space back undone good (replace place count cells) =
-      replace-next space back undone good (record { place = place; count = count; added = cells })
-  next space back undone good undo = undo-next back undone good
-  next space back undone good redo = redo-next back undone good
-  next space back undone good (save lent out) = save-next back undone good lent out
+    next : (c : Call) → Next back undone c (turnOf space (editorOf o back undone) c)
+    next (replace place count cells) = replace-next (record { place = place; count = count; added = cells })
+    next undo = undo-next back undone good
+    next redo = redo-next back undone good
+    next (save lent out) = save-next lent out
 
--- so a call keeps an editor and its ledger together
+-- so a call keeps an editor and its ledger together, where what is done is what the ledger counts
 pub held-turn :
-    {arrived : List ℕ} (space : Space) {e : Editor} {l : Ledger} → Held arrived e l → (c : Call) →
-    Held arrived (turnOf space e c .editor) (fed l c (accepts (turnOf space e c)))
-held-turn {arrived} space h c =
-    subst₂ (λ (e : Editor) (l : Ledger). Held arrived (turnOf space e c .editor) (fed l c (accepts (turnOf space e c))))
-    (sym (h .editor)) (sym (h .ledger)) (next (h .frame) space (h .back) (h .undone) (h .good) c)
+    {weigh : Step → ℕ} {arrived : List ℕ} (space : Space) {e : Editor} {l : Ledger} → Held weigh arrived e l →
+    space .done ≡ doneBy weigh l →
+    (c : Call) →
+    Held weigh arrived (turnOf space e c .editor) (fed weigh l c (accepts (turnOf space e c)))
+held-turn {weigh} {arrived} space h done c =
+    subst₂
+    (λ (e : Editor) (l : Ledger).
+    space .done ≡ doneBy weigh l →
+    Held weigh arrived (turnOf space e c .editor) (fed weigh l c (accepts (turnOf space e c))))
+    (sym (h .editor)) (sym (h .ledger))
+    (λ d. next weigh (h .frame) space (h .back) (h .undone) d (h .good) c) done

@@ -13,10 +13,11 @@ use Rattle.answer.proofs.Below.{cond-case}
 use Rattle.codec.specs.declared.Kind.{Kind}
 use Rattle.codec.specs.Kinds.{firstUnwritable, writingIn, readsAs, writeIn}
 use Rattle.codec.proofs.ByKind.{write-form}
+use Rattle.editor.specs.Marks.{replacedMark}
 use Rattle.editor.specs.Ledger.{Call, replace, undo, redo, save}
 use Rattle.editor.specs.Records.{Entry, applied, entryAt}
-use Rattle.editor.specs.Editor.{Editor, Space, Turn, refused, edited, saved, undoLast, redoNext, replaceFitting}
-use Rattle.editor.specs.Editor.{replaceAt, saveStanding, turnOf, over, overlong, outputOf}
+use Rattle.editor.specs.Editor.{Editor, Space, Turn, refused, edited, saving, savedAs, undoLast, redoNext}
+use Rattle.editor.specs.Editor.{replaceFitting, replaceAt, saveStanding, turnOf, over, overlong, outputOf}
 use Rattle.editor.specs.Editor as change
 use Rattle.editor.specs.Layout.{Outcome, refusing, taken, Layout, laid, callOn, outcomeOf}
 use Rattle.editor.specs.Demand.{Unchanged, RefusedSame}
@@ -44,15 +45,15 @@ write-fills kind cells out =
     (λ _. deliver-fills out bytes)))
 
 module _ (space : Space) (e : Editor) where
-  -- a refusal; bytes given; the same records, parted elsewhere; a new record for which there is room
+  -- a refusal; bytes given, and the mark set; the same records, parted elsewhere; a new record for which there is room
   pub data Ends (out : List ℕ) : Turn → Type 0 where
     refuses : (v : Verdict) → Ends out (refused e out v)
     gives : (bytes : List ℕ) →
-        Ends out (saved e (record { verdict = numbered 0 (length bytes); out = output.filled bytes out }))
+        Ends out (saving space e (output.filled bytes out) (numbered 0 (length bytes)))
     moves : (text : List ℕ) (standing undone : List Entry) → reverseAux standing undone ≡ entries e →
-        Ends out (edited e text standing undone change.moves)
+        Ends out (edited e text standing undone (e .saved) change.moves)
     records : (text : List ℕ) (x : Entry) → space .needed x ≤ space .words →
-        Ends out (edited e text (x ∷ e .standing) [] (change.records x))
+        Ends out (edited e text (x ∷ e .standing) [] (replacedMark (space .done) (e .saved)) (change.records x))
 
   undo-ends : (es : List Entry) → e .standing ≡ es → Ends [] (undoLast e es)
   unfolding undoLast
@@ -74,14 +75,14 @@ module _ (space : Space) (e : Editor) where
       (λ _. cond-case (Ends []) (ltb (space .words) (space .needed x)) (λ _. refuses _)
       (λ t. records _ x (ltb-false (space .words) (space .needed x) t)))))
 
-  fills-ends : {out bytes : List ℕ} {o : output.Outcome} → Fills out bytes o → Ends out (saved e o)
-  fills-ends (leaves v n) = refuses v
+  fills-ends : {out bytes : List ℕ} {o : output.Outcome} → Fills out bytes o → Ends out (savedAs space e o)
+  fills-ends (leaves v n) = rw n (refuses v)
   fills-ends {bytes = bytes} fills = gives bytes
 
-  save-ends : (arrived out : List ℕ) (es : List Entry) → Ends out (saveStanding e arrived out es)
+  save-ends : (arrived out : List ℕ) (es : List Entry) → Ends out (saveStanding space e arrived out es)
   unfolding saveStanding
   save-ends arrived out [] =
-      cond-case (λ (o : output.Outcome). Ends out (saved e o)) (readsAs (e .kind) arrived (e .text))
+      cond-case (λ (o : output.Outcome). Ends out (savedAs space e o)) (readsAs (e .kind) arrived (e .text))
       (λ _. fills-ends (deliver-fills out arrived)) (λ _. refuses _)
   save-ends arrived out (x ∷ back) = fills-ends (write-fills (e .kind) (e .text) out)
 

@@ -1,3 +1,4 @@
+pub mod Marks
 pub mod Steps
 pub mod Turned
 pub mod Ends

@@ -2,7 +2,7 @@
 use Prim.Native.Nat.{ℕ, _≤_}
 use mathlib.Core.Path.{_≡_, refl, sym, ap, _∙_, subst, subst₂}
 use mathlib.Core.Bool.{Bool, true, false, cond, _||_, false≢true}
-use mathlib.Core.List.{List, [], _∷_, reverseAux, reverse, cons≢nil}
+use mathlib.Core.List.{List, [], _∷_, reverseAux, reverse, map, cons≢nil}
 use mathlib.Core.Option.{some}
 use mathlib.Core.Logic.{_↔_}
 use native.Mathlib.Omega.{arith}
@@ -12,11 +12,15 @@ use borrow.Author.Tests.{le-ltb}
 use Rattle.answer.specs.Answer.{Verdict, limit, numbered, tooLong}
 use Rattle.answer.specs.Output as output
 use Rattle.answer.proofs.Below.{cond-case}
-use Rattle.editor.specs.Ledger.{Step, Ledger, Call, undo, redo, save, fed}
-use Rattle.editor.specs.Records.{Entry}
-use Rattle.editor.specs.Editor.{Editor, Turn, withText, saved, turnOf, overlong, outputOf, undoLast, redoNext}
-use Rattle.editor.specs.Editor.{saveStanding}
-use Rattle.editor.specs.Layout.{Outcome, refusing, taken, Layout, laid, callOn, outcomeOf, after, heard}
+use Rattle.editor.specs.declared.Mark.{Mark}
+use Rattle.editor.specs.declared.Mark.the-variants.{At}
+use Rattle.editor.specs.Marks.{replacedMark}
+use Rattle.editor.specs.Ledger.{Step, Ledger, Call, undo, redo, save, fed, weightOf, doneBy, unchangedBy}
+use Rattle.editor.specs.Records.{Entry, stepOf, markFits}
+use Rattle.editor.specs.Editor.{Editor, Turn, withText, withMark, savedAs, turnOf, overlong, outputOf, undoLast}
+use Rattle.editor.specs.Editor.{redoNext, saveStanding}
+use Rattle.editor.specs.Layout.{Outcome, refusing, taken, Reply, Layout, laid, callOn, outcomeOf}
+use Rattle.editor.specs.Layout.{replyOf, after, heard}
 use Rattle.editor.specs.Demand.{bytesFor, savedBytes, undone-by, Promised}
 use Rattle.editor.proofs.Steps.{text-standing}
 use Rattle.editor.proofs.Ends.{entries, Fills, leaves, fills, Ends, refuses, gives, moves, records, turn-ends}
@@ -29,14 +33,22 @@ pub record Lays {S : Type 0} (layout : Layout S) (Lies : ℕ → S → Editor �
   pub short : {n : ℕ} {s : S} {e : Editor} → Lies n s e → layout .long s ≡ false
   pub sees : {n : ℕ} {s : S} {e : Editor} → Lies n s e → layout .editorIn s ≡ some e
   pub shows : {n : ℕ} {s : S} {e : Editor} → Lies n s e → layout .textIn s ≡ e .text
+  pub done :
+      {n : ℕ} {s : S} {e : Editor} → Lies n s e →
+      layout .spaceIn s .done ≡ weightOf (layout .weigh) (map stepOf (reverse (e .standing)))
+  pub marks :
+      {n : ℕ} {s : S} {e : Editor} → Lies n s e → (mark : Mark) → Legal (layout .weigh) n (withMark e mark) →
+      Lies n (layout .marked s mark) (withMark e mark)
   pub moves :
       {n : ℕ} {s : S} {e : Editor} → Lies n s e → (text : List ℕ) (standing undone : List Entry) →
-      reverseAux standing undone ≡ entries e → Legal n (withText e text standing undone) →
-      Lies n (layout .moved s (withText e text standing undone)) (withText e text standing undone)
+      reverseAux standing undone ≡ entries e → Legal (layout .weigh) n (withText e text standing undone (e .saved)) →
+      Lies n (layout .moved s (withText e text standing undone (e .saved))) (withText e text standing undone (e .saved))
   pub records :
-      {n : ℕ} {s : S} {e : Editor} → Lies n s e → (text : List ℕ) (x : Entry) →
-      layout .spaceIn s .needed x ≤ layout .spaceIn s .words → Legal n (withText e text (x ∷ e .standing) []) →
-      Lies n (layout .recorded s (withText e text (x ∷ e .standing) []) x) (withText e text (x ∷ e .standing) [])
+      {n : ℕ} {s : S} {e : Editor} → Lies n s e → (text : List ℕ) (x : Entry) (mark : Mark) →
+      layout .spaceIn s .needed x ≤ layout .spaceIn s .words →
+      Legal (layout .weigh) n (withText e text (x ∷ e .standing) [] mark) →
+      Lies n (layout .recorded s (withText e text (x ∷ e .standing) [] mark) x)
+      (withText e text (x ∷ e .standing) [] mark)
 
 -- a verdict that is 13 exactly when a list is empty, and else is 0
 abbrev Answers : Verdict → List Step → Type 0
@@ -66,11 +78,11 @@ module _ {S : Type 0} {layout : Layout S} {Lies : ℕ → S → Editor → Type 
 
   turn-lies :
       {n : ℕ} {s : S} {e : Editor} → Lies n s e → {out : List ℕ} (t : Turn) → Ends (layout .spaceIn s) e out t →
-      Legal n (t .editor) → Lies n (laid layout s t .state) (t .editor)
+      Legal (layout .weigh) n (t .editor) → Lies n (laid layout s t .state) (t .editor)
   turn-lies l _ (refuses v) ok = l
-  turn-lies l _ (gives bytes) ok = l
+  turn-lies l _ (gives bytes) ok = lays .marks l _ ok
   turn-lies l _ (moves text standing undone p) ok = lays .moves l text standing undone p ok
-  turn-lies l _ (records text x p) ok = lays .records l text x p ok
+  turn-lies l _ (records text x p) ok = lays .records l text x _ p ok
 
   -- a state in which the editor of a ledger lies
   pub record Kept (arrived : List ℕ) (s : S) (l : Ledger) : Type 0 where
@@ -79,10 +91,11 @@ module _ {S : Type 0} {layout : Layout S} {Lies : ℕ → S → Editor → Type 
     pub undone : List Step
     pub ledger : l ≡ ledgerOf frame back undone
     pub lies : Lies (length (frame .reading)) s (editorOf frame back undone)
-    pub good : Good frame (reverseAux back undone)
+    pub good : Good frame (layout .weigh) (reverseAux back undone)
 
   pub kept :
-      {arrived : List ℕ} {s : S} {e : Editor} {l : Ledger} → Lies (length (l .reading)) s e → Held arrived e l →
+      {arrived : List ℕ} {s : S} {e : Editor} {l : Ledger} → Lies (length (l .reading)) s e →
+      Held (layout .weigh) arrived e l →
       Kept arrived s l
   kept {s = s} lies h =
       record {
@@ -96,22 +109,36 @@ module _ {S : Type 0} {layout : Layout S} {Lies : ℕ → S → Editor → Type 
         good = h .good;
       }
 
+  abbrev weigh : Step → ℕ
+  weigh = layout .weigh
+
+  abbrev LiesAt : {arrived : List ℕ} → Frame arrived → S → List Step → List Step → Type 0
+  LiesAt o s back undone = Lies (length (o .reading)) s (editorOf o back undone)
+
+  -- what is done in the state is what the ledger counts
+  done-counted :
+      {arrived : List ℕ} (o : Frame arrived) {s : S} (back undone : List Step) → LiesAt o s back undone →
+      Good o weigh (reverseAux back undone) →
+      layout .spaceIn s .done ≡ weightOf weigh (reverse back)
+  done-counted o back undone lies good = lays .done lies ∙ ap (weightOf weigh) (standing-steps weigh o back undone good)
+
   module _ {arrived : List ℕ} where
     -- one call keeps the state and the ledger together
     pub kept-call :
         {s : S} {l : Ledger} → Kept arrived s l → (c : Call) →
-        Kept arrived (outcomeOf layout s c .state) (fed l c (taken (outcomeOf layout s c)))
+        Kept arrived (outcomeOf layout s c .state) (fed (layout .weigh) l c (taken (outcomeOf layout s c)))
     kept-call {s} k c =
         let e : Editor = editorOf (k .frame) (k .back) (k .undone) in
         let l : Ledger = ledgerOf (k .frame) (k .back) (k .undone) in
         let t : Turn = turnOf (layout .spaceIn s) e c in
-        let h : Held arrived (t .editor) (fed l c (accepts t)) =
-        held-turn (layout .spaceIn s) (same (k .frame) (k .back) (k .undone) (k .good)) c in
-        let r : fed l c (accepts t) .reading ≡ l .reading = reading-kept l c (accepts t) in
+        let now : Held weigh arrived e l = same weigh (k .frame) (k .back) (k .undone) (k .good) in
+        let h : Held weigh arrived (t .editor) (fed weigh l c (accepts t)) =
+        held-turn (layout .spaceIn s) now (done-counted (k .frame) (k .back) (k .undone) (k .lies) (k .good)) c in
+        let r : fed weigh l c (accepts t) .reading ≡ l .reading = reading-kept weigh l c (accepts t) in
         rw (k .ledger, outcome-is (k .lies) c)
-        (cond-case (λ (o : Outcome S). Kept arrived (o .state) (fed l c (taken o))) (overlong c)
-        (λ _. kept (k .lies) (same (k .frame) (k .back) (k .undone) (k .good)))
-        (λ _. kept (rw r (turn-lies (k .lies) t (turn-ends (layout .spaceIn s) e c) (rw r at (legal h)))) h))
+        (cond-case (λ (o : Outcome S). Kept arrived (o .state) (fed weigh l c (taken o))) (overlong c)
+        (λ _. kept (k .lies) now)
+        (λ _. kept (rw r (turn-lies (k .lies) t (turn-ends (layout .spaceIn s) e c) (rw r at (legal weigh h)))) h))
 
     -- and so does a list of calls
     pub kept-calls :
@@ -123,43 +150,40 @@ module _ {S : Type 0} {layout : Layout S} {Lies : ℕ → S → Editor → Type 
   reading-heard : (l : Ledger) (s : S) (calls : List Call) → heard layout l s calls .reading ≡ l .reading
   reading-heard l s [] = refl
   reading-heard l s (c ∷ calls) =
-      reading-heard (fed l c (taken (outcomeOf layout s c))) (outcomeOf layout s c .state) calls
-      ∙ reading-kept l c (taken (outcomeOf layout s c))
+      reading-heard (fed weigh l c (taken (outcomeOf layout s c))) (outcomeOf layout s c .state) calls
+      ∙ reading-kept weigh l c (taken (outcomeOf layout s c))
 
   module _ {arrived : List ℕ} (o : Frame arrived) where
-    abbrev LiesAt : S → List Step → List Step → Type 0
-    LiesAt s back undone = Lies (length (o .reading)) s (editorOf o back undone)
-
     undo-answers :
-        {s : S} (back undone : List Step) → LiesAt s back undone → Good o (reverseAux back undone) →
+        {s : S} (back undone : List Step) → LiesAt o s back undone → Good o weigh (reverseAux back undone) →
         Answers (outcomeOf layout s undo .verdict) (reverse back)
     unfolding undoLast
     undo-answers [] undone lies good = thirteen _ [] (ap (λ (r : Outcome S). r .verdict) (outcome-is lies undo)) refl
     undo-answers (x ∷ back) undone lies good =
-        zero-else _ (reverse (x ∷ back)) (ap taken (outcome-is lies undo) ∙ ap accepts (undo-some o back x undone good))
+        zero-else _ (reverse (x ∷ back)) (ap taken (outcome-is lies undo) ∙ ap accepts (undo-some weigh o back x undone good))
         (λ e. omega (arith, length-reverse (x ∷ back), ap length e))
 
     redo-answers :
-        {s : S} (back undone : List Step) → LiesAt s back undone → Good o (reverseAux back undone) →
+        {s : S} (back undone : List Step) → LiesAt o s back undone → Good o weigh (reverseAux back undone) →
         Answers (outcomeOf layout s redo .verdict) undone
     unfolding redoNext
     redo-answers back [] lies good = thirteen _ [] (ap (λ (r : Outcome S). r .verdict) (outcome-is lies redo)) refl
     redo-answers back (x ∷ undone) lies good =
-        zero-else _ (x ∷ undone) (ap taken (outcome-is lies redo) ∙ ap accepts (redo-some o back x undone good))
+        zero-else _ (x ∷ undone) (ap taken (outcome-is lies redo) ∙ ap accepts (redo-some weigh o back x undone good))
         cons≢nil
 
     -- an undo that is accepted leaves the editor without its last step
     undo-lies :
-        {s : S} (back : List Step) (x : Step) (undone : List Step) → LiesAt s (x ∷ back) undone →
-        Good o (reverseAux back (x ∷ undone)) → LiesAt (outcomeOf layout s undo .state) back (x ∷ undone)
+        {s : S} (back : List Step) (x : Step) (undone : List Step) → LiesAt o s (x ∷ back) undone →
+        Good o weigh (reverseAux back (x ∷ undone)) → LiesAt o (outcomeOf layout s undo .state) back (x ∷ undone)
     undo-lies {s} back x undone lies good =
-        subst (λ (r : Outcome S). LiesAt (r .state) back (x ∷ undone))
-        (sym (outcome-is lies undo ∙ ap (laid layout s) (undo-some o back x undone good)))
-        (lays .moves lies _ _ _ refl (legal-of o back (x ∷ undone) good))
+        subst (λ (r : Outcome S). LiesAt o (r .state) back (x ∷ undone))
+        (sym (outcome-is lies undo ∙ ap (laid layout s) (undo-some weigh o back x undone good)))
+        (lays .moves lies _ _ _ refl (legal-of weigh o back (x ∷ undone) good))
 
     -- as many undos as steps stand lead to 13
     undo-all :
-        {s : S} (back undone : List Step) → LiesAt s back undone → Good o (reverseAux back undone) →
+        {s : S} (back undone : List Step) → LiesAt o s back undone → Good o weigh (reverseAux back undone) →
         outcomeOf layout (undone-by layout (length back) s) undo .verdict ≡ numbered 13 0
     undo-all [] undone lies good = undo-answers [] undone lies good .0 .1 refl
     undo-all (x ∷ back) undone lies good = undo-all back (x ∷ undone) (undo-lies back x undone lies good) good
@@ -167,29 +191,34 @@ module _ {S : Type 0} {layout : Layout S} {Lies : ℕ → S → Editor → Type 
     -- bytes that are filled in are those that the save gives
     fills-give :
         (s : S) (e : Editor) (out bytes : List ℕ) {r : output.Outcome} → Fills out bytes r →
-        taken (laid layout s (saved e r)) ≡ true → laid layout s (saved e r) ≡ savedBytes s out bytes
-    fills-give s e out bytes (leaves v n) t = absurd (false≢true (sym n ∙ t))
+        taken (laid layout s (savedAs (layout .spaceIn s) e r)) ≡ true →
+        laid layout s (savedAs (layout .spaceIn s) e r)
+        ≡ savedBytes (layout .marked s (At (layout .spaceIn s .done))) out bytes
+    fills-give s e out bytes (leaves v n) t = absurd (false≢true (sym n ∙ rw n at t))
     fills-give s e out bytes fills t = refl
 
     saves-here :
-        {s : S} (back undone : List Step) → LiesAt s back undone → (lent out : List ℕ) →
-        taken (outcomeOf layout s (save lent out)) ≡ true →
-        outcomeOf layout s (save lent out) ≡ savedBytes s out (bytesFor (ledgerOf o back undone) (reverse back) lent)
-    saves-here {s} back undone lies lent out =
+        {s : S} (back undone : List Step) → LiesAt o s back undone → Good o weigh (reverseAux back undone) →
+        (lent out : List ℕ) → taken (outcomeOf layout s (save lent out)) ≡ true →
+        outcomeOf layout s (save lent out)
+        ≡ savedBytes (layout .marked s (At (weightOf weigh (reverse back)))) out
+        (bytesFor (ledgerOf o back undone) (reverse back) lent)
+    saves-here {s} back undone lies good lent out =
         let bytes : List ℕ = bytesFor (ledgerOf o back undone) (reverse back) lent in
-        let t = save-fills o back undone lent out in
-        rw (outcome-is lies (save lent out))
-        (cond-case (λ (r : Outcome S). taken r ≡ true → r ≡ savedBytes s out bytes) (overlong (save lent out))
+        let marked : S = layout .marked s (At (layout .spaceIn s .done)) in
+        let t = save-fills o (layout .spaceIn s) back undone lent out in
+        rw (outcome-is lies (save lent out), ← done-counted o back undone lies good)
+        (cond-case (λ (r : Outcome S). taken r ≡ true → r ≡ savedBytes marked out bytes) (overlong (save lent out))
         (λ _ q. absurd (false≢true q))
         (λ _.
-        subst (λ (u : Turn). taken (laid layout s u) ≡ true → laid layout s u ≡ savedBytes s out bytes) (sym (t .is))
-        (fills-give s (editorOf o back undone) out bytes (t .fills))))
+        subst (λ (u : Turn). taken (laid layout s u) ≡ true → laid layout s u ≡ savedBytes marked out bytes)
+        (sym (t .is)) (fills-give s (editorOf o back undone) out bytes (t .fills))))
 
     -- where nothing stands, a save gives the arrived bytes
     saves-arrived :
-        (s : S) (undone : List Step) → LiesAt s [] undone → Good o undone → (out : List ℕ) →
+        (s : S) (undone : List Step) → LiesAt o s [] undone → Good o weigh undone → (out : List ℕ) →
         length arrived ≤ length out →
-        outcomeOf layout s (save arrived out) ≡ savedBytes s out arrived
+        outcomeOf layout s (save arrived out) ≡ savedBytes (layout .marked s (At 0)) out arrived
     unfolding saveStanding output.deliver
     saves-arrived s undone lies good out fits =
         rw (
@@ -197,16 +226,24 @@ module _ {S : Type 0} {layout : Layout S} {Lies : ℕ → S → Editor → Type 
           le-ltb limit (length arrived) (good .few),
           good .reads,
           le-ltb (length out) (length arrived) fits,
+          done-counted o [] undone lies good,
         )
+
+    -- the question answers by the ledger's mark
+    asks-here :
+        {s : S} (back undone : List Step) → LiesAt o s back undone → Good o weigh (reverseAux back undone) →
+        replyOf layout s ≡ record { verdict = numbered 0 0; unchanged = unchangedBy weigh (ledgerOf o back undone) }
+    unfolding replyOf
+    asks-here back undone lies good = rw (lays .short lies, lays .sees lies, done-counted o back undone lies good)
 
   -- where undo gives 13, nothing stands
   abbrev AtBottom : {arrived : List ℕ} → (S → Ledger → Type 0) → Frame arrived → Type 0
-  AtBottom P o = (s : S) (undone : List Step) → LiesAt o s [] undone → Good o undone → P s (ledgerOf o [] undone)
+  AtBottom P o = (s : S) (undone : List Step) → LiesAt o s [] undone → Good o weigh undone → P s (ledgerOf o [] undone)
 
   module _ {arrived : List ℕ} (P : S → Ledger → Type 0) (f : (o : Frame arrived) → AtBottom P o) where
     bottom-here :
         (o : Frame arrived) {s : S} (back undone : List Step) → LiesAt o s back undone →
-        Good o (reverseAux back undone) →
+        Good o weigh (reverseAux back undone) →
         outcomeOf layout s undo .verdict ≡ numbered 13 0 → P s (ledgerOf o back undone)
     bottom-here o {s} [] undone lies good e = f o s undone lies good
     bottom-here o (x ∷ back) undone lies good e =
@@ -229,18 +266,20 @@ module _ {S : Type 0} {layout : Layout S} {Lies : ℕ → S → Editor → Type 
     gives-back :
         (n : ℕ) → outcomeOf layout (undone-by layout n s) undo .verdict ≡ numbered 13 0 → (out : List ℕ) →
         length arrived ≤ length out →
-        outcomeOf layout (undone-by layout n s) (save arrived out) ≡ savedBytes (undone-by layout n s) out arrived
+        outcomeOf layout (undone-by layout n s) (save arrived out)
+        ≡ savedBytes (layout .marked (undone-by layout n s) (At 0)) out arrived
     gives-back n =
         at-bottom
         (λ s _.
-        (out : List ℕ) → length arrived ≤ length out → outcomeOf layout s (save arrived out) ≡ savedBytes s out arrived)
+        (out : List ℕ) → length arrived ≤ length out →
+        outcomeOf layout s (save arrived out) ≡ savedBytes (layout .marked s (At 0)) out arrived)
         saves-arrived (kept-calls k (replicate n undo))
 
   module _ {arrived : List ℕ} {s : S} (o : Frame arrived) (back undone : List Step) where
     promised-here :
-        LiesAt o s back undone → Good o (reverseAux back undone) → Promised layout arrived s (ledgerOf o back undone)
+        LiesAt o s back undone → Good o weigh (reverseAux back undone) → Promised layout arrived s (ledgerOf o back undone)
     promised-here lies good =
-        let k : Kept arrived s (ledgerOf o back undone) = kept lies (same o back undone good) in
+        let k : Kept arrived s (ledgerOf o back undone) = kept lies (same weigh o back undone good) in
         let u = undo-answers o back undone lies good in
         let r = redo-answers o back undone lies good in
         record {
@@ -249,15 +288,17 @@ module _ {S : Type 0} {layout : Layout S} {Lies : ℕ → S → Editor → Type 
                 editor = editorOf o back undone;
                 sound = lays .sees lies;
                 kind = refl;
-                standing = standing-steps o back undone good;
-                undone = undone-steps o back undone good;
+                standing = standing-steps weigh o back undone good;
+                undone = undone-steps weigh o back undone good;
+                saved = refl;
               };
           text = lays .shows lies ∙ sym (text-standing (o .reading) back);
           undo-none = u .0;
           undo-some = u .1;
           redo-none = r .0;
           redo-some = r .1;
-          saves = saves-here o back undone lies;
+          saves = saves-here o back undone lies good;
+          asks = asks-here o back undone lies good;
           bottom = rw (length-reverse back) (undo-all o back undone lies good);
           back = brings-back k;
           given-back = gives-back k;

@@ -3,11 +3,14 @@ use Prim.Native.Nat.{ℕ, _+_}
 use mathlib.Core.Bool.{Bool, false, cond}
 use mathlib.Core.List.{List, [], _∷_}
 use lib.ListN.{length}
-use lib.Dec.{ltb}
+use lib.Dec.{ltb, eqb}
 use Rattle.answer.specs.Answer.{Verdict, numbered, limit}
 use Rattle.answer.specs.Output as output
 use Rattle.codec.specs.declared.Kind.{Kind}
 use Rattle.codec.specs.Kinds.{firstUnwritable, readsAs, writeIn}
+use Rattle.editor.specs.declared.Mark.{Mark}
+use Rattle.editor.specs.declared.Mark.the-variants.{At}
+use Rattle.editor.specs.Marks.{replacedMark}
 use Rattle.editor.specs.Ledger.{Call, replace, undo, redo, save}
 use Rattle.editor.specs.Records.{Entry, applied, turned, entryAt}
 
@@ -19,11 +22,14 @@ pub record Editor : Type 0 where
   -- the records: those that stand, the latest first, and those that can be redone
   pub standing : List Entry
   pub undone : List Entry
+  -- the saved mark
+  pub saved : Mark
 
--- what has to be laid out anew: nothing (save and every refusal); the text and how many records stand (undo and redo);
--- a new record as well, in place of those that could be redone (replace)
+-- what has to be laid out anew: nothing (every refusal); the mark (save); the text and how many records stand (undo and
+-- redo); the mark, and a new record as well, in place of those that could be redone (replace)
 pub data Change : Type 0 where
   stays : Change
+  marks : Change
   moves : Change
   records : Entry → Change
 
@@ -34,45 +40,49 @@ pub record Turn : Type 0 where
   pub editor : Editor
   pub change : Change
 
--- the history as replace sees it: its length, and the words needed in all with a new record
+-- the history as the calls see it: its length, the words needed in all with a new record, and how much is done
 pub record Space : Type 0 where
   pub words : ℕ
   pub needed : Entry → ℕ
+  pub done : ℕ
 
 -- "A refusal changes no page and no buffer"
 abbrev pub refused : Editor → List ℕ → Verdict → Turn
 refused e out verdict = record { verdict = verdict; output = out; editor = e; change = stays }
 
-abbrev pub withText : Editor → List ℕ → List Entry → List Entry → Editor
-withText e text standing undone =
-    record { kind = e .kind; room = e .room; text = text; standing = standing; undone = undone }
+abbrev pub withText : Editor → List ℕ → List Entry → List Entry → Mark → Editor
+withText e text standing undone mark =
+    record { kind = e .kind; room = e .room; text = text; standing = standing; undone = undone; saved = mark }
+
+abbrev pub withMark : Editor → Mark → Editor
+withMark e mark = withText e (e .text) (e .standing) (e .undone) mark
 
 -- "replace, undo and redo answer the new length"
-abbrev pub edited : Editor → List ℕ → List Entry → List Entry → Change → Turn
-edited e text standing undone change =
+abbrev pub edited : Editor → List ℕ → List Entry → List Entry → Mark → Change → Turn
+edited e text standing undone mark change =
     record {
       verdict = numbered 0 (length text);
       output = [];
-      editor = withText e text standing undone;
+      editor = withText e text standing undone mark;
       change = change;
     }
 
 -- "Undo puts the last standing step's removed cells back"; 13 where there is none
 unfoldable pub undoLast : Editor → List Entry → Turn
 undoLast e [] = refused e [] (numbered 13 0)
-undoLast e (x ∷ back) = edited e (applied (turned x) (e .text)) back (x ∷ e .undone) moves
+undoLast e (x ∷ back) = edited e (applied (turned x) (e .text)) back (x ∷ e .undone) (e .saved) moves
 
 -- "redo does the next one again"
 unfoldable pub redoNext : Editor → List Entry → Turn
 redoNext e [] = refused e [] (numbered 13 0)
-redoNext e (x ∷ rest) = edited e (applied x (e .text)) (x ∷ e .standing) rest moves
+redoNext e (x ∷ rest) = edited e (applied x (e .text)) (x ∷ e .standing) rest (e .saved) moves
 
 -- 9, the new length; 12, the words needed; else "Replace drops what could be redone, then records its step"
 unfoldable pub replaceFitting : Space → Editor → Entry → Turn
 replaceFitting space e x =
     cond (ltb (e .room) (length (applied x (e .text)))) (refused e [] (numbered 9 (length (applied x (e .text)))))
     (cond (ltb (space .words) (space .needed x)) (refused e [] (numbered 12 (space .needed x)))
-    (edited e (applied x (e .text)) (x ∷ e .standing) [] (records x)))
+    (edited e (applied x (e .text)) (x ∷ e .standing) [] (replacedMark (space .done) (e .saved)) (records x)))
 
 -- 11, then 10
 unfoldable pub replaceAt : Space → Editor → ℕ → ℕ → List ℕ → Turn
@@ -82,24 +92,29 @@ replaceAt space e place count cells =
     (refused e [] (numbered 10 (firstUnwritable (e .kind) cells)))
     (replaceFitting space e (entryAt (e .text) place count cells)))
 
--- a save changes nothing but the output
-abbrev pub saved : Editor → output.Outcome → Turn
-saved e o = record { verdict = o .verdict; output = o .out; editor = e; change = stays }
+-- "an accepted save sets it to the words done"; it changes nothing else but the output
+abbrev pub saving : Space → Editor → List ℕ → Verdict → Turn
+saving space e out verdict =
+    record { verdict = verdict; output = out; editor = withMark e (At (space .done)); change = marks }
+
+abbrev pub savedAs : Space → Editor → output.Outcome → Turn
+savedAs space e o =
+    cond (eqb (o .verdict .number) 0) (saving space e (o .out) (o .verdict)) (refused e (o .out) (o .verdict))
 
 -- "if no step stands, the arrived bytes, lent again, as they are; otherwise the text written in the page's kind"; "15
 -- where no step stands or 10 where one does, then 9"
-unfoldable pub saveStanding : Editor → List ℕ → List ℕ → List Entry → Turn
-saveStanding e arrived out [] =
-    saved e
+unfoldable pub saveStanding : Space → Editor → List ℕ → List ℕ → List Entry → Turn
+saveStanding space e arrived out [] =
+    savedAs space e
     (cond (readsAs (e .kind) arrived (e .text)) (output.deliver arrived out) (output.refusing (numbered 15 0) out))
-saveStanding e arrived out (x ∷ back) = saved e (writeIn (e .kind) (e .text) out)
+saveStanding space e arrived out (x ∷ back) = savedAs space e (writeIn (e .kind) (e .text) out)
 
 -- what a call comes to where there is an editor
 abbrev pub turnOf : Space → Editor → Call → Turn
 turnOf space e (replace place count cells) = replaceAt space e place count cells
 turnOf space e undo = undoLast e (e .standing)
 turnOf space e redo = redoNext e (e .undone)
-turnOf space e (save arrived out) = saveStanding e arrived out (e .standing)
+turnOf space e (save arrived out) = saveStanding space e arrived out (e .standing)
 
 abbrev pub over : List ℕ → Bool
 over l = ltb limit (length l)

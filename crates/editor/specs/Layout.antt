@@ -1,13 +1,16 @@
 -- A layout of an editor in some state, such as a page with the buffers lent beside it; and a list of calls on a state.
 use Prim.Native.Nat.{ℕ}
-use mathlib.Core.Bool.{Bool, cond, _||_}
+use mathlib.Core.Bool.{Bool, false, cond, _||_}
 use mathlib.Core.List.{List, [], _∷_}
 use mathlib.Core.Option.{Option, none, some}
 use lib.Dec.{eqb}
 use Rattle.answer.specs.Answer.{Verdict, numbered, tooLong}
-use Rattle.editor.specs.Ledger.{Ledger, Call, fed}
+use Rattle.editor.specs.declared.Mark.{Mark}
+use Rattle.editor.specs.Marks.{unchangedAt}
+use Rattle.editor.specs.Ledger.{Step, Ledger, Call, fed}
 use Rattle.editor.specs.Records.{Entry}
-use Rattle.editor.specs.Editor.{Editor, Space, Change, stays, moves, records, Turn, turnOf, overlong, outputOf}
+use Rattle.editor.specs.Editor.{Editor, Space, Change, stays, marks, moves, records, Turn, turnOf, overlong}
+use Rattle.editor.specs.Editor.{outputOf}
 
 -- what a call answers, and everything that it leaves; the output is save's, and empty for the others
 pub record Outcome (S : Type 0) : Type 0 where
@@ -23,7 +26,14 @@ refusing s out verdict = record { verdict = verdict; state = s; output = out }
 abbrev pub taken : {S : Type 0} → Outcome S → Bool
 taken o = eqb (o .verdict .number) 0
 
+-- what the question answers
+pub record Reply : Type 0 where
+  pub verdict : Verdict
+  pub unchanged : Bool
+
 pub record Layout (S : Type 0) : Type 0 where
+  -- what a step counts for in what is done
+  pub weigh : Step → ℕ
   -- a buffer is over the limit
   pub long : S → Bool
   -- the editor that is found in a state; none where the state is not sound
@@ -31,13 +41,15 @@ pub record Layout (S : Type 0) : Type 0 where
   -- the first length cells of the text buffer
   pub textIn : S → List ℕ
   pub spaceIn : S → Space
-  -- the state with this editor's text and as much standing; and the state with its new record, too
+  -- the state with this mark; with this editor's text and as much standing; and with its new record and mark, too
+  pub marked : S → Mark → S
   pub moved : S → Editor → S
   pub recorded : S → Editor → Entry → S
 
 module _ {S : Type 0} (layout : Layout S) where
   abbrev pub changed : S → Editor → Change → S
   changed s e stays = s
+  changed s e marks = layout .marked s (e .saved)
   changed s e moves = layout .moved s e
   changed s e (records x) = layout .recorded s e x
 
@@ -54,6 +66,14 @@ module _ {S : Type 0} (layout : Layout S) where
   outcomeOf s c =
       cond (overlong c || layout .long s) (refusing s (outputOf c) tooLong) (callOn s c (layout .editorIn s))
 
+  -- the question: 16, 14, "else place 0", and whether the mark is at what is done; refused, it is not
+  abbrev pub askOn : S → Option Editor → Reply
+  askOn s none = record { verdict = numbered 14 0; unchanged = false }
+  askOn s (some e) = record { verdict = numbered 0 0; unchanged = unchangedAt (layout .spaceIn s .done) (e .saved) }
+
+  unfoldable pub replyOf : S → Reply
+  replyOf s = cond (layout .long s) (record { verdict = tooLong; unchanged = false }) (askOn s (layout .editorIn s))
+
   -- the state after the calls, each given what the last one left
   abbrev pub after : S → List Call → S
   after s [] = s
@@ -62,4 +82,4 @@ module _ {S : Type 0} (layout : Layout S) where
   -- the ledger after them: it hears each call and whether it was accepted
   abbrev pub heard : Ledger → S → List Call → Ledger
   heard l s [] = l
-  heard l s (c ∷ cs) = heard (fed l c (taken (outcomeOf s c))) (outcomeOf s c .state) cs
+  heard l s (c ∷ cs) = heard (fed (layout .weigh) l c (taken (outcomeOf s c))) (outcomeOf s c .state) cs

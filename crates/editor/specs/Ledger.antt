@@ -1,10 +1,14 @@
--- Document 01, "The page": the ledger. It takes nothing from the page, the text buffer or the history.
+-- Document 01, "The page": the ledger, with document 02's saved mark. It takes nothing from the page, the text buffer or
+-- the history.
 use Prim.Native.Nat.{ℕ, _+_}
 use mathlib.Core.Bool.{Bool, cond}
 use mathlib.Core.List.{List, [], _∷_, _++_}
 use lib.ListN.{take, drop}
 use Rattle.codec.specs.declared.Kind.{Kind}
 use Rattle.codec.specs.Kinds.{readingIn}
+use Rattle.editor.specs.declared.Mark.{Mark}
+use Rattle.editor.specs.declared.Mark.the-variants.{At}
+use Rattle.editor.specs.Marks.{replacedMark, unchangedAt}
 
 -- "A step is a place, a count removed and the cells added."
 pub record Step : Type 0 where
@@ -18,9 +22,12 @@ pub record Ledger : Type 0 where
   pub reading : List ℕ
   pub standing : List Step
   pub undone : List Step
+  pub saved : Mark
 
+-- "An accepted open sets it to 0"
 abbrev pub opened : Kind → List ℕ → Ledger
-opened kind arrived = record { kind = kind; reading = readingIn kind arrived .cells; standing = []; undone = [] }
+opened kind arrived =
+    record { kind = kind; reading = readingIn kind arrived .cells; standing = []; undone = []; saved = At 0 }
 
 -- the calls, with their arguments: place, count and cells; arrived bytes and output
 pub data Call : Type 0 where
@@ -40,22 +47,39 @@ beforeLast [] = []
 beforeLast (s ∷ []) = []
 beforeLast (s ∷ t ∷ rest) = s ∷ beforeLast (t ∷ rest)
 
-abbrev pub withSteps : Ledger → List Step → List Step → Ledger
-withSteps l standing undone = record { kind = l .kind; reading = l .reading; standing = standing; undone = undone }
+abbrev pub withSteps : Ledger → List Step → List Step → Mark → Ledger
+withSteps l standing undone saved =
+    record { kind = l .kind; reading = l .reading; standing = standing; undone = undone; saved = saved }
 
--- "An accepted replace puts its step at the end of the standing list and empties the undone list." "An accepted undo
--- moves the last standing step, if any, to the front of the undone list. An accepted redo moves the first undone step,
--- if any, to the end of the standing list." "Save and every refused call change nothing."
-unfoldable pub acceptedCall : Ledger → Call → Ledger
-acceptedCall l (replace place count cells) =
-    withSteps l (l .standing ++ record { place = place; count = count; added = cells } ∷ []) []
-acceptedCall l undo = withSteps l (beforeLast (l .standing)) (lastOf (l .standing) ++ l .undone)
-acceptedCall l redo = withSteps l (l .standing ++ take 1 (l .undone)) (drop 1 (l .undone))
-acceptedCall l (save arrived out) = l
+-- what steps count for, by what one does
+abbrev pub weightOf : (Step → ℕ) → List Step → ℕ
+weightOf weigh [] = 0
+weightOf weigh (s ∷ rest) = weightOf weigh rest + weigh s
 
--- "each call with its arguments and whether it was accepted"; "Save and every refused call change nothing."
-abbrev pub fed : Ledger → Call → Bool → Ledger
-fed l call taken = cond taken (acceptedCall l call) l
+module _ (weigh : Step → ℕ) where
+  -- how much is done by the ledger's own count, such as "3 for each standing step and one for each cell that it removes
+  -- or adds"
+  abbrev pub doneBy : Ledger → ℕ
+  doneBy l = weightOf weigh (l .standing)
+
+  -- "An accepted replace puts its step at the end of the standing list and empties the undone list." "An accepted undo
+  -- moves the last standing step, if any, to the front of the undone list. An accepted redo moves the first undone step,
+  -- if any, to the end of the standing list." "an accepted save sets it to the words done"
+  unfoldable pub acceptedCall : Ledger → Call → Ledger
+  acceptedCall l (replace place count cells) =
+      withSteps l (l .standing ++ record { place = place; count = count; added = cells } ∷ []) []
+      (replacedMark (doneBy l) (l .saved))
+  acceptedCall l undo = withSteps l (beforeLast (l .standing)) (lastOf (l .standing) ++ l .undone) (l .saved)
+  acceptedCall l redo = withSteps l (l .standing ++ take 1 (l .undone)) (drop 1 (l .undone)) (l .saved)
+  acceptedCall l (save arrived out) = withSteps l (l .standing) (l .undone) (At (doneBy l))
+
+  -- "each call with its arguments and whether it was accepted"; "every refused call change[s] nothing"
+  abbrev pub fed : Ledger → Call → Bool → Ledger
+  fed l call taken = cond taken (acceptedCall l call) l
+
+  -- what the question answers, by the ledger
+  abbrev pub unchangedBy : Ledger → Bool
+  unchangedBy l = unchangedAt (doneBy l) (l .saved)
 
 -- "Each standing step in order turns it into the cells before its place, the cells added, and the cells from place plus
 -- count on."

@@ -1,3 +1,4 @@
+pub mod Marks
 pub mod Ledger
 pub mod Records
 pub mod Editor

@@ -1,9 +1,11 @@
 -- Document 01, "The page": the record of a step, and the texts and lengths that records lead through.
 use Prim.Native.Nat.{ℕ, _+_, _-_}
-use mathlib.Core.Bool.{Bool, true, _&&_}
+use mathlib.Core.Bool.{Bool, true, _&&_, _||_}
 use mathlib.Core.List.{List, [], _∷_, _++_}
 use lib.ListN.{length, take, drop}
-use lib.Dec.{leb}
+use lib.Dec.{leb, eqb}
+use Rattle.editor.specs.declared.Mark.{Mark}
+use Rattle.editor.specs.declared.Mark.the-variants.{None, At}
 use Rattle.editor.specs.Ledger.{Step}
 
 -- "A step's record is: place, count removed, count added, the removed cells, the added cells."
@@ -41,3 +43,13 @@ unfoldable pub lengthsFit : ℕ → ℕ → List Entry → Bool
 lengthsFit room n [] = true
 lengthsFit room n (e ∷ es) =
     leb (e .place + length (e .removed)) n && leb (lengthAfter n e) room && lengthsFit room (lengthAfter n e) es
+
+-- "0 [..] the end of a record": somewhere among steps they count for just so much
+unfoldable pub endsAt : (Step → ℕ) → List Step → ℕ → Bool
+endsAt weigh [] n = eqb n 0
+endsAt weigh (s ∷ rest) n = eqb n 0 || (leb (weigh s) n && endsAt weigh rest (n - weigh s))
+
+-- 14 "when the mark is not none and is neither 0 nor the end of a record", standing or undone
+abbrev pub markFits : (Step → ℕ) → Mark → List Step → Bool
+markFits weigh None steps = true
+markFits weigh (At n) steps = endsAt weigh steps n

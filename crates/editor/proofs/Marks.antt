@@ -1,0 +1,91 @@
+-- What steps count for, and that a saved mark stays 0, the end of a record, or none. Assumes nothing.
+use Prim.Native.Nat.{ℕ, _+_, _-_, _≤_}
+use mathlib.Core.Path.{_≡_, refl, sym, ap, _∙_}
+use mathlib.Core.Bool.{Bool, true, false, _&&_, _||_}
+use mathlib.Core.List.{List, [], _∷_, _++_, reverseAux, reverse, reverseAux-eq}
+use native.Mathlib.Omega.{arith}
+use native.Mathlib.Nat.{add-zero}
+use lib.Dec.{leb, ltb, eqb}
+use borrow.Author.Tests.{le-leb, leb-true, ltb-false}
+use Rattle.answer.proofs.Below.{cond-case}
+use Rattle.editor.specs.declared.Mark.{Mark}
+use Rattle.editor.specs.declared.Mark.the-variants.{None, At}
+use Rattle.editor.specs.Marks.{replacedMark}
+use Rattle.editor.specs.Ledger.{Step, weightOf}
+use Rattle.editor.specs.Records.{endsAt, markFits}
+
+or-right : (a b : Bool) → b ≡ true → (a || b) ≡ true
+or-right true b p = refl
+or-right false b p = p
+
+and-same : (t a b : Bool) → (t ≡ true → a ≡ b) → (t && a) ≡ (t && b)
+and-same true a b f = f refl
+and-same false a b f = refl
+
+module _ (weigh : Step → ℕ) where
+  abbrev weight : List Step → ℕ
+  weight = weightOf weigh
+
+  pub weight-reverse : (back rest : List Step) → weight (reverseAux back rest) ≡ weight back + weight rest
+  weight-reverse [] rest = omega arith
+  weight-reverse (x ∷ back) rest = omega (arith, weight-reverse back (x ∷ rest))
+
+  ends-zero : (steps : List Step) → endsAt weigh steps 0 ≡ true
+  unfolding endsAt
+  ends-zero [] = refl
+  ends-zero (x ∷ rest) = refl
+
+  -- an end among the later steps, and the one at their beginning
+  ends-past :
+      (back rest : List Step) (n : ℕ) → endsAt weigh rest n ≡ true →
+      endsAt weigh (reverseAux back rest) (weight back + n) ≡ true
+  unfolding endsAt
+  ends-past [] rest n h =
+      let z : 0 + n ≡ n = omega arith in
+      rw z h
+  ends-past (x ∷ back) rest n h =
+      let m : weight back + weigh x + n ≡ weight back + (weigh x + n) = omega arith in
+      let left : weigh x + n - weigh x ≡ n = omega arith in
+      let next : (leb (weigh x) (weigh x + n) && endsAt weigh rest (weigh x + n - weigh x)) ≡ true =
+      rw (le-leb (weigh x) (weigh x + n) (omega arith), left) h in
+      rw m (ends-past back (x ∷ rest) (weigh x + n) (or-right (eqb (weigh x + n) 0) _ next))
+
+  pub ends-here : (back rest : List Step) → endsAt weigh (reverseAux back rest) (weight back) ≡ true
+  ends-here back rest = rw (← add-zero (weight back)) (ends-past back rest 0 (ends-zero rest))
+
+  -- an end within the first steps, whatever follows
+  within-first :
+      (first rest new : List Step) (n : ℕ) → n ≤ weight first →
+      endsAt weigh (first ++ rest) n ≡ endsAt weigh (first ++ new) n
+  unfolding endsAt
+  within-first [] rest new n h =
+      let z : n ≡ 0 = omega arith in
+      rw (z, ends-zero rest, ends-zero new)
+  within-first (x ∷ first) rest new n h =
+      ap (_||_ (eqb n 0))
+      (and-same (leb (weigh x) n) _ _
+      (λ t. within-first first rest new (n - weigh x) (omega (arith, leb-true (weigh x) n t))))
+
+  ends-within :
+      (back rest new : List Step) (n : ℕ) → n ≤ weight back →
+      endsAt weigh (reverseAux back rest) n ≡ endsAt weigh (reverseAux back new) n
+  ends-within back rest new n h =
+      rw (reverseAux-eq back rest, reverseAux-eq back new)
+      (within-first (reverse back) rest new n (omega (arith, weight-reverse back [])))
+
+  -- a save marks what is done, and a replace drops a mark beyond it
+  pub saved-fits : (back rest : List Step) → markFits weigh (At (weight (reverse back))) (reverseAux back rest) ≡ true
+  saved-fits back rest =
+      let n : weight (reverse back) ≡ weight back = omega (arith, weight-reverse back []) in
+      rw n (ends-here back rest)
+
+  pub replaced-fits :
+      (back rest new : List Step) (m : Mark) → markFits weigh m (reverseAux back rest) ≡ true →
+      markFits weigh (replacedMark (weight (reverse back)) m) (reverseAux back new) ≡ true
+  replaced-fits back rest new None h = refl
+  replaced-fits back rest new (At n) h =
+      let w : weight (reverse back) ≡ weight back = omega (arith, weight-reverse back []) in
+      cond-case (λ (m : Mark). markFits weigh m (reverseAux back new) ≡ true) (ltb (weight (reverse back)) n) (λ _. refl)
+      (λ q.
+      let below : n ≤ weight (reverse back) = ltb-false (weight (reverse back)) n q in
+      sym (ends-within back rest new n (omega arith)) ∙ h)
