@@ -19,7 +19,7 @@ use Rattle.editor.specs.Records.{Entry, applied, entryAt}
 use Rattle.editor.specs.Editor.{Editor, Space, Turn, refused, edited, saving, savedAs, undoLast, redoNext}
 use Rattle.editor.specs.Editor.{replaceFitting, replaceAt, saveStanding, turnOf, over, overlong, outputOf}
 use Rattle.editor.specs.Editor as change
-use Rattle.editor.specs.Layout.{Outcome, refusing, taken, Layout, laid, callOn, outcomeOf}
+use Rattle.editor.specs.Layout.{Outcome, refusing, taken, Layout, laid, callOn, outcomeOf, replyOf}
 use Rattle.editor.specs.Demand.{Unchanged, RefusedSame}
 
 -- the records of an editor in order
@@ -141,3 +141,8 @@ module _ {S : Type 0} (layout : Layout S) where
   pub buffer-long :
       (s : S) (c : Call) → layout .long s ≡ true → outcomeOf layout s c ≡ refusing s (outputOf c) tooLong
   buffer-long s c long = long-first s c (or-right (overlong c) (layout .long s) long)
+
+  pub asked-long :
+      (s : S) → layout .long s ≡ true → replyOf layout s ≡ record { verdict = tooLong; unchanged = false }
+  unfolding replyOf
+  asked-long s long = rw long

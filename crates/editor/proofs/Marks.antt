@@ -30,7 +30,7 @@ module _ (weigh : Step → ℕ) where
   weight-reverse [] rest = omega arith
   weight-reverse (x ∷ back) rest = omega (arith, weight-reverse back (x ∷ rest))
 
-  ends-zero : (steps : List Step) → endsAt weigh steps 0 ≡ true
+  pub ends-zero : (steps : List Step) → endsAt weigh steps 0 ≡ true
   unfolding endsAt
   ends-zero [] = refl
   ends-zero (x ∷ rest) = refl
@@ -54,7 +54,7 @@ module _ (weigh : Step → ℕ) where
   ends-here back rest = rw (← add-zero (weight back)) (ends-past back rest 0 (ends-zero rest))
 
   -- an end within the first steps, whatever follows
-  within-first :
+  pub within-first :
       (first rest new : List Step) (n : ℕ) → n ≤ weight first →
       endsAt weigh (first ++ rest) n ≡ endsAt weigh (first ++ new) n
   unfolding endsAt

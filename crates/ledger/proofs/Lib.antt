@@ -1,4 +1,5 @@
 pub mod Words
+pub mod Marks
 pub mod Sound
 pub mod Parts
 pub mod Lying

@@ -3,23 +3,28 @@
 use Prim.Native.Nat.{ℕ, _+_, _≤_}
 use mathlib.Core.Path.{_≡_, refl, sym, subst}
 use mathlib.Core.Bool.{true, false}
-use mathlib.Core.List.{List, [], _∷_, _++_, reverseAux, reverse, reverse-cons, append-nil, append-assoc, reverseAux-eq}
+use mathlib.Core.List.{List, [], _∷_, _++_, map, reverseAux, reverse, reverse-cons, append-nil, append-assoc}
+use mathlib.Core.List.{reverseAux-eq}
 use mathlib.Core.Option.{some}
 use native.Mathlib.Omega.{arith}
 use lib.ListN.{length, take, length-append}
 use lib.Seq.{take-at}
 use borrow.Author.Tests.{le-leb, le-ltb}
 use Rattle.answer.specs.Answer.{limit}
-use Rattle.editor.specs.Editor.{Editor, withText, over}
+use Rattle.editor.specs.declared.Mark.{Mark}
+use Rattle.editor.specs.Ledger.{weightOf}
+use Rattle.editor.specs.Records.{stepOf}
+use Rattle.editor.specs.Editor.{Editor, withText, withMark, over}
 use Rattle.editor.proofs.Steps.{and-true}
 use Rattle.editor.proofs.Ends.{entries}
 use Rattle.editor.proofs.Held.{Legal}
 use Rattle.editor.proofs.Promises.{Lays}
-use Rattle.ledger.specs.Words.{Entry, wordsOf, sizeOf, sizes, pad}
+use Rattle.ledger.specs.Words.{Entry, wordsOf, inWords, sizeOf, sizes, pad}
 use Rattle.ledger.specs.Page.{State, stateOf, framed, records}
 use Rattle.ledger.specs.Layout.{page}
 use Rattle.ledger.proofs.Words.{length-pad, take-pad, zeros-pad, words, length-words, words-append}
 use Rattle.ledger.proofs.Words.{sizes-reverse}
+use Rattle.ledger.proofs.Marks.{weight-sizes}
 use Rattle.ledger.proofs.Sound.{Sound, sound-records}
 
 -- the page with its buffers in which an editor lies, by its opening length and the length of its history
@@ -32,6 +37,7 @@ pageOf opening space e =
       length = length (e .text);
       used = length (words (entries e));
       done = sizes (e .standing);
+      saved = e .saved;
     })
     (pad (e .room) (e .text)) (pad space (words (entries e)))
 
@@ -41,9 +47,9 @@ pub record Lies (opening : ℕ) (s : State) (e : Editor) : Type 0 where
   pub few : length (words (entries e)) ≤ space
   pub small-text : e .room ≤ limit
   pub small-history : space ≤ limit
-  pub legal : Legal opening e
+  pub legal : Legal inWords opening e
 
-module _ (opening space : ℕ) (e : Editor) (legal : Legal opening e) (few : length (words (entries e)) ≤ space) where
+module _ (opening space : ℕ) (e : Editor) (legal : Legal inWords opening e) (few : length (words (entries e)) ≤ space) where
   abbrev here : State
   here = pageOf opening space e
 
@@ -70,6 +76,7 @@ module _ (opening space : ℕ) (e : Editor) (legal : Legal opening e) (few : len
         end = refl;
         fits = rw length-text (legal .fits);
         reach = legal .reach;
+        mark = legal .marked;
       }
 
   found-here : page .editorIn here ≡ some e
@@ -82,18 +89,20 @@ module _ (opening space : ℕ) (e : Editor) (legal : Legal opening e) (few : len
         text = take-pad (e .room) (e .text) i;
         standing = e .standing;
         undone = e .undone;
+        saved = e .saved;
       }))
 
   -- undo and redo leave the history: the same records are parted elsewhere
   moved-here :
       (text : List ℕ) (standing undone : List Entry) → reverseAux standing undone ≡ entries e →
-      page .moved here (withText e text standing undone) ≡ pageOf opening space (withText e text standing undone)
+      page .moved here (withText e text standing undone (e .saved))
+      ≡ pageOf opening space (withText e text standing undone (e .saved))
   moved-here text standing undone p = rw (length-text, p)
 
   -- replace puts its record after those that stand
-  module _ (text : List ℕ) (x : Entry) where
+  module _ (text : List ℕ) (x : Entry) (mark : Mark) where
     abbrev after : Editor
-    after = withText e text (x ∷ e .standing) []
+    after = withText e text (x ∷ e .standing) [] mark
 
     abbrev first : List ℕ
     first = words (reverse (e .standing))
@@ -126,6 +135,20 @@ page-lays =
           rw (l .state, t, h);
       sees = λ {n} {s} {e} l. rw (l .state) (found-here n (l .space) e (l .legal) (l .few));
       shows = λ {n} {s} {e} l. rw (l .state) (take-pad (e .room) (e .text));
+      done =
+          λ {n} {s} {e} l.
+          rw (l .state)
+          (omega (arith, weight-sizes (reverse (e .standing)), sizes-reverse (e .standing) []));
+      marks =
+          λ {n} {s} {e} l mark ok.
+          record {
+            space = l .space;
+            state = rw (l .state);
+            few = l .few;
+            small-text = l .small-text;
+            small-history = l .small-history;
+            legal = ok;
+          };
       moves =
           λ {n} {s} {e} l text standing undone p ok.
           record {
@@ -137,17 +160,17 @@ page-lays =
             legal = ok;
           };
       records =
-          λ {n} {s} {e} l text x fits ok.
+          λ {n} {s} {e} l text x mark fits ok.
           let room : page .spaceIn (pageOf n (l .space) e) .needed x ≤ page .spaceIn (pageOf n (l .space) e) .words =
           subst (λ (s : State). page .spaceIn s .needed x ≤ page .spaceIn s .words) (l .state) fits in
           record {
             space = l .space;
-            state = rw (l .state) (recorded-here n (l .space) e (l .legal) (l .few) text x);
+            state = rw (l .state) (recorded-here n (l .space) e (l .legal) (l .few) text x mark);
             few =
                 omega (
                   arith,
                   room,
-                  length-after n (l .space) e (l .legal) (l .few) text x,
+                  length-after n (l .space) e (l .legal) (l .few) text x mark,
                   length-history n (l .space) e (l .legal) (l .few),
                 );
             small-text = l .small-text;

@@ -15,11 +15,14 @@ use Rattle.reading.proofs.Laws.{SoundEnd}
 use Rattle.codec.specs.declared.Kind.{Kind}
 use Rattle.codec.specs.Kinds.{readingIn}
 use Rattle.codec.proofs.ByKind.{fault-numbered, reads-itself}
+use Rattle.editor.specs.declared.Mark.the-variants.{At}
 use Rattle.editor.specs.Ledger.{opened}
 use Rattle.editor.specs.Layout.{refusing, taken}
 use Rattle.editor.specs.Demand.{Unchanged}
+use Rattle.editor.proofs.Marks.{ends-zero}
 use Rattle.editor.proofs.Held.{Frame, editorOf, Held, same, legal}
 use Rattle.editor.proofs.Promises.{Kept, kept}
+use Rattle.ledger.specs.Words.{inWords}
 use Rattle.ledger.specs.Page.{stateOf, Outcome}
 use Rattle.ledger.specs.Calls.{over, noPage, openRead, openOf}
 use Rattle.ledger.specs.Demand.{OpenRefused}
@@ -42,9 +45,16 @@ module _ (kind : Kind) (arrived text history : List ℕ) where
   open-read a t h accepted e n =
       cond-case Begins (ltb (length text) (length (readingIn kind arrived .cells))) (λ _ ok. absurd (false≢true ok))
       (λ q _.
-      let o : Frame arrived = record { kind = kind; reading = readingIn kind arrived .cells; room = length text } in
-      let held : Held arrived (editorOf o [] []) (opened kind arrived) =
-      same o [] [] (record { fits = ltb-false _ _ q; few = a; reads = reads-itself kind arrived e }) in
+      let o : Frame arrived =
+      record { kind = kind; reading = readingIn kind arrived .cells; room = length text; mark = At 0 } in
+      let held : Held inWords arrived (editorOf o [] []) (opened kind arrived) =
+      same inWords o [] []
+      (record {
+        fits = ltb-false _ _ q;
+        few = a;
+        reads = reads-itself kind arrived e;
+        marked = ends-zero inWords [];
+      }) in
       kept page-lays
       (record {
         space = length history;
@@ -52,7 +62,7 @@ module _ (kind : Kind) (arrived text history : List ℕ) where
         few = omega arith;
         small-text = t;
         small-history = h;
-        legal = legal held;
+        legal = legal inWords held;
       })
       held)
   open-read a t h (fault k place) e n = λ ok. absurd (omega (arith, n, eqb-true k 0 ok))

@@ -1,16 +1,17 @@
 -- A page's records are found exactly when they meet the parts of soundness that document 01 lists. Assumes nothing.
 use Prim.Native.Nat.{_≤_}
 use mathlib.Core.Path.{_≡_, _∙_}
-use mathlib.Core.Bool.{true}
-use mathlib.Core.List.{List, [], reverseAux, reverse}
+use mathlib.Core.Bool.{Bool, true, _&&_}
+use mathlib.Core.List.{List, [], map, reverseAux, reverse}
 use mathlib.Core.Option.{Option, none, some}
 use native.Mathlib.Nat.{add-zero}
 use native.Mathlib.Omega.{arith}
 use lib.ListN.{length, take, length-take}
 use lib.Dec.{eqb}
 use borrow.Author.Tests.{eq-eqb, eqb-true}
-use Rattle.answer.proofs.Below.{cond-case}
-use Rattle.ledger.specs.Words.{Entry, Parted, recordsIn, lengthsFit, reached, partAt}
+use Rattle.answer.proofs.Below.{both, cond-case}
+use Rattle.editor.specs.Records.{stepOf, markFits}
+use Rattle.ledger.specs.Words.{Entry, Parted, inWords, recordsIn, lengthsFit, reached, partAt}
 use Rattle.ledger.specs.Page.{State, framed, reachedAtDone, fitting, records}
 use Rattle.ledger.proofs.Words.{Whole, words, sizes, records-words, exact, PartedAs, parted-at, parted-here, parted-whole}
 
@@ -20,6 +21,7 @@ pub record Sound (s : State) (v : Parted) : Type 0 where
   pub end : sizes (v .standing) ≡ s .page .done
   pub fits : lengthsFit (length (s .text)) (s .page .opening) (reverseAux (v .standing) (v .undone)) ≡ true
   pub reach : reached (s .page .opening) (reverse (v .standing)) ≡ s .page .length
+  pub mark : markFits inWords (s .page .saved) (map stepOf (reverseAux (v .standing) (v .undone))) ≡ true
 
 module _ (s : State) where
   pub sound-records : (v : Parted) → Sound s v → records s ≡ some v
@@ -34,25 +36,33 @@ module _ (s : State) where
         ← h .tiles,
         records-words (s .page .used) all few,
         h .fits,
+        h .mark,
         parted,
         eq-eqb (reached (s .page .opening) (reverse (v .standing))) (s .page .length) (h .reach),
       )
 
   module _ (f : framed s ≡ true) where
-    module _ (es : List Entry) (w : words es ≡ take (s .page .used) (s .history)) (l : lengthsFit (length (s .text)) (s .page .opening) es ≡ true) where
+    module _ (es : List Entry) (w : words es ≡ take (s .page .used) (s .history)) (l : lengthsFit (length (s .text)) (s .page .opening) es ≡ true) (m : markFits inWords (s .page .saved) (map stepOf es) ≡ true) where
       reached-sound : (x : Option Parted) → Whole (PartedAs es (s .page .done)) x → Whole (Sound s) (reachedAtDone (s .page) x)
       unfolding reachedAtDone
       reached-sound none p = tt
       reached-sound (some v) p =
           cond-case (Whole (Sound s)) (eqb (reached (s .page .opening) (reverse (v .standing))) (s .page .length))
-          (λ t. record { frame = f; tiles = rw (p .0) w; end = p .1; fits = rw (p .0) l; reach = eqb-true _ _ t }) (λ _. tt)
+          (λ t.
+          record { frame = f; tiles = rw (p .0) w; end = p .1; fits = rw (p .0) l; reach = eqb-true _ _ t; mark = rw (p .0) m })
+          (λ _. tt)
 
     fitting-sound : (x : Option (List Entry)) → Whole (λ es. words es ≡ take (s .page .used) (s .history)) x → Whole (Sound s) (fitting s x)
     unfolding fitting
     fitting-sound none w = tt
     fitting-sound (some es) w =
-        cond-case (Whole (Sound s)) (lengthsFit (length (s .text)) (s .page .opening) es)
-        (λ t. reached-sound es w t (partAt es (s .page .done) []) (parted-whole es (s .page .done) [] (s .page .done) (omega arith))) (λ _. tt)
+        let fits : Bool = lengthsFit (length (s .text)) (s .page .opening) es in
+        let marked : Bool = markFits inWords (s .page .saved) (map stepOf es) in
+        cond-case (Whole (Sound s)) (fits && marked)
+        (λ t.
+        let b = both fits marked t in
+        reached-sound es w (b .0) (b .1) (partAt es (s .page .done) []) (parted-whole es (s .page .done) [] (s .page .done) (omega arith)))
+        (λ _. tt)
 
   pub records-sound : Whole (Sound s) (records s)
   unfolding records

@@ -1,5 +1,5 @@
--- Document 01, "The page" and "Numbers given back": the five calls, and everything they leave. Replace, undo, redo and
--- save are the editor's calls, laid out in the page.
+-- Document 01, "The page" and "Numbers given back": the five calls, and everything they leave; and order 5's question.
+-- Replace, undo, redo and save are the editor's calls, laid out in the page.
 use Prim.Native.Nat.{ℕ}
 use mathlib.Core.Bool.{cond, _||_}
 use mathlib.Core.List.{List, []}
@@ -9,6 +9,7 @@ use Rattle.answer.specs.Answer.{numbered, tooLong}
 use Rattle.reading.specs.Reading.{Ending, accepted, fault}
 use Rattle.codec.specs.declared.Kind.{Kind}
 use Rattle.codec.specs.Kinds.{readingIn}
+use Rattle.editor.specs.declared.Mark.the-variants.{None, At}
 use Rattle.editor.specs.Ledger.{Call, replace, undo, redo, save}
 use Rattle.editor.specs.Layout as editor
 use Rattle.ledger.specs.Words.{pad}
@@ -17,7 +18,7 @@ use Rattle.ledger.specs.Layout.{page}
 use Rattle.ledger.specs.declared.Page.{Page}
 pub use Rattle.editor.specs.Records.{applied, turned, entryAt}
 pub use Rattle.editor.specs.Editor.{over}
-pub use Rattle.editor.specs.Layout.{refusing}
+pub use Rattle.editor.specs.Layout.{refusing, Reply}
 
 abbrev pub outcomeOf : State → Call → Outcome
 outcomeOf s c = editor.outcomeOf page s c
@@ -37,17 +38,22 @@ redoOf s = outcomeOf s redo
 abbrev pub saveOf : State → List ℕ → List ℕ → Outcome
 saveOf s arrived out = outcomeOf s (save arrived out)
 
--- "a refused open gives the kind with four zeros"
-abbrev pub noPage : Kind → Page
-noPage kind = record { kind = kind; opening = 0; length = 0; used = 0; done = 0 }
+-- the question: 16, 14
+abbrev pub unchangedOf : State → Reply
+unchangedOf s = editor.replyOf page s
 
--- "Open reads the arrived bytes into the text. Nothing stands; history is all 0."
+-- "a refused open gives the kind with four zeros"; "a refused one [sets the mark] to none"
+abbrev pub noPage : Kind → Page
+noPage kind = record { kind = kind; opening = 0; length = 0; used = 0; done = 0; saved = None }
+
+-- "Open reads the arrived bytes into the text. Nothing stands; history is all 0." "An accepted open sets it to 0"
 abbrev pub openedOn : Kind → List ℕ → List ℕ → List ℕ → Outcome
 openedOn kind cells text history =
     record {
       verdict = numbered 0 (length cells);
       state =
-          stateOf (record { kind = kind; opening = length cells; length = length cells; used = 0; done = 0 })
+          stateOf
+          (record { kind = kind; opening = length cells; length = length cells; used = 0; done = 0; saved = At 0 })
           (pad (length text) cells) (replicate (length history) 0);
       output = [];
     }

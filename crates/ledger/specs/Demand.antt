@@ -15,8 +15,8 @@ use Rattle.ledger.specs.Calls.{noPage, openOf}
 use Rattle.ledger.specs.Running.{after, heard}
 
 -- what holds of a page with its buffers, and of the ledger that heard the calls that led to it (editor, Demand): the
--- records agree with the ledger step for step, the text is the ledger's, undo, redo and save answer by the ledger, and
--- undo leads back to the arrived bytes
+-- records agree with the ledger step for step, the text and the mark are the ledger's, undo, redo, save and the question
+-- answer by the ledger, and undo leads back to the arrived bytes
 abbrev pub Promised : List ℕ → State → Ledger → Type 0
 Promised arrived s l = editor.Promised page arrived s l
 

@@ -4,9 +4,11 @@ use mathlib.Core.Bool.{_||_}
 use mathlib.Core.List.{List, _++_}
 use mathlib.Core.Option.{Option, none, some}
 use lib.ListN.{length, take}
+use Rattle.editor.specs.declared.Mark.{Mark}
 use Rattle.editor.specs.Editor.{Editor, Space, over}
 use Rattle.editor.specs.Layout.{Layout}
-use Rattle.ledger.specs.Words.{Parted, wordsOf, sizeOf, sizes, pad}
+use Rattle.ledger.specs.Words.{Parted, wordsOf, inWords, sizeOf, sizes, pad}
+use Rattle.ledger.specs.declared.Page.{Page}
 use Rattle.ledger.specs.Page.{State, stateOf, textIn, records}
 
 -- what the calls see of a page with these records
@@ -18,6 +20,7 @@ editorOf s v =
       text = textIn s;
       standing = v .standing;
       undone = v .undone;
+      saved = s .page .saved;
     }
 
 abbrev pub editorFor : State → Option Parted → Option Editor
@@ -26,26 +29,47 @@ editorFor s (some v) = some (editorOf s v)
 
 -- "12 is given exactly when done + 3 + removed + added exceeds the history's length"
 abbrev pub spaceIn : State → Space
-spaceIn s = record { words = length (s .history); needed = λ e. s .page .done + sizeOf e }
+spaceIn s = record { words = length (s .history); needed = λ e. s .page .done + sizeOf e; done = s .page .done }
 
 -- "After an accepted open, replace, undo or redo, text past the length and history past *used* are 0."
-abbrev pub left : State → List ℕ → ℕ → ℕ → List ℕ → State
-left s text used done history =
+abbrev pub left : State → List ℕ → ℕ → ℕ → Mark → List ℕ → State
+left s text used done saved history =
     stateOf
-    (record { kind = s .page .kind; opening = s .page .opening; length = length text; used = used; done = done })
+    (record {
+      kind = s .page .kind;
+      opening = s .page .opening;
+      length = length text;
+      used = used;
+      done = done;
+      saved = saved;
+    })
     (pad (length (s .text)) text) history
+
+-- a save changes the page's mark, and neither buffer
+abbrev pub markedAs : Page → Mark → Page
+markedAs p saved =
+    record {
+      kind = p .kind;
+      opening = p .opening;
+      length = p .length;
+      used = p .used;
+      done = p .done;
+      saved = saved;
+    }
 
 abbrev pub page : Layout State
 page =
     record {
+      weigh = inWords;
       long = λ s. over (s .text) || over (s .history);
       editorIn = λ s. editorFor s (records s);
       textIn = textIn;
       spaceIn = spaceIn;
+      marked = λ s saved. stateOf (markedAs (s .page) saved) (s .text) (s .history);
       -- undo and redo: "Neither changes the history."
-      moved = λ s e. left s (e .text) (s .page .used) (sizes (e .standing)) (s .history);
+      moved = λ s e. left s (e .text) (s .page .used) (sizes (e .standing)) (e .saved) (s .history);
       -- "Replace drops what could be redone, then records its step": the words before done, and the new record
       recorded =
-          λ s e x. left s (e .text) (s .page .done + sizeOf x) (s .page .done + sizeOf x)
+          λ s e x. left s (e .text) (s .page .done + sizeOf x) (s .page .done + sizeOf x) (e .saved)
           (pad (length (s .history)) (take (s .page .done) (s .history) ++ wordsOf x));
     }

@@ -1,3 +1,3 @@
 -- Document 01, "The page": the ledger is the editor's, whatever the layout.
-pub use Rattle.editor.specs.Ledger.{Step, Ledger, opened, Call, replace, undo, redo, save, fed, textOf}
+pub use Rattle.editor.specs.Ledger.{Step, Ledger, opened, Call, replace, undo, redo, save, fed, textOf, doneBy, unchangedBy}
 unfoldable pub use Rattle.editor.specs.Ledger.{acceptedCall, textAfter}

@@ -1,16 +1,17 @@
 -- Document 01, "The page": a page with the buffers lent beside it, and when it is sound.
 use Prim.Native.Nat.{ℕ}
 use mathlib.Core.Bool.{Bool, true, cond, _&&_}
-use mathlib.Core.List.{List, [], reverse}
+use mathlib.Core.List.{List, [], map, reverse}
 use mathlib.Core.Option.{Option, none, some}
 use lib.ListN.{length, take, drop}
 use lib.Dec.{leb, eqb}
 use Rattle.answer.specs.Answer.{inNumbers}
-use Rattle.answer.specs.declared.Answer.{Answer}
+use Rattle.editor.specs.Records.{stepOf, markFits}
 use Rattle.editor.specs.Layout as editor
-use Rattle.ledger.specs.Words.{Entry, Parted, recordsIn, reached, lengthsFit, partAt, zeros}
+use Rattle.ledger.specs.Words.{Entry, Parted, inWords, recordsIn, reached, lengthsFit, partAt, zeros}
 use Rattle.ledger.specs.declared.Page.{Page}
 use Rattle.ledger.specs.declared.Edited.{Edited}
+use Rattle.ledger.specs.declared.Asked.{Asked}
 
 pub record State : Type 0 where
   pub page : Page
@@ -38,10 +39,11 @@ unfoldable pub reachedAtDone : Page → Option Parted → Option Parted
 reachedAtDone page none = none
 reachedAtDone page (some v) = cond (eqb (reached (page .opening) (reverse (v .standing))) (page .length)) (some v) none
 
+-- "14 also when the mark is not none and is neither 0 nor the end of a record", of the undone ones too
 unfoldable pub fitting : State → Option (List Entry) → Option Parted
 fitting s none = none
 fitting s (some es) =
-    cond (lengthsFit (length (s .text)) (s .page .opening) es)
+    cond (lengthsFit (length (s .text)) (s .page .opening) es && markFits inWords (s .page .saved) (map stepOf es))
     (reachedAtDone (s .page) (partAt es (s .page .done) []))
     none
 
@@ -57,6 +59,11 @@ Outcome = editor.Outcome State
 abbrev pub leaves : Edited → List ℕ → List ℕ → Outcome
 leaves r text history = record { verdict = inNumbers (r .answer); state = stateOf (r .page) text history; output = [] }
 
--- what save leaves: it gives no page back, and changes only the output
-abbrev pub keeps : Answer → Page → List ℕ → List ℕ → List ℕ → Outcome
-keeps r page text history out = record { verdict = inNumbers r; state = stateOf page text history; output = out }
+-- what save leaves: the page, its buffers as they were, and the output
+abbrev pub keeps : Edited → List ℕ → List ℕ → List ℕ → Outcome
+keeps r text history out =
+    record { verdict = inNumbers (r .answer); state = stateOf (r .page) text history; output = out }
+
+-- what the question gives
+abbrev pub replies : Asked → editor.Reply
+replies r = record { verdict = inNumbers (r .answer); unchanged = r .unchanged }

@@ -5,6 +5,8 @@ use mathlib.Core.List.{List, [], _∷_, _++_}
 use mathlib.Core.Option.{Option, none, some}
 use lib.ListN.{length, take, drop, replicate}
 use lib.Dec.{leb, eqb}
+use Rattle.editor.specs.Ledger.{Step}
+use Rattle.editor.specs.Records.{stepOf}
 pub use Rattle.editor.specs.Records.{Entry, lengthAfter}
 unfoldable pub use Rattle.editor.specs.Records.{reached, lengthsFit}
 
@@ -12,8 +14,12 @@ unfoldable pub use Rattle.editor.specs.Records.{reached, lengthsFit}
 abbrev pub wordsOf : Entry → List ℕ
 wordsOf e = e .place ∷ length (e .removed) ∷ length (e .added) ∷ (e .removed ++ e .added)
 
+-- "3 for each standing step and one for each cell that it removes or adds"
+abbrev pub inWords : Step → ℕ
+inWords s = 3 + s .count + length (s .added)
+
 abbrev pub sizeOf : Entry → ℕ
-sizeOf e = 3 + length (e .removed) + length (e .added)
+sizeOf e = inWords (stepOf e)
 
 -- how many words records are
 abbrev pub sizes : List Entry → ℕ
