@@ -7,13 +7,13 @@ use mathlib.Core.Option.{Option, none, some}
 use native.Mathlib.Omega.{arith}
 use lib.ListN.{length, length-take}
 use borrow.Author.Tests.{ltb-false}
-use Rattle.answer.specs.Answer.{limit, numbered, inNumbers, tooLong}
+use Rattle.answer.specs.Answer.{Verdict, limit, numbered, inNumbers, tooLong}
 use Rattle.answer.specs.declared.Answer.{Answer}
 use Rattle.answer.specs.declared.Answer.the-variants.{Refused}
 use Rattle.answer.specs.declared.Refusal.the-variants.{Unsound, OverLimit}
 use Rattle.ledger.specs.Words.{Entry, Parted}
-use Rattle.ledger.specs.Page.{State, Outcome, records}
-use Rattle.ledger.specs.Calls.{refusing, over}
+use Rattle.ledger.specs.Page.{State, records}
+use Rattle.ledger.specs.Calls.{over}
 use Rattle.ledger.proofs.Words.{Whole, sizes-reverse, length-words}
 use Rattle.ledger.proofs.Sound.{Sound, records-sound}
 use Rattle.records.specs.declared.Judged.{Judged}
@@ -70,17 +70,22 @@ module _ (s : State) where
   unfolding judgeOf
   fit d e = fit-cases _ (over (s .text) || over (s .history)) (records s) refl refl (records-sound s) (sym d ∙ e)
 
-  -- a page that was refused: every call gives that answer, 16 or 14, and changes nothing
-  module _ (a : Answer) (out : List ℕ) (call : Option Parted → Outcome) (none-refused : call none ≡ refusing s out (numbered 14 0)) where
+  -- a page that was refused: every call, and the question, gives that answer, 16 or 14, by its way to refuse
+  module _
+      (a : Answer)
+      {R : Type 0}
+      (refuse : Verdict → R)
+      (call : Option Parted → R)
+      (none-refused : call none ≡ refuse (numbered 14 0)) where
     unfit-cases :
         (t : Bool) (x : Option Parted) → cond t (judged.Unfit (Refused OverLimit limit)) (judgedAs (s .page .done) x) ≡ judged.Unfit a →
-        cond t (refusing s out tooLong) (call x) ≡ refusing s out (inNumbers a)
-    unfit-cases true x e = let z : Refused OverLimit limit ≡ a = cc in ap (λ (b : Answer). refusing s out (inNumbers b)) z
-    unfit-cases false none e = let z : Refused Unsound 0 ≡ a = cc in none-refused ∙ ap (λ (b : Answer). refusing s out (inNumbers b)) z
+        cond t (refuse tooLong) (call x) ≡ refuse (inNumbers a)
+    unfit-cases true x e = let z : Refused OverLimit limit ≡ a = cc in ap (λ (b : Answer). refuse (inNumbers b)) z
+    unfit-cases false none e = let z : Refused Unsound 0 ≡ a = cc in none-refused ∙ ap (λ (b : Answer). refuse (inNumbers b)) z
     unfit-cases false (some v) e = let z : _≡_ {A = ℕ} 0 1 = cc in absurd (omega arith)
 
     pub unfit :
         {j : Judged} → j ≡ judgeOf s → j ≡ judged.Unfit a →
-        cond (over (s .text) || over (s .history)) (refusing s out tooLong) (call (records s)) ≡ refusing s out (inNumbers a)
+        cond (over (s .text) || over (s .history)) (refuse tooLong) (call (records s)) ≡ refuse (inNumbers a)
     unfolding judgeOf
     unfit d e = unfit-cases (over (s .text) || over (s .history)) (records s) (sym d ∙ e)

@@ -5,7 +5,7 @@ use mathlib.Core.Bool.{Bool, true, false, cond, _&&_}
 use mathlib.Core.List.{List, [], _∷_, reverseAux, reverse}
 use mathlib.Core.Option.{Option, none, some}
 use native.Mathlib.Omega.{arith}
-use native.Mathlib.Nat.{add-zero, zero-add}
+use native.Mathlib.Nat.{add-zero, zero-add, sub-zero}
 use lib.ListN.{length, take, drop, length-take}
 use lib.Seq.{slice, length-take-le}
 use lib.Dec.{leb, eqb}
@@ -14,12 +14,12 @@ use Rattle.answer.specs.Answer.{limit, inNumbers, tooLong}
 use Rattle.answer.specs.declared.Answer.{Answer}
 use Rattle.answer.specs.declared.Answer.the-variants.{Refused}
 use Rattle.answer.specs.declared.Refusal.the-variants.{OverLimit}
-use Rattle.answer.proofs.Below.{both}
+use Rattle.answer.proofs.Below.{both, cond-case}
 use Rattle.answer.proofs.Once.{numbers-once}
 use Rattle.ledger.specs.declared.Page.{Page}
 use Rattle.ledger.specs.Words.{Entry, sizeOf, recordsIn, lengthsFit, reached, zeros}
 use Rattle.ledger.specs.Page.{State, stateOf, framed, records}
-use Rattle.ledger.specs.Parts.{joined, recordsTwice}
+use Rattle.ledger.specs.Parts.{joined, cutIn, markWithin, ends, endingAt, bounded, standingIn, undoneIn, recordsTwice}
 use Rattle.ledger.specs.Calls.{over}
 use Rattle.ledger.proofs.Words.{Whole, drop-take, words, sizes, length-words, exact}
 use Rattle.ledger.proofs.Parts.{two-parts}
@@ -27,17 +27,9 @@ use Rattle.records.specs.declared.Walk.{Walk}
 use Rattle.records.specs.declared.Walk.the-variants.{Broken, Led}
 use Rattle.records.specs.declared.Judged.{Judged}
 use Rattle.records.specs.declared.Judged.the-variants.{Unfit, Sound}
-use Rattle.records.specs.Walking.{lastFrom, walkOf, walkIn, lastBegin, unsound, judgedAs, judgeOf}
+use Rattle.records.specs.Walking.{lastFrom, walkOf, walkCut, lastBegin, unsound, judgedAs, judgeOf}
 use Rattle.records.proofs.Walks.{records-enough}
-
--- what a walk tells of its test
-led : (t : Bool) (a b n l : ℕ) → cond t (Led a b) Broken ≡ Led n l → (t ≡ true) × (a ≡ n) × (b ≡ l)
-led true a b n l e = (refl, (cc), (cc))
-led false a b n l e = let z : _≡_ {A = ℕ} 0 1 = cc in absurd (omega arith)
-
-broken : (t : Bool) (a b : ℕ) → cond t (Led a b) Broken ≡ Broken → t ≡ false
-broken true a b e = let z : _≡_ {A = ℕ} 0 1 = cc in absurd (omega arith)
-broken false a b e = refl
+use Rattle.records.proofs.Cuts.{led, broken}
 
 and-false : (a b : Bool) → b ≡ false → (a && b) ≡ false
 and-false true b e = e
@@ -122,28 +114,31 @@ module _ (p : Page) (t h : List ℕ) where
       let e₃ = both a b (e₂ .0) in
       (leb-true _ _ (e₃ .0), leb-true _ _ (e₃ .1), leb-true _ _ (e₂ .1))
 
-  pub frame : (framed s && leb (p .done) (p .used)) ≡ true → Frame p t h
+  pub frame : bounded s ≡ true → Frame p t h
   frame e =
-      let b = both (framed s) (leb (p .done) (p .used)) e in
+      let a = both (framed s && leb (p .done) (p .used)) (markWithin (p .used) (p .saved)) e in
+      let b = both (framed s) (leb (p .done) (p .used)) (a .0) in
       let f = framed-lengths (b .0) in
       record { opens = f .0; fits = f .1; uses = f .2; stands = leb-true _ _ (b .1) }
 
-  pub unframed : (framed s && leb (p .done) (p .used)) ≡ false → judgedAs (p .done) (records s) ≡ unsound
+  pub unframed : bounded s ≡ false → judgedAs (p .done) (records s) ≡ unsound
   unfolding recordsTwice
   unframed e = rw (two-parts s, e)
 
-  module _ (ok : (framed s && leb (p .done) (p .used)) ≡ true) where
+  module _ (ok : bounded s ≡ true) where
     abbrev standing : Option (List Entry)
-    standing = recordsIn (p .done) (take (p .done) h)
+    standing = standingIn s
 
     abbrev undone : Option (List Entry)
-    undone = recordsIn (p .used - p .done) (take (p .used - p .done) (drop (p .done) h))
+    undone = undoneIn s
 
     abbrev walk₁ : Walk
-    walk₁ = walkIn (length t) 0 (p .opening) 0 (slice 0 (p .done) h)
+    walk₁ = walkCut (length t) 0 (p .opening) 0 (cutIn (p .saved) 0 (p .done) - 0) (slice 0 (p .done) h)
 
     abbrev walk₂ : Walk
-    walk₂ = walkIn (length t) (p .done) (p .length) (p .done) (slice (p .done) (p .used) h)
+    walk₂ =
+        walkCut (length t) (p .done) (p .length) (p .done) (cutIn (p .saved) (p .done) (p .used) - p .done)
+        (slice (p .done) (p .used) h)
 
     judged : judgedAs (p .done) (records s) ≡ judgedAs (p .done) (joined s standing undone)
     unfolding recordsTwice
@@ -151,7 +146,7 @@ module _ (p : Page) (t h : List ℕ) where
 
     is-first : walk₁ ≡ first s standing
     is-first =
-        rw (records-enough (length (take (p .done) h)) (p .done) (take (p .done) h) (omega arith) (omega (arith, length-take (p .done) h)))
+        rw (sub-zero, records-enough (length (take (p .done) h)) (p .done) (take (p .done) h) (omega arith) (omega (arith, length-take (p .done) h)))
 
     is-second : walk₂ ≡ second s undone
     is-second =
@@ -168,17 +163,20 @@ module _ (p : Page) (t h : List ℕ) where
     pub broken-undone : {w : Walk} → w ≡ walk₂ → w ≡ Broken → judgedAs (p .done) (records s) ≡ unsound
     broken-undone e b = judged ∙ no-second s standing undone (sym (e ∙ is-second) ∙ b)
 
-    sizes-standing : (x : Option (List Entry)) → Whole (λ es. words es ≡ take (p .done) h) x → Whole (λ es. sizes es ≡ p .done) x
-    sizes-standing none w = tt
-    sizes-standing (some es) w =
+    sizes-standing :
+        (n : ℕ) (x : Option (List Entry)) → Whole (λ es. words es ≡ take (p .done) h) x →
+        Whole (λ es. sizes es ≡ p .done) (endingAt n x)
+    sizes-standing n none w = tt
+    sizes-standing n (some es) w =
         let f = frame ok in
-        omega (arith, length-words es, ap length w, length-take-le (p .done) h (omega arith))
+        cond-case (Whole (λ es. sizes es ≡ p .done)) (ends es n)
+        (λ _. omega (arith, length-words es, ap length w, length-take-le (p .done) h (omega arith))) (λ _. tt)
 
     pub both-led :
         {v w : Walk} {n l m k : ℕ} → v ≡ walk₁ → v ≡ Led n l → n ≡ p .length → w ≡ walk₂ → w ≡ Led m k → judgedAs (p .done) (records s) ≡ Sound l
     both-led d e q f g =
         judged
-        ∙ led-twice s standing undone _ _ _ _ (sizes-standing standing (exact (p .done) (take (p .done) h))) (sym (d ∙ is-first) ∙ e) q (sym (f ∙ is-second) ∙ g)
+        ∙ led-twice s standing undone _ _ _ _ (sizes-standing (cutIn (p .saved) 0 (p .done)) (recordsIn (p .done) (take (p .done) h)) (exact (p .done) (take (p .done) h))) (sym (d ∙ is-first) ∙ e) q (sym (f ∙ is-second) ∙ g)
 
   -- 16 comes first
   module _ (a : Answer) (e : inNumbers a ≡ tooLong) where

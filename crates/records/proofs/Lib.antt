@@ -1,3 +1,4 @@
 pub mod Walks
+pub mod Cuts
 pub mod Judging
 pub mod Found

@@ -9,6 +9,7 @@ use Rattle.answer.specs.Answer.{limit}
 use Rattle.answer.specs.declared.Refusal.the-variants.{Unsound, OverLimit}
 use Rattle.answer.specs.declared.Answer.the-variants.{Refused}
 use Rattle.ledger.specs.Words.{Entry, Parted, sizeOf, recordsIn, lengthsFit, reached}
+use Rattle.ledger.specs.Parts.{endingAt}
 use Rattle.ledger.specs.Page.{State, records}
 use Rattle.ledger.specs.Calls.{over}
 use Rattle.records.specs.declared.Spot.{Spot}
@@ -29,6 +30,10 @@ walkOf room at len last (some es) = cond (lengthsFit room len es) (Led (reached 
 
 abbrev pub walkIn : ℕ → ℕ → ℕ → ℕ → List ℕ → Walk
 walkIn room at len last words = walkOf room at len last (recordsIn (length words) words)
+
+-- a walk over records of which so many words are an end
+abbrev pub walkCut : ℕ → ℕ → ℕ → ℕ → ℕ → List ℕ → Walk
+walkCut room at len last n words = walkOf room at len last (endingAt n (recordsIn (length words) words))
 
 -- a walk over the records that begin where another stands
 abbrev pub walkFrom : List ℕ → ℕ → ℕ → Spot → Walk

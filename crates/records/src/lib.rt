@@ -1,17 +1,17 @@
 // Whether a page is sound: what every call on a page asks first.
 use answer::Answer;
 use answer::Refusal;
+use editor::Mark;
 use ledger::Page;
 ghost use mathlib.Core.Path.{_≡_};
-ghost use mathlib.Core.Bool.{_&&_};
-ghost use Prim.Native.Nat.{_+_, _≤_, _<_, _^_};
-ghost use lib.Dec.{leb};
+ghost use Prim.Native.Nat.{_+_, _-_, _≤_, _<_, _^_};
 ghost use lib.ListN.{length, drop};
 ghost use lib.Seq.{slice};
 ghost use Rattle.answer.specs.Answer.{limit};
 ghost use Rattle.ledger.specs.Words.{zeros};
-ghost use Rattle.ledger.specs.Page.{stateOf, framed, records};
-ghost use Rattle.records.specs.Walking.{walkIn, walkFrom, unsound, judgedAs, judgeOf};
+ghost use Rattle.ledger.specs.Page.{stateOf, records};
+ghost use Rattle.ledger.specs.Parts.{markWithin, cutIn, bounded};
+ghost use Rattle.records.specs.Walking.{walkIn, walkCut, walkFrom, unsound, judgedAs, judgeOf};
 
 // Where records one after another lead: the length reached, and the word where the last of them begins. Or they do not fit.
 enum Walk {
@@ -121,14 +121,21 @@ fn past_alike(
     Spot { at, len, last }
 }
 
-// The records from one word to another, from a length on. No length may exceed the room.
-fn walk_records(history: &[u32], from: usize, to: usize, start: usize, room: usize) -> Walk
+// The records from one word to another, from a length on, where the record before begins at a word. No length may exceed the room.
+fn walk_records(
+    history: &[u32],
+    from: usize,
+    to: usize,
+    start: usize,
+    before: usize,
+    room: usize,
+) -> Walk
     requires { ⌜ (from ≤ to) × (to ≤ length (now history)) × (length (now history) ≤ limit) × (start ≤ room) × (room ≤ limit) ⌝ }
-    ensures { λ r. ⌜ r ≡ walkIn room from start from (slice from to (now (history .entry))) ⌝ }
+    ensures { λ r. ⌜ r ≡ walkIn room from start before (slice from to (now (history .entry))) ⌝ }
 {
     let mut at = from;
     let mut len = start;
-    let mut last = from;
+    let mut last = before;
     while at < to {
         if to - at < 3 {
             return Walk::Broken;
@@ -161,9 +168,55 @@ fn walk_records(history: &[u32], from: usize, to: usize, start: usize, room: usi
     Walk::Led(len, last)
 }
 
-// Whether the lengths fit, everything past the ends is 0, and the words done are of those used.
+// The word at which the mark cuts those from one to another: its own if it is among them, else the first.
+fn cut_in(mark: Mark, from: usize, to: usize) -> usize
+    ensures { λ r. ⌜ r ≡ cutIn mark from to ⌝ }
+{
+    let Mark::At(n) = mark else {
+        return from;
+    };
+    if n < from {
+        return from;
+    }
+    if to < n {
+        return from;
+    }
+    n
+}
+
+// The records from one word to another, where a mark among those words is the end of one of them: the walk is cut there.
+fn walk_marked(
+    history: &[u32],
+    from: usize,
+    to: usize,
+    start: usize,
+    room: usize,
+    mark: Mark,
+) -> Walk
+    requires { ⌜ (from ≤ to) × (to ≤ length (now history)) × (length (now history) ≤ limit) × (start ≤ room) × (room ≤ limit) ⌝ }
+    ensures { λ r. ⌜ r ≡ walkCut room from start from (cutIn mark from to - from) (slice from to (now (history .entry))) ⌝ }
+{
+    let cut = cut_in(mark, from, to);
+    let first = walk_records(history, from, cut, start, from, room);
+    let Walk::Led(len, last) = first else {
+        return Walk::Broken;
+    };
+    walk_records(history, cut, to, len, last, room)
+}
+
+// Whether the mark is of the words used.
+fn mark_within(mark: Mark, used: usize) -> bool
+    ensures { λ r. ⌜ r ≡ markWithin used mark ⌝ }
+{
+    let Mark::At(n) = mark else {
+        return true;
+    };
+    n <= used
+}
+
+// Whether the lengths fit, everything past the ends is 0, and the words done and the mark are of those used.
 fn within(page: Page, text: &[u32], history: &[u32]) -> bool
-    ensures { λ r. ⌜ r ≡ (framed (stateOf page (now (text .entry)) (now (history .entry))) && leb (page .done) (page .used)) ⌝ }
+    ensures { λ r. ⌜ r ≡ bounded (stateOf page (now (text .entry)) (now (history .entry))) ⌝ }
 {
     if text.len() < page.opening {
         return false;
@@ -180,7 +233,11 @@ fn within(page: Page, text: &[u32], history: &[u32]) -> bool
     if !zero_from(history, page.used) {
         return false;
     }
-    page.done <= page.used
+    if page.used < page.done {
+        return false;
+    }
+    let saved = page.saved;
+    mark_within(saved, page.used)
 }
 
 fn not_sound() -> Judged
@@ -189,7 +246,7 @@ fn not_sound() -> Judged
     Judged::Unfit(Answer::Refused(Refusal::Unsound, 0))
 }
 
-// The records that stand lead to the page's length, and those undone follow from there.
+// The records that stand lead to the page's length, and those undone follow from there; the mark is among the ends of both.
 fn survey(page: Page, text: &[u32], history: &[u32]) -> Judged
     requires { ⌜ (length (now text) ≤ limit) × (length (now history) ≤ limit) ⌝ }
     ensures { λ r. ⌜ r ≡ judgedAs (page .done) (records (stateOf page (now (text .entry)) (now (history .entry)))) ⌝ }
@@ -198,14 +255,15 @@ fn survey(page: Page, text: &[u32], history: &[u32]) -> Judged
         return not_sound();
     }
     let room = text.len();
-    let standing = walk_records(history, 0, page.done, page.opening, room);
+    let saved = page.saved;
+    let standing = walk_marked(history, 0, page.done, page.opening, room, saved);
     let Walk::Led(reached, last) = standing else {
         return not_sound();
     };
     if reached != page.length {
         return not_sound();
     }
-    let undone = walk_records(history, page.done, page.used, page.length, room);
+    let undone = walk_marked(history, page.done, page.used, page.length, room, saved);
     let Walk::Led(_, _) = undone else {
         return not_sound();
     };

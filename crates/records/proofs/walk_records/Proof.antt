@@ -10,10 +10,10 @@ use Rattle.records.proofs.walk_records.Statement.{statement}
 use Rattle.records.proofs.walk_records.Tie as tie
 
 abbrev Inv-loop : tie.InvT-loop
-Inv-loop history from to start room at₀ len₀ last₀ at len last = (at ≤ to) × (len ≤ room) × (walkIn room from start from (slice from to history) ≡ walkIn room at len last (slice at to history))
+Inv-loop history from to start before room at₀ len₀ last₀ at len last = (at ≤ to) × (len ≤ room) × (walkIn room from start before (slice from to history) ≡ walkIn room at len last (slice at to history))
 
 abbrev μ-loop : tie.MeasureT-loop
-μ-loop history from to start room at₀ len₀ last₀ at len last = to - at
+μ-loop history from to start before room at₀ len₀ last₀ at len last = to - at
 
 loop-holds : tie.Need-loop-holds Inv-loop μ-loop
 loop-holds c = (omega arith, omega arith, refl)

@@ -46,8 +46,17 @@ returns-5 c =
 returns-6 : tie.Need-returns-6
 unfolding framed
 returns-6 c =
-    let a = c .before .before .before .before .before .before .before .before .before .before .before .before .before .args in
-    rw (le-leb (a .page .opening) (length (a .text .now)) (omega arith), le-leb (a .page .length) (length (a .text .now)) (omega arith), le-leb (a .page .used) (length (a .history .now)) (omega arith), sym (c .before .before .before .before .zero-from .ensures) ∙ not-false _ (c .before .before .before .if4 .left), sym (c .before .before .zero-from2 .ensures) ∙ not-false _ (c .before .if5 .left))
+    let a = c .before .before .before .before .before .before .before .before .before .before .before .before .before .before .args in
+    rw (le-leb (a .page .opening) (length (a .text .now)) (omega arith), le-leb (a .page .length) (length (a .text .now)) (omega arith), le-leb (a .page .used) (length (a .history .now)) (omega arith), sym (c .before .before .before .before .before .zero-from .ensures) ∙ not-false _ (c .before .before .before .before .if4 .left), sym (c .before .before .before .zero-from2 .ensures) ∙ not-false _ (c .before .before .if5 .left), lt-leb (a .page .done) (a .page .used) (omega arith))
+
+mark-within-requires : tie.Need-mark-within-requires
+mark-within-requires c κs = search needs
+
+returns-7 : tie.Need-returns-7
+unfolding framed
+returns-7 c =
+    let a = c .before .before .before .before .before .before .before .before .before .before .before .before .before .before .before .args in
+    rw (le-leb (a .page .opening) (length (a .text .now)) (omega arith), le-leb (a .page .length) (length (a .text .now)) (omega arith), le-leb (a .page .used) (length (a .history .now)) (omega arith), sym (c .before .before .before .before .before .before .zero-from .ensures) ∙ not-false _ (c .before .before .before .before .before .if4 .left), sym (c .before .before .before .before .zero-from2 .ensures) ∙ not-false _ (c .before .before .before .if5 .left), le-leb (a .page .done) (a .page .used) (omega arith)) (c .mark-within .ensures)
 
 pub within-spec : {M : Type 1} → statement M
 within-spec =
@@ -60,4 +69,6 @@ within-spec =
     returns-4
     zero-from-requires-2
     returns-5
-    returns-6)
+    returns-6
+    mark-within-requires
+    returns-7)
