@@ -3,4 +3,5 @@ pub mod Recording
 pub mod Turns
 pub mod Replacings
 pub mod Savings
+pub mod Asking
 pub mod Openings

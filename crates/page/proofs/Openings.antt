@@ -20,6 +20,7 @@ use Rattle.codec.specs.declared.Kind.{Kind}
 use Rattle.codec.specs.declared.Format.{Format}
 use Rattle.codec.specs.Kinds.{formatOf, readingIn, readIn}
 use Rattle.codec.proofs.ByKind.{read-form, fault-numbered}
+use Rattle.editor.specs.declared.Mark.the-variants.{At}
 use Rattle.ledger.specs.Words.{pad}
 use Rattle.ledger.specs.Page.{stateOf, Outcome}
 use Rattle.ledger.specs.Calls.{refusing, over, noPage, openedOn, openRead, openOf}
@@ -34,7 +35,7 @@ module _ (kind : Kind) (arrived text history : List ℕ) where
   opening count x =
       record {
         verdict = numbered 0 count;
-        state = stateOf (freshPage kind count) (pad (length x) (take count x)) (replicate (length history) 0);
+        state = stateOf (freshPage kind count (At 0)) (pad (length x) (take count x)) (replicate (length history) 0);
         output = [];
       }
 

@@ -14,6 +14,8 @@ use Rattle.codec.specs.Kinds.{firstUnwritable}
 use Rattle.ledger.specs.Words.{Entry, Parted, sizeOf, wordsOf, pad}
 use Rattle.ledger.specs.Page.{State, textIn, leaves}
 use Rattle.ledger.specs.Calls.{refusing, over, applied, entryAt, replaceOf}
+use Rattle.editor.specs.declared.Mark.{Mark}
+use Rattle.editor.specs.Marks.{replacedMark}
 use Rattle.editor.specs.Ledger.{replace}
 use Rattle.editor.specs.Editor as editor
 use Rattle.editor.specs.Layout.{laid, callOn, outcomeOf}
@@ -28,7 +30,7 @@ use Rattle.splice.specs.Splice.{spliced}
 use Rattle.page.specs.Outcomes.{editedAs, replaceFitting, replaceSound}
 
 -- what is made of two tests that go the same way is the same if it is so on either side
-by-test :
+pub by-test :
     {A B : Type 0} (f : A → B) (t : Bool) {a b c d : A} → f a ≡ f b → f c ≡ f d → f (cond t a c) ≡ f (cond t b d)
 by-test f true p q = p
 by-test f false p q = q
@@ -81,15 +83,17 @@ module _ (s : State) (place count : ℕ) (cells : List ℕ) where
     length-part = ap length part-is ∙ length-removed
 
     pub replaced-is :
-        (r : Edited) (x y : List ℕ) → after ≤ length (s .text) → used ≤ length (s .history) → r ≡ editedAs (s .page) (spliced place count cells (textIn s)) used used →
+        (r : Edited) (x y : List ℕ) → after ≤ length (s .text) → used ≤ length (s .history) →
+        (mark : Mark) → mark ≡ replacedMark (s .page .done) (s .page .saved) →
+        r ≡ editedAs (s .page) (spliced place count cells (textIn s)) used used mark →
         x ≡ pad (length (s .text)) (spliced place count cells (textIn s)) →
         y ≡ pad (length (s .history)) (take (s .page .done) (s .history) ++ wordsOf (record { place = place; removed = part; added = cells })) →
         leaves r x y ≡ replaceFitting s step
     unfolding replaceFitting editor.replaceFitting
-    replaced-is r x y p q e f g =
+    replaced-is r x y p q mark m e f g =
         let t = le-ltb (length (s .text)) (length (applied step (textIn s))) (omega (arith, length-applied)) in
         let u = le-ltb (length (s .history)) (s .page .done + sizeOf step) (omega (arith, size-is)) in
-        (λ i. leaves (e i) (f i) (g i)) ∙ rw (t, u, applied-is, size-is, part-is)
+        (λ i. leaves (e i) (f i) (g i)) ∙ rw (m, t, u, applied-is, size-is, part-is)
 
   module _ (fits : s .page .length ≤ length (s .text)) where
     text-is : length (textIn s) ≡ s .page .length
@@ -131,7 +135,7 @@ module _ (s : State) (place count : ℕ) (cells : List ℕ) where
   module _ (few : over cells ≡ false) where
     pub replace-unfit : {j : Judged} {a : Answer} → j ≡ judgeOf s → j ≡ Unfit a → replaceOf s place count cells ≡ refusing s [] (inNumbers a)
     unfolding outcomeOf callOn
-    replace-unfit d e = rw few (unfit s _ [] (λ x. callOn page s (replace place count cells) (editorFor s x)) refl d e)
+    replace-unfit d e = rw few (unfit s _ (refusing s []) (λ x. callOn page s (replace place count cells) (editorFor s x)) refl d e)
 
     pub replace-fit : {last : ℕ} → Fit s last → replaceOf s place count cells ≡ replaceSound s place count cells
     unfolding outcomeOf callOn

@@ -20,6 +20,7 @@ use Rattle.editor.specs.Editor.{undoLast, redoNext}
 use Rattle.editor.specs.Layout.{laid, callOn, outcomeOf}
 use Rattle.ledger.specs.Layout.{editorOf, editorFor, left, page}
 use Rattle.ledger.proofs.Words.{words, sizes, length-words, words-append, sizes-reverse, lengths-append}
+use Rattle.ledger.proofs.Words.{reached-append, reached-fits}
 use Rattle.ledger.proofs.Sound.{Sound}
 use Rattle.records.specs.Walking.{lastBegin, judgeOf}
 use Rattle.records.proofs.Judging.{Frame}
@@ -53,20 +54,6 @@ words-at w y e =
       put = rw (← drop-drop (length r) (length w + 3) (w ++ z), first, drop-append-seam r (e .added ++ y)) (take-append-seam (e .added) y);
       whole = simp length-append (omega arith);
     }
-
-reached-append : (n : ℕ) (es fs : List Entry) → reached n (es ++ fs) ≡ reached (reached n es) fs
-unfolding reached
-reached-append n [] fs = refl
-reached-append n (e ∷ es) fs = reached-append (lengthAfter n e) es fs
-
-reached-fits : (room n : ℕ) (es : List Entry) → n ≤ room → lengthsFit room n es ≡ true → reached n es ≤ room
-unfolding reached lengthsFit
-reached-fits room n [] h f = h
-reached-fits room n (e ∷ es) h f =
-    let a : Bool = leb (e .place + length (e .removed)) n in
-    let b : Bool = leb (lengthAfter n e) room in
-    let p = both (a && b) (lengthsFit room (lengthAfter n e) es) f in
-    reached-fits room (lengthAfter n e) es (leb-true _ _ (both a b (p .0) .1)) (p .1)
 
 -- records in order, one of them picked out
 module _ (s : State) (back : List Entry) (e : Entry) (rest : List Entry) where
@@ -112,7 +99,7 @@ module _ (s : State) (back : List Entry) (e : Entry) (rest : List Entry) where
 -- an accepted undo or redo that makes this of the text, and leaves so many words done
 abbrev edited : State → List ℕ → ℕ → Outcome
 edited s text done =
-    record { verdict = numbered 0 (length text); state = left s text (s .page .used) done (s .history); output = [] }
+    record { verdict = numbered 0 (length text); state = left s text (s .page .used) done (s .page .saved) (s .history); output = [] }
 
 abbrev moved : State → Entry → ℕ → Outcome
 moved s e done = edited s (applied e (textIn s)) done
@@ -243,5 +230,5 @@ module _ (s : State) where
   -- a page that was refused, in either direction
   pub step-unfit : (forward : Bool) {j : Judged} {a : Answer} → j ≡ judgeOf s → j ≡ Unfit a → steppedOf forward s ≡ refusing s [] (inNumbers a)
   unfolding outcomeOf callOn
-  step-unfit false d e = unfit s _ [] (λ x. callOn page s undo (editorFor s x)) refl d e
-  step-unfit true d e = unfit s _ [] (λ x. callOn page s redo (editorFor s x)) refl d e
+  step-unfit false d e = unfit s _ (refusing s []) (λ x. callOn page s undo (editorFor s x)) refl d e
+  step-unfit true d e = unfit s _ (refusing s []) (λ x. callOn page s redo (editorFor s x)) refl d e

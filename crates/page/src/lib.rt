@@ -1,9 +1,11 @@
-// The five calls on a page: open, replace, undo, redo, save. Each is judged whole before anything is changed.
+// The five calls on a page: open, replace, undo, redo, save; and the question whether it is unchanged. Each is judged whole before anything is changed.
 mod output;
 
 use answer::Answer;
 use answer::Refusal;
 use codec::Kind;
+use editor::Mark;
+use ledger::Asked;
 use ledger::Edited;
 use ledger::Page;
 use records::Judged;
@@ -12,15 +14,18 @@ ghost use Prim.Native.Nat.{_+_, _-_, _≤_, _<_, _^_};
 ghost use mathlib.Core.List.{[], _++_};
 ghost use lib.ListN.{length, getD, take, replicate};
 ghost use Rattle.answer.specs.Answer.{limit, numbered};
+ghost use Rattle.answer.specs.declared.Answer.the-variants.{Accepted};
 ghost use Rattle.answer.specs.Output as output;
 ghost use Rattle.records.specs.declared.Judged.the-variants.{Sound};
 ghost use Rattle.records.specs.Walking.{judgeOf};
 ghost use Rattle.ledger.specs.Words.{wordsOf, pad};
-ghost use Rattle.ledger.specs.Page.{stateOf, leaves, keeps};
-ghost use Rattle.ledger.specs.Calls.{undoOf, redoOf, entryAt, replaceOf, openOf, saveOf};
+ghost use Rattle.editor.specs.declared.Mark.the-variants.{At};
+ghost use Rattle.editor.specs.Marks.{replacedMark, unchangedAt};
+ghost use Rattle.ledger.specs.Page.{stateOf, leaves, keeps, replies};
+ghost use Rattle.ledger.specs.Calls.{undoOf, redoOf, entryAt, replaceOf, openOf, saveOf, unchangedOf};
 ghost use Rattle.splice.specs.Splice.{spliced, Filled};
 ghost use Rattle.page.specs.Steps.{steppedOf, spanOf, changeIn};
-ghost use Rattle.page.specs.Outcomes.{editedAs, replaceFitting, replaceSound, freshPage, savedIn};
+ghost use Rattle.page.specs.Outcomes.{editedAs, replaceFitting, replaceSound, freshPage, savedIn, savedPage};
 
 // Words of the history: those of the step to be moved over, or none.
 struct Span {
@@ -52,10 +57,11 @@ fn accept(
     cells: &[u32],
     used: usize,
     done: usize,
+    saved: Mark,
     text: &mut [u32],
 ) -> Edited
     requires { ⌜ (place + count ≤ page .length) × Filled (page .length) (now text) × (page .length - count + length (now cells) ≤ length (now text)) ⌝ }
-    ensures { λ r. ⌜ (r ≡ editedAs page (spliced place count (now (cells .entry)) (take (page .length) (now (text .entry)))) used done)
+    ensures { λ r. ⌜ (r ≡ editedAs page (spliced place count (now (cells .entry)) (take (page .length) (now (text .entry)))) used done saved)
         × (now (text .exit) ≡ pad (length (now (text .entry))) (spliced place count (now (cells .entry)) (take (page .length) (now (text .entry))))) ⌝ }
 {
     let length = page.length;
@@ -69,6 +75,7 @@ fn accept(
             length: n,
             used,
             done,
+            saved,
         },
     }
 }
@@ -133,6 +140,7 @@ fn move_over(page: Page, forward: bool, last: usize, text: &mut [u32], history: 
     let change = change_at(history, at, forward);
     let from = change.from;
     let to = change.to;
+    let saved = page.saved;
     accept(
         page,
         change.place,
@@ -140,6 +148,7 @@ fn move_over(page: Page, forward: bool, last: usize, text: &mut [u32], history: 
         &history[from..to],
         page.used,
         change.done,
+        saved,
         &mut *text,
     )
 }
@@ -191,6 +200,19 @@ fn put_record(
     splice::splice_in(&mut *history, second, second, 0, added);
 }
 
+// The mark after a replace made while so many words were done.
+fn mark_left(mark: Mark, done: usize) -> Mark
+    ensures { λ r. ⌜ r ≡ replacedMark done mark ⌝ }
+{
+    let Mark::At(n) = mark else {
+        return Mark::None;
+    };
+    if done < n {
+        return Mark::None;
+    }
+    Mark::At(n)
+}
+
 // 9, then 12; else the step is recorded and done.
 fn replace_fitting(
     page: Page,
@@ -224,7 +246,9 @@ fn replace_fitting(
         &text[place..end],
         cells,
     );
-    accept(page, place, count, cells, used, used, &mut *text)
+    let old = page.saved;
+    let saved = mark_left(old, done);
+    accept(page, place, count, cells, used, used, saved, &mut *text)
 }
 
 // On a sound page: 11, then 10.
@@ -279,8 +303,8 @@ pub fn replace(
 }
 
 // A page on which nothing was done.
-fn fresh(kind: Kind, size: usize) -> Page
-    ensures { λ r. ⌜ r ≡ freshPage kind size ⌝ }
+fn fresh(kind: Kind, size: usize, saved: Mark) -> Page
+    ensures { λ r. ⌜ r ≡ freshPage kind size saved ⌝ }
 {
     Page {
         kind,
@@ -288,6 +312,7 @@ fn fresh(kind: Kind, size: usize) -> Page
         length: size,
         used: 0,
         done: 0,
+        saved,
     }
 }
 
@@ -296,7 +321,7 @@ fn opened(kind: Kind, count: usize, text: &mut [u32], history: &mut [u32]) -> Ed
     ensures { λ r. ⌜ leaves r (now (text .exit)) (now (history .exit))
         ≡ record {
           verdict = numbered 0 count;
-          state = stateOf (freshPage kind count)
+          state = stateOf (freshPage kind count (At 0))
               (pad (length (now (text .entry))) (take count (now (text .entry)))) (replicate (length (now (history .entry))) 0);
           output = [];
         } ⌝ }
@@ -305,7 +330,7 @@ fn opened(kind: Kind, count: usize, text: &mut [u32], history: &mut [u32]) -> Ed
     splice::clear_from(&mut *history, 0);
     Edited {
         answer: Answer::Accepted(count),
-        page: fresh(kind, count),
+        page: fresh(kind, count, Mark::At(0)),
     }
 }
 
@@ -314,7 +339,7 @@ pub fn open(kind: Kind, arrived: &[u8], text: &mut [u32], history: &mut [u32]) -
     ensures { λ r. ⌜ leaves r (now (text .exit)) (now (history .exit))
         ≡ openOf kind (now (arrived .entry)) (now (text .entry)) (now (history .entry)) ⌝ }
 {
-    let none = fresh(kind, 0);
+    let none = fresh(kind, 0, Mark::None);
     if answer::over_limit(arrived.len()) {
         return refused(none, answer::too_long());
     }
@@ -345,18 +370,82 @@ fn save_text(page: Page, cells: &[u32], arrived: &[u8], out: &mut [u8]) -> Answe
     output::give(arrived, &mut *out)
 }
 
-// Gives the arrived bytes where no step stands, else the text written in the page's kind.
-pub fn save(page: Page, text: &[u32], history: &[u32], arrived: &[u8], out: &mut [u8]) -> Answer
-    ensures { λ r. ⌜ keeps r page (now (text .entry)) (now (history .entry)) (now (out .exit))
+// What save gives back: "an accepted save sets it to the words done".
+fn set_mark(page: Page, answer: Answer) -> Edited
+    ensures { λ r. ⌜ r ≡ record { answer = answer; page = savedPage page answer } ⌝ }
+{
+    let Answer::Accepted(_) = answer else {
+        return refused(page, answer);
+    };
+    let kind = page.kind;
+    Edited {
+        answer,
+        page: Page {
+            kind,
+            opening: page.opening,
+            length: page.length,
+            used: page.used,
+            done: page.done,
+            saved: Mark::At(page.done),
+        },
+    }
+}
+
+// On a sound page: the bytes, and the mark.
+fn save_sound(page: Page, cells: &[u32], arrived: &[u8], out: &mut [u8]) -> Edited
+    ensures { λ r. ⌜ (r .page ≡ savedPage page (r .answer))
+        × (output.leaves (r .answer) (now (out .exit)) ≡ savedIn page (now (cells .entry)) (now (arrived .entry)) (now (out .entry))) ⌝ }
+{
+    let answer = save_text(page, cells, arrived, &mut *out);
+    set_mark(page, answer)
+}
+
+// Gives the arrived bytes where no step stands, else the text written in the page's kind; and the page, with its mark.
+pub fn save(page: Page, text: &[u32], history: &[u32], arrived: &[u8], out: &mut [u8]) -> Edited
+    ensures { λ r. ⌜ keeps r (now (text .entry)) (now (history .entry)) (now (out .exit))
         ≡ saveOf (stateOf page (now (text .entry)) (now (history .entry))) (now (arrived .entry)) (now (out .entry)) ⌝ }
 {
     if answer::over_limit(arrived.len()) {
-        return answer::too_long();
+        return refused(page, answer::too_long());
     }
     let found = records::judge(page, text, history);
     let length = page.length;
     match found {
-        Judged::Unfit(answer) => answer,
-        Judged::Sound(_) => save_text(page, &text[..length], arrived, &mut *out),
+        Judged::Unfit(answer) => refused(page, answer),
+        Judged::Sound(_) => save_sound(page, &text[..length], arrived, &mut *out),
+    }
+}
+
+// Whether the mark is at the words done.
+fn is_marked(mark: Mark, done: usize) -> bool
+    ensures { λ r. ⌜ r ≡ unchangedAt done mark ⌝ }
+{
+    let Mark::At(n) = mark else {
+        return false;
+    };
+    n == done
+}
+
+fn told(page: Page) -> Asked
+    ensures { λ r. ⌜ r ≡ record { answer = Accepted 0; unchanged = unchangedAt (page .done) (page .saved) } ⌝ }
+{
+    let saved = page.saved;
+    Asked {
+        answer: Answer::Accepted(0),
+        unchanged: is_marked(saved, page.done),
+    }
+}
+
+// Whether the page is as it was saved last, or opened: 16, 14, else place 0.
+pub fn unchanged(page: Page, text: &[u32], history: &[u32]) -> Asked
+    ensures { λ r. ⌜ replies r ≡ unchangedOf (stateOf page (now (text .entry)) (now (history .entry))) ⌝ }
+{
+    let found = records::judge(page, text, history);
+    match found {
+        Judged::Unfit(answer) => Asked {
+            answer,
+            unchanged: false,
+        },
+        Judged::Sound(_) => told(page),
     }
 }

@@ -65,6 +65,9 @@ put-record-requires c κs =
     let n = length-part s (a .place) (a .count) (a .cells .now) (omega (arith, p)) (omega (arith, p)) in
     (p .3, omega (arith, p), omega (arith, p, k), omega (arith, p, limit-small), omega (arith, p, limit-small), omega (arith, p, limit-small))
 
+mark-left-requires : tie.Need-mark-left-requires
+mark-left-requires c κs = search needs
+
 accept-requires : tie.Need-accept-requires
 accept-requires c κs = search needs
 
@@ -76,12 +79,12 @@ same-length-2 c = search needs
 
 returns-3 : tie.Need-returns-3
 returns-3 c =
-    let a = c .before .before .before .before .before .before .before .before .before .before .before .before .before .before .before .before .args in
+    let a = c .before .before .before .before .before .before .before .before .before .before .before .before .before .before .before .before .before .args in
     let s : State = stateOf (a .page) (a .text .now) (a .history .now) in
-    let p = c .before .before .before .before .before .before .before .before .before .before .before .before .before .before .before .before .pre in
+    let p = c .before .before .before .before .before .before .before .before .before .before .before .before .before .before .before .before .before .pre in
     let e = c .before .before .accept in
-    let h = c .before .before .before .before .before .before .put-record in
-    replaced-is s (a .place) (a .count) (a .cells .now) (p .0) (p .1 .fits) (e .result) (e .last .1 .1 .1 .1 .1 .1 .0) (h .last .0) (omega (arith, c .before .before .before .before .before .before .before .before .before .before .before .if1 .left)) (omega (arith, c .before .before .before .before .before .before .before .before .before .before .if2 .left)) (e .ensures .0) (e .ensures .1) (h .ensures)
+    let h = c .before .before .before .before .before .before .before .put-record in
+    replaced-is s (a .place) (a .count) (a .cells .now) (p .0) (p .1 .fits) (e .result) (e .last .1 .1 .1 .1 .1 .1 .1 .0) (h .last .0) (omega (arith, c .before .before .before .before .before .before .before .before .before .before .before .before .if1 .left)) (omega (arith, c .before .before .before .before .before .before .before .before .before .before .before .if2 .left)) _ (c .before .before .before .before .mark-left .ensures) (e .ensures .0) (e .ensures .1) (h .ensures)
 
 pub replace-fitting-spec : {M : Type 1} → statement M
 replace-fitting-spec =
@@ -102,6 +105,7 @@ replace-fitting-spec =
     part-put-record-start
     part-put-record-end
     put-record-requires
+    mark-left-requires
     accept-requires
     same-length
     same-length-2

@@ -1,8 +1,8 @@
-use mathlib.Core.Path.{sym, ap, _∙_}
+use mathlib.Core.Path.{sym, _∙_}
 use lib.Seq.{length-take-le}
 use Rattle.ledger.specs.Page.{State, stateOf}
 use Rattle.records.proofs.Found.{fit}
-use Rattle.page.proofs.Savings.{keeping, save-long, save-unfit, save-fit}
+use Rattle.page.proofs.Savings.{saved-given, save-long, save-unfit, save-fit}
 use borrow.Author.Needs.{needs}
 use Rattle.page.proofs.save.Statement.{statement}
 use Rattle.page.proofs.save.Tie as tie
@@ -13,11 +13,14 @@ over-limit-requires c κs = search needs
 too-long-requires : tie.Need-too-long-requires
 too-long-requires c κs = search needs
 
+refused-requires : tie.Need-refused-requires
+refused-requires c κs = search needs
+
 returns : tie.Need-returns
 returns c =
-    let a = c .before .before .before .before .before .before .before .args in
+    let a = c .before .before .before .before .before .before .before .before .args in
     let s : State = stateOf (a .page) (a .text .now) (a .history .now) in
-    rw (c .too-long .ensures) (sym (save-long s (a .arrived .now) (a .out .now) (sym (c .before .before .over-limit .ensures) ∙ c .before .if1 .taken)))
+    rw (c .refused .ensures, c .before .too-long .ensures) (sym (save-long s (a .arrived .now) (a .out .now) (sym (c .before .before .before .over-limit .ensures) ∙ c .before .before .if1 .taken)))
 
 judge-requires : tie.Need-judge-requires
 judge-requires c κs = search needs
@@ -25,24 +28,27 @@ judge-requires c κs = search needs
 enum-known-found : tie.Need-enum-known-found
 enum-known-found c = search needs
 
+refused-requires-2 : tie.Need-refused-requires-2
+refused-requires-2 c κs = search needs
+
 enum-told : tie.Need-enum-told
 enum-told c = search needs
 
-slice-aggregate-save-text : tie.Need-slice-aggregate-save-text
-slice-aggregate-save-text c =
+slice-aggregate-save-sound : tie.Need-slice-aggregate-save-sound
+slice-aggregate-save-sound c =
     let a = c .before .before .before .before .before .before .before .before .before .before .args in
     let s : State = stateOf (a .page) (a .text .now) (a .history .now) in
     let f = fit s (c .before .before .before .judge .ensures) (c .before .enum-told .given .1) in
     sym (length-take-le (a .page .length) (a .text .now) (f .frame .fits))
 
-save-text-requires : tie.Need-save-text-requires
-save-text-requires c κs = search needs
+save-sound-requires : tie.Need-save-sound-requires
+save-sound-requires c κs = search needs
 
 returns-2 : tie.Need-returns-2
 returns-2 c =
-    let a = c .before .before .before .before .before .before .before .before .before .before .args in
+    let a = c .before .before .before .before .before .before .before .before .before .before .before .args in
     let s : State = stateOf (a .page) (a .text .now) (a .history .now) in
-    sym (save-unfit s (a .arrived .now) (a .out .now) (sym (c .before .before .before .before .before .over-limit .ensures) ∙ c .before .before .before .before .if1 .left) (c .before .before .before .judge .ensures) (c .before .found .given .1))
+    rw (c .refused2 .ensures) (sym (save-unfit s (a .arrived .now) (a .out .now) (sym (c .before .before .before .before .before .before .over-limit .ensures) ∙ c .before .before .before .before .before .if1 .left) (c .before .before .before .before .judge .ensures) (c .before .before .found .given .1)))
 
 same-length : tie.Need-same-length
 same-length c = search needs
@@ -51,7 +57,8 @@ returns-3 : tie.Need-returns-3
 returns-3 c =
     let a = c .before .before .before .before .before .before .before .before .before .before .before .before .before .before .args in
     let s : State = stateOf (a .page) (a .text .now) (a .history .now) in
-    ap (keeping s) (c .before .before .save-text .ensures) ∙ sym (save-fit s (a .arrived .now) (a .out .now) (sym (c .before .before .before .before .before .before .before .before .before .over-limit .ensures) ∙ c .before .before .before .before .before .before .before .before .if1 .left) (fit s (c .before .before .before .before .before .before .before .judge .ensures) (c .before .before .before .before .before .enum-told .given .1)))
+    let e = c .before .before .save-sound in
+    saved-given s (e .result) _ _ (e .ensures .0) (e .ensures .1) ∙ sym (save-fit s (a .arrived .now) (a .out .now) (sym (c .before .before .before .before .before .before .before .before .before .over-limit .ensures) ∙ c .before .before .before .before .before .before .before .before .if1 .left) (fit s (c .before .before .before .before .before .before .before .judge .ensures) (c .before .before .before .before .before .enum-told .given .1)))
 
 pub save-spec : {M : Type 1} → statement M
 save-spec =
@@ -59,12 +66,14 @@ save-spec =
     (tie.spec
     over-limit-requires
     too-long-requires
+    refused-requires
     returns
     judge-requires
     enum-known-found
+    refused-requires-2
     enum-told
-    slice-aggregate-save-text
-    save-text-requires
+    slice-aggregate-save-sound
+    save-sound-requires
     returns-2
     same-length
     returns-3)
