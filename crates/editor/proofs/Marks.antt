@@ -85,7 +85,8 @@ module _ (weigh : Step → ℕ) where
   replaced-fits back rest new None h = refl
   replaced-fits back rest new (At n) h =
       let w : weight (reverse back) ≡ weight back = omega (arith, weight-reverse back []) in
-      cond-case (λ (m : Mark). markFits weigh m (reverseAux back new) ≡ true) (ltb (weight (reverse back)) n) (λ _. refl)
+      cond-case (λ (m : Mark). markFits weigh m (reverseAux back new) ≡ true) (ltb (weight (reverse back)) n)
+      (λ _. refl)
       (λ q.
       let below : n ≤ weight (reverse back) = ltb-false (weight (reverse back)) n q in
       sym (ends-within back rest new n (omega arith)) ∙ h)

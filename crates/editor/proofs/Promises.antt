@@ -160,7 +160,8 @@ module _ {S : Type 0} {layout : Layout S} {Lies : ℕ → S → Editor → Type 
     unfolding undoLast
     undo-answers [] undone lies good = thirteen _ [] (ap (λ (r : Outcome S). r .verdict) (outcome-is lies undo)) refl
     undo-answers (x ∷ back) undone lies good =
-        zero-else _ (reverse (x ∷ back)) (ap taken (outcome-is lies undo) ∙ ap accepts (undo-some weigh o back x undone good))
+        zero-else _ (reverse (x ∷ back))
+        (ap taken (outcome-is lies undo) ∙ ap accepts (undo-some weigh o back x undone good))
         (λ e. omega (arith, length-reverse (x ∷ back), ap length e))
 
     redo-answers :
@@ -277,7 +278,8 @@ module _ {S : Type 0} {layout : Layout S} {Lies : ℕ → S → Editor → Type 
 
   module _ {arrived : List ℕ} {s : S} (o : Frame arrived) (back undone : List Step) where
     promised-here :
-        LiesAt o s back undone → Good o weigh (reverseAux back undone) → Promised layout arrived s (ledgerOf o back undone)
+        LiesAt o s back undone → Good o weigh (reverseAux back undone) →
+        Promised layout arrived s (ledgerOf o back undone)
     promised-here lies good =
         let k : Kept arrived s (ledgerOf o back undone) = kept lies (same weigh o back undone good) in
         let u = undo-answers o back undone lies good in

@@ -1,5 +1,5 @@
--- Document 01, "The page": the ledger, with document 02's saved mark. It takes nothing from the page, the text buffer or
--- the history.
+-- Document 01, "The page": the ledger, with document 02's saved mark. It takes nothing from the page, the text buffer
+-- or the history.
 use Prim.Native.Nat.{ℕ, _+_}
 use mathlib.Core.Bool.{Bool, cond}
 use mathlib.Core.List.{List, [], _∷_, _++_}
@@ -63,8 +63,8 @@ module _ (weigh : Step → ℕ) where
   doneBy l = weightOf weigh (l .standing)
 
   -- "An accepted replace puts its step at the end of the standing list and empties the undone list." "An accepted undo
-  -- moves the last standing step, if any, to the front of the undone list. An accepted redo moves the first undone step,
-  -- if any, to the end of the standing list." "an accepted save sets it to the words done"
+  -- moves the last standing step, if any, to the front of the undone list. An accepted redo moves the first undone
+  -- step, if any, to the end of the standing list." "an accepted save sets it to the words done"
   unfoldable pub acceptedCall : Ledger → Call → Ledger
   acceptedCall l (replace place count cells) =
       withSteps l (l .standing ++ record { place = place; count = count; added = cells } ∷ []) []
