@@ -1,15 +1,18 @@
 -- Demand 3 through C: a host's list of calls after an accepted open.
 use Prim.Native.Nat.{ℕ}
 use mathlib.Core.Path.{_≡_}
-use mathlib.Core.Bool.{Bool, true}
+use mathlib.Core.Bool.{Bool, true, false, cond}
 use mathlib.Core.List.{List, [], _∷_}
 use lib.Dec.{eqb}
+use Rattle.answer.specs.Answer.{Verdict, numbered}
 use Rattle.codec.specs.declared.Kind.{Kind}
+use Rattle.editor.specs.Editor.{outputOf}
 use Rattle.ledger.specs.Page.{State}
 use Rattle.ledger.specs.Calls.{openOf, replaceOf, undoOf, redoOf, saveOf}
-use Rattle.ledger.specs.Ledger.{Ledger, Call, replace, undo, redo, save, opened, fed}
+use Rattle.ledger.specs.Words.{inWords}
+use Rattle.ledger.specs.Ledger.{Ledger, Call, replace, undo, redo, save, opened, fed, unchangedBy}
 use Rattle.ledger.specs.Demand.{Promised}
-use Rattle.host_pages.specs.Pages.{hostPage, HostOutcome, hosted, onPage}
+use Rattle.host_pages.specs.Pages.{markIn, hostPage, HostOutcome, hosted, onPage, askedOn}
 use Rattle.host_pages.specs.declared.HostPage.{HostPage}
 
 -- the page that a host has in hand, and its buffers
@@ -44,13 +47,19 @@ hostAfter h (c ∷ cs) = hostAfter (leftBy (hostOutcome h c)) cs
 -- the ledger hears each call and whether the host was told 0
 abbrev pub hostHeard : Ledger → HostState → List Call → Ledger
 hostHeard l h [] = l
-hostHeard l h (c ∷ cs) = hostHeard (fed l c (hostTaken (hostOutcome h c))) (leftBy (hostOutcome h c)) cs
+hostHeard l h (c ∷ cs) = hostHeard (fed inWords l c (hostTaken (hostOutcome h c))) (leftBy (hostOutcome h c)) cs
 
 -- what a host has in hand is a page with its buffers of which demand 3 holds, by the ledger that heard its calls
 pub record HostPromised (arrived : List ℕ) (h : HostState) (l : Ledger) : Type 0 where
   pub state : State
   pub in-hand : h ≡ hostState state
   pub promised : Promised arrived state l
+  -- "the page's mark equals the one that the same ledger now keeps by these rules"
+  pub mark : markIn (h .page .saved) ≡ l .saved
+  -- the question, asked of what is in hand, answers by the ledger
+  pub asks :
+      askedOn (h .page) (h .text) (h .history)
+      ≡ record { verdict = numbered 0 0; unchanged = cond (unchangedBy inWords l) 1 0 }
 
 abbrev pub HostDemand3 : Type 0
 HostDemand3 =
@@ -58,3 +67,13 @@ HostDemand3 =
     (calls : List Call) →
     HostPromised arrived (hostAfter (leftBy (hosted (openOf kind arrived text history))) calls)
     (hostHeard (opened kind arrived) (leftBy (hosted (openOf kind arrived text history))) calls)
+
+-- "A refusal changes no page and no buffer": every call on every page that a host has in hand, of no kind too
+abbrev pub hostRefusing : HostState → List ℕ → Verdict → HostOutcome
+hostRefusing h out verdict =
+    record { verdict = verdict; page = h .page; text = h .text; history = h .history; output = out }
+
+abbrev pub HostRefusedSame : Type 0
+HostRefusedSame =
+    (h : HostState) (c : Call) → hostTaken (hostOutcome h c) ≡ false →
+    hostOutcome h c ≡ hostRefusing h (outputOf c) (hostOutcome h c .verdict)

@@ -1,9 +1,11 @@
-// The page for hosts: its five calls, with the kind as a number.
+// The page for hosts: its five calls and the question, with the kind and the mark as numbers.
 use answer::Answer;
 use answer::Refusal;
 use codec::Kind;
+use editor::Mark;
 use host_numbers::Numbers;
 use host_numbers::in_numbers;
+use ledger::Asked;
 use ledger::Edited;
 use ledger::Page;
 ghost use mathlib.Core.Path.{_≡_};
@@ -11,11 +13,16 @@ ghost use mathlib.Core.Bool.{cond, _||_};
 ghost use lib.Dec.{ltb};
 ghost use mathlib.Core.List.{[]};
 ghost use Rattle.answer.specs.Answer.{inNumbers, numbered, limit, tooLong};
+ghost use Rattle.ledger.specs.Page.{replies};
 ghost use Rattle.ledger.specs.Calls.{openOf, replaceOf, undoOf, redoOf, saveOf};
 ghost use Rattle.host_numbers.specs.Numbers.{verdictIn};
-ghost use Rattle.host_pages.specs.Pages.{kindOf, kindNumber, pageIn, hostPage, hosted, onPage, finds, findsSaved};
+ghost use Rattle.host_pages.specs.Pages.{kindOf, kindNumber, markIn, markNumber, pageIn, hostPage};
+ghost use Rattle.host_pages.specs.Pages.{hosted, onPage, finds, findsSaved, inReply, askedOn, hears};
 
-// A page: its kind (0 UTF-7 header, 1 UTF-7 body, 2 JP-2) and its lengths.
+// The number of no mark: C's SIZE_MAX.
+pub const NEVER: usize = 18446744073709551615;
+
+// A page: its kind (0 UTF-7 header, 1 UTF-7 body, 2 JP-2), its lengths, and its saved mark or NEVER.
 #[repr(C)]
 pub struct HostPage {
     pub kind: u32,
@@ -23,13 +30,21 @@ pub struct HostPage {
     pub length: usize,
     pub used: usize,
     pub done: usize,
+    pub saved: usize,
 }
 
-// What open, replace, undo and redo give back.
+// What open, replace, undo, redo and save give back.
 #[repr(C)]
 pub struct HostEdited {
     pub answer: Numbers,
     pub page: HostPage,
+}
+
+// What the question answers: 1, the page is as it was saved, or opened; else 0.
+#[repr(C)]
+pub struct HostAsked {
+    pub answer: Numbers,
+    pub unchanged: u32,
 }
 
 fn kind_of(number: u32) -> Kind
@@ -54,16 +69,36 @@ fn kind_number(kind: Kind) -> u32
     }
 }
 
+fn mark_in(number: usize) -> Mark
+    ensures { λ r. ⌜ r ≡ markIn number ⌝ }
+{
+    if number == NEVER {
+        return Mark::None;
+    }
+    Mark::At(number)
+}
+
+fn mark_number(mark: Mark) -> usize
+    ensures { λ r. ⌜ r ≡ markNumber mark ⌝ }
+{
+    match mark {
+        Mark::None => NEVER,
+        Mark::At(n) => n,
+    }
+}
+
 fn page_in(p: HostPage) -> Page
     ensures { λ r. ⌜ r ≡ pageIn p ⌝ }
 {
     let kind = kind_of(p.kind);
+    let saved = mark_in(p.saved);
     Page {
         kind,
         opening: p.opening,
         length: p.length,
         used: p.used,
         done: p.done,
+        saved,
     }
 }
 
@@ -75,6 +110,8 @@ fn edited(e: Edited) -> HostEdited
     let page = e.page;
     let named = page.kind;
     let kind = kind_number(named);
+    let mark = page.saved;
+    let saved = mark_number(mark);
     HostEdited {
         answer,
         page: HostPage {
@@ -83,7 +120,25 @@ fn edited(e: Edited) -> HostEdited
             length: page.length,
             used: page.used,
             done: page.done,
+            saved,
         },
+    }
+}
+
+fn asked(a: Asked) -> HostAsked
+    ensures { λ r. ⌜ hears r ≡ inReply (replies a) ⌝ }
+{
+    let given = a.answer;
+    let answer = in_numbers(given);
+    if a.unchanged {
+        return HostAsked {
+            answer,
+            unchanged: 1,
+        };
+    }
+    HostAsked {
+        answer,
+        unchanged: 0,
     }
 }
 
@@ -151,13 +206,34 @@ pub fn redo(p: HostPage, text: &mut [u32], history: &[u32]) -> HostEdited
     edited(page::redo(page_in(p), text, history))
 }
 
-pub fn save(p: HostPage, text: &[u32], history: &[u32], arrived: &[u8], out: &mut [u8]) -> Numbers
-    ensures { λ r. ⌜ findsSaved r p (now (text .entry)) (now (history .entry)) (now (out .exit))
+// A host that could not keep the bytes keeps the page that it gave.
+pub fn save(
+    p: HostPage,
+    text: &[u32],
+    history: &[u32],
+    arrived: &[u8],
+    out: &mut [u8],
+) -> HostEdited
+    ensures { λ r. ⌜ findsSaved r (now (text .entry)) (now (history .entry)) (now (out .exit))
         ≡ onPage p (now (text .entry)) (now (history .entry)) (now (out .entry)) (now (arrived .entry))
         (λ s. saveOf s (now (arrived .entry)) (now (out .entry))) ⌝ }
 {
     if 2 < p.kind {
-        return no_kind(arrived.len(), text.len(), history.len());
+        let answer = no_kind(arrived.len(), text.len(), history.len());
+        return HostEdited { answer, page: p };
     }
-    in_numbers(page::save(page_in(p), text, history, arrived, out))
+    edited(page::save(page_in(p), text, history, arrived, out))
+}
+
+pub fn unchanged(p: HostPage, text: &[u32], history: &[u32]) -> HostAsked
+    ensures { λ r. ⌜ hears r ≡ askedOn p (now (text .entry)) (now (history .entry)) ⌝ }
+{
+    if 2 < p.kind {
+        let answer = no_kind(0, text.len(), history.len());
+        return HostAsked {
+            answer,
+            unchanged: 0,
+        };
+    }
+    asked(page::unchanged(page_in(p), text, history))
 }

@@ -8,8 +8,13 @@ in-numbers-requires c κs = search needs
 kind-number-requires : tie.Need-kind-number-requires
 kind-number-requires c κs = search needs
 
+mark-number-requires : tie.Need-mark-number-requires
+mark-number-requires c κs = search needs
+
 returns : tie.Need-returns
-returns c = (c .before .before .in-numbers .ensures, rw (c .kind-number .ensures))
+returns c =
+    let k = c .before in
+    (k .before .before .in-numbers .ensures, rw (k .kind-number .ensures, c .mark-number .ensures))
 
 pub edited-spec : {M : Type 1} → statement M
-edited-spec = tie.close (tie.spec in-numbers-requires kind-number-requires returns)
+edited-spec = tie.close (tie.spec in-numbers-requires kind-number-requires mark-number-requires returns)

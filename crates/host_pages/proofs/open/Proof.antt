@@ -1,3 +1,4 @@
+use mathlib.Core.List.{[]}
 use Rattle.host_pages.proofs.OnPages.{edited-on}
 use borrow.Author.Needs.{needs}
 use Rattle.host_pages.proofs.open.Statement.{statement}
@@ -18,7 +19,7 @@ same-length-2 c = search needs
 returns : tie.Need-returns
 returns c =
     let o = c .before .before .before .before .before in
-    edited-on _ (o .«open» .result) _ _ _ (c .edited .ensures) (o .«open» .ensures)
+    edited-on _ (o .«open» .result) _ _ [] _ (c .edited .ensures) (o .«open» .ensures)
 
 pub open-spec : {M : Type 1} → statement M
 open-spec =

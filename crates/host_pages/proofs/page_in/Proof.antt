@@ -5,8 +5,11 @@ use Rattle.host_pages.proofs.page_in.Tie as tie
 kind-of-requires : tie.Need-kind-of-requires
 kind-of-requires c κs = search needs
 
+mark-in-requires : tie.Need-mark-in-requires
+mark-in-requires c κs = search needs
+
 returns : tie.Need-returns
-returns c = rw (c .kind-of .ensures)
+returns c = rw (c .before .kind-of .ensures, c .mark-in .ensures)
 
 pub page-in-spec : {M : Type 1} → statement M
-page-in-spec = tie.close (tie.spec kind-of-requires returns)
+page-in-spec = tie.close (tie.spec kind-of-requires mark-in-requires returns)

@@ -1,6 +1,6 @@
 use denote.Ref.{now}
 use Rattle.ledger.specs.Calls.{saveOf}
-use Rattle.host_pages.proofs.OnPages.{none-saved, saved-found}
+use Rattle.host_pages.proofs.OnPages.{none-found, edited-found}
 use borrow.Author.Needs.{needs}
 use Rattle.host_pages.proofs.save.Statement.{statement}
 use Rattle.host_pages.proofs.save.Tie as tie
@@ -11,7 +11,7 @@ no-kind-requires c κs = search needs
 returns : tie.Need-returns
 returns c =
     let a = c .before .before .before .before .before .before .before .args in
-    none-saved (a .p) (now (a .text)) (now (a .history)) (now (a .out)) (now (a .arrived)) (λ s. saveOf s (now (a .arrived)) (now (a .out))) (c .no-kind .result) (c .before .if1 .taken) (c .no-kind .ensures)
+    none-found (a .p) (now (a .text)) (now (a .history)) (now (a .out)) (now (a .arrived)) (λ s. saveOf s (now (a .arrived)) (now (a .out))) (c .no-kind .result) (c .before .if1 .taken) (c .no-kind .ensures)
 
 page-in-requires : tie.Need-page-in-requires
 page-in-requires c κs = search needs
@@ -19,8 +19,8 @@ page-in-requires c κs = search needs
 save-requires : tie.Need-save-requires
 save-requires c κs = search needs
 
-in-numbers-requires : tie.Need-in-numbers-requires
-in-numbers-requires c κs = search needs
+edited-requires : tie.Need-edited-requires
+edited-requires c κs = search needs
 
 same-length : tie.Need-same-length
 same-length c = search needs
@@ -30,7 +30,7 @@ returns-2 c =
     let u = c .before .before .before in
     let g = u .before .before in
     let a = g .before .before .before .before .before .before .before .args in
-    saved-found (a .p) (now (a .text)) (now (a .history)) (now (a .out)) (now (a .arrived)) (λ s. saveOf s (now (a .arrived)) (now (a .out))) _ (u .save .result) (g .page-in .result) _ (g .before .if1 .left) (g .page-in .ensures) (c .in-numbers .ensures) (u .save .ensures)
+    edited-found (a .p) (now (a .text)) (now (a .history)) (now (a .out)) (now (a .arrived)) (λ s. saveOf s (now (a .arrived)) (now (a .out))) _ (u .save .result) (g .page-in .result) _ _ _ (g .before .if1 .left) (g .page-in .ensures) (c .edited .ensures) (u .save .ensures)
 
 pub save-spec : {M : Type 1} → statement M
 save-spec =
@@ -40,6 +40,6 @@ save-spec =
     returns
     page-in-requires
     save-requires
-    in-numbers-requires
+    edited-requires
     same-length
     returns-2)
