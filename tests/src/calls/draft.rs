@@ -2,14 +2,15 @@
 
 use super::{Change, List, Move, Sort};
 use crate::rng::Rng;
-use crate::second::page::{self, Page, State};
+use crate::second::page::{self, mark_of, Page, State};
 use crate::second::{Call, Kind};
 use crate::texts::{self, Source};
 
+#[derive(Clone)]
 pub struct Draft {
     pub list: List,
     /// The state after the list.
-    state: State,
+    pub state: State,
     /// The kind that cells and bytes are chosen for.
     kind: Kind,
     /// The bytes that are most often lent as arrived.
@@ -31,7 +32,7 @@ impl Draft {
 
     /// Adds one to four calls of one sort.
     pub fn add_calls(&mut self, rng: &mut Rng) {
-        let (sort, most) = match rng.below(16) {
+        let (sort, most) = match rng.below(18) {
             0..=6 => (Sort::Replace, 3),
             7..=9 => (Sort::Undo, 4),
             10..=12 => (Sort::Redo, 3),
@@ -73,13 +74,16 @@ impl Draft {
     }
 
     fn add_call(&mut self, call: Call) {
-        self.state = page::left(&self.state, &call, &[]).state;
+        self.state = page::left(&self.state, &call, &vec![0; call.room()]).state;
         self.list.moves.push(Move::Call(call));
     }
 
     /// Adds a change that no call makes.
     pub fn add_change(&mut self, rng: &mut Rng) {
-        let change = self.change(rng);
+        self.change_by(self.change(rng));
+    }
+
+    pub fn change_by(&mut self, change: Change) {
         change.make(&mut self.state);
         self.list.moves.push(Move::Change(change));
     }
@@ -165,7 +169,7 @@ impl Draft {
 
     fn change(&self, rng: &mut Rng) -> Change {
         let State { page, text, history } = &self.state;
-        match rng.below(12) {
+        match rng.below(14) {
             0 => Change::Kind(rng.pick(&[0, 1, 2, 3, 4, 256, 65_536, u32::MAX])),
             1 => Change::Opening(self.number(rng, page.opening)),
             2 => Change::Length(self.number(rng, page.length)),
@@ -178,19 +182,20 @@ impl Draft {
                 let index = changed_index(rng, page.used, history.len());
                 Change::Word(index, changed(rng, history[index]))
             }
+            12..=13 => Change::Saved(mark_of(self.number(rng, page.saved.unwrap_or(page.done)))),
             _ => Change::Done(self.number(rng, page.done)),
         }
     }
 
     /// A number to put in the place of one of the page's: near it, one of the others, at the end of a buffer, or far.
     fn number(&self, rng: &mut Rng, number: usize) -> usize {
-        let State { page: Page { opening, length, used, done, .. }, text, history } = &self.state;
+        let State { page: Page { opening, length, used, done, saved, .. }, text, history } = &self.state;
         let little = rng.between(1, 5);
         match rng.below(7) {
             0 => 0,
             1 => number.wrapping_add(little),
             2 => number.saturating_sub(little),
-            3 => rng.pick(&[*opening, *length, *used, *done]),
+            3 => rng.pick(&[*opening, *length, *used, *done, saved.unwrap_or(0)]),
             4 => text.len() + rng.below(2),
             5 => history.len() + rng.below(2),
             // Numbers that come to little, or to the old one, if they are cut off at 32 bits or added to.

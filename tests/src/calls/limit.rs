@@ -13,10 +13,11 @@ fn cell(kind: Kind) -> u32 {
 
 pub fn lists(kind: Kind) -> impl Iterator<Item = List> {
     let sound = Page::opened(kind, 0);
-    let pages = [sound, Page { done: 1, ..sound }, Page { kind: 3, ..sound }];
+    let marks = [None, Some(1), Some(LIMIT + 1)].map(|saved| Page { saved, ..sound });
+    let pages = [sound, Page { done: 1, ..sound }, Page { kind: 3, ..sound }].into_iter().chain(marks);
     let lengths = [(LIMIT + 1, 0), (0, LIMIT + 1), (LIMIT, LIMIT)];
     let on_zeros = move |page| lengths.map(|(cells, words)| on_zeros(kind, page, cells, words));
-    [full(kind), many_records(kind)].into_iter().chain(refused(kind)).chain(pages.into_iter().flat_map(on_zeros))
+    [full(kind)].into_iter().chain(many_records(kind)).chain(refused(kind)).chain(pages.flat_map(on_zeros))
 }
 
 /// Opens with one thing too long, and with a fault beside it.
@@ -32,7 +33,8 @@ fn refused(kind: Kind) -> impl Iterator<Item = List> {
     .into_iter()
 }
 
-/// A page as long as can be, with calls that it just takes and calls that it just does not.
+/// A page as long as can be, with calls that it just takes and calls that it just does not. One of its saves is marked at
+/// the most words that can be done, and a replace drops that mark.
 pub fn full(kind: Kind) -> List {
     let arrived = vec![BYTE; LIMIT];
     let replace = |place, count, added| Call::Replace { place, count, cells: vec![cell(kind); added] };
@@ -61,13 +63,18 @@ pub fn full(kind: Kind) -> List {
     )
 }
 
-/// As many steps as can be recorded, each of which removes nothing and adds nothing.
-fn many_records(kind: Kind) -> List {
+/// As many steps as can be recorded, each of which removes nothing and adds nothing, with marks on both sides of their
+/// ends.
+fn many_records(kind: Kind) -> impl Iterator<Item = List> {
     let used = LIMIT / 3 * 3;
-    let page = Page { used, done: used, ..Page::opened(kind, 0) };
-    let replace = Call::Replace { place: 0, count: 0, cells: vec![cell(kind)] };
-    let undone = [Call::Undo, Call::Undo, Call::Redo, Call::Undo];
-    calls(State { page, text: vec![0; 5], history: vec![0; LIMIT] }, undone.into_iter().chain([replace, Call::Redo]))
+    let marks = [0, 1, 3, 4, used - 6, used - 3, used - 2, used - 1, used, used + 1, used + 3];
+    marks.into_iter().map(Some).chain([None]).map(move |saved| {
+        let page = Page { used, done: used, saved, ..Page::opened(kind, 0) };
+        let replace = Call::Replace { place: 0, count: 0, cells: vec![cell(kind)] };
+        let save = |room| Call::Save { arrived: vec![], room };
+        let turns = [Call::Undo, Call::Undo, Call::Redo, Call::Undo, replace, save(0), Call::Redo, save(1), Call::Undo];
+        calls(State { page, text: vec![0; 5], history: vec![0; LIMIT] }, turns)
+    })
 }
 
 /// Calls on a page with buffers of zeros, also with lists that are too long, and that have faults.

@@ -2,7 +2,7 @@
 
 use super::draft::Draft;
 use crate::rng::Rng;
-use crate::second::page::{Page, State};
+use crate::second::page::{mark_of, Page, State};
 use crate::second::Kind;
 use crate::texts;
 
@@ -32,9 +32,10 @@ pub fn draft(rng: &mut Rng, kind: Kind) -> Draft {
     let used = making.history.len();
     let mut text = making.contents(rng, length);
     let arrived = kind.write(&text).unwrap_or_default();
+    let saved = making.mark(rng);
     text.resize(cells, 0);
     making.history.resize(words, 0);
-    let page = Page { kind: kind.number(), opening, length, used, done };
+    let page = Page { kind: kind.number(), opening, length, used, done, saved };
     Draft::new(State { page, text, history: making.history }, kind, arrived)
 }
 
@@ -42,7 +43,8 @@ pub fn draft(rng: &mut Rng, kind: Kind) -> Draft {
 pub fn any(rng: &mut Rng, kind: Kind) -> Draft {
     let (cells, words) = (rng.below(300), rng.below(300));
     let [opening, length, used, done] = [cells, cells, words, words].map(|near| any_number(rng, near) as usize);
-    let page = Page { kind: kind.number(), opening, length, used, done };
+    let saved = mark_of(any_number(rng, words) as usize);
+    let page = Page { kind: kind.number(), opening, length, used, done, saved };
     let text = (0..cells).map(|_| any_number(rng, 65_536) as u32).collect();
     let history = (0..words).map(|_| any_number(rng, words) as u32).collect();
     let arrived = texts::of_kind(kind).text(rng, cells);
@@ -75,6 +77,15 @@ impl Making {
         let contents = self.contents(rng, removed + added);
         self.history.extend(contents);
         self.ends.push((self.history.len(), length - removed + added));
+    }
+
+    /// A mark: none, or at 0 or the end of a record, undone or not; a few are at any word.
+    fn mark(&self, rng: &mut Rng) -> Option<usize> {
+        match rng.below(16) {
+            0..=3 => None,
+            4 => Some(rng.below(self.history.len() + 2)),
+            _ => Some(rng.pick(&self.ends).0),
+        }
     }
 
     /// So many cells; where they need not be writable, some are not.

@@ -3,6 +3,7 @@
 mod draft;
 pub mod limit;
 mod made;
+pub mod marks;
 pub mod seeded;
 
 use std::fmt::{self, Display, Formatter};
@@ -44,6 +45,7 @@ pub enum Change {
     Length(usize),
     Used(usize),
     Done(usize),
+    Saved(Option<usize>),
     /// A cell of the text buffer.
     Cell(usize, u32),
     /// A word of the history.
@@ -58,6 +60,7 @@ impl Change {
             Change::Length(length) => state.page.length = length,
             Change::Used(used) => state.page.used = used,
             Change::Done(done) => state.page.done = done,
+            Change::Saved(saved) => state.page.saved = saved,
             Change::Cell(index, cell) => state.text[index] = cell,
             Change::Word(index, word) => state.history[index] = word,
         }
@@ -66,7 +69,7 @@ impl Change {
 
 /// Buffers of so many cells and words that nothing was opened in yet.
 pub fn blank(cells: usize, words: usize) -> State {
-    let page = Page { kind: 0, opening: 0, length: 0, used: 0, done: 0 };
+    let page = Page { kind: 0, opening: 0, length: 0, used: 0, done: 0, saved: None };
     State { page, text: filled(cells), history: filled(words) }
 }
 
@@ -108,9 +111,14 @@ fn show_start(state: &State) -> String {
 
 impl Display for Page {
     fn fmt(&self, f: &mut Formatter) -> fmt::Result {
-        let Page { kind, opening, length, used, done } = self;
-        write!(f, "kind {kind}, opening length {opening}, length {length}, {used} words used, {done} done")
+        let Page { kind, opening, length, used, done, saved } = self;
+        write!(f, "kind {kind}, opening length {opening}, length {length}, {used} words used, {done} done, ")?;
+        write!(f, "{}", show_mark(*saved))
     }
+}
+
+fn show_mark(saved: Option<usize>) -> String {
+    saved.map_or("no mark".to_string(), |words| format!("the mark at {words}"))
 }
 
 impl Display for Move {
@@ -142,6 +150,7 @@ impl Display for Change {
             Change::Length(length) => write!(f, "the length is {length}"),
             Change::Used(used) => write!(f, "{used} words are used"),
             Change::Done(done) => write!(f, "{done} words are done"),
+            Change::Saved(saved) => write!(f, "{}", show_mark(*saved)),
             Change::Cell(index, cell) => write!(f, "cell {index} of the text buffer is {cell:08X}"),
             Change::Word(index, word) => write!(f, "word {index} of the history is {word:08X}"),
         }

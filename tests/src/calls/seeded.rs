@@ -65,19 +65,33 @@ pub fn alone(seed: u64, sort: Sort, count: usize) -> impl Iterator<Item = List> 
     let mut rng = Rng::new(seed, "calls by themselves");
     (0..count).map(move |_| {
         let kind = if let Sort::Open(kind) = sort { kind } else { rng.pick(&Kind::ALL) };
-        let mut draft = match rng.below(4) {
-            0..=1 => edited(&mut rng, kind),
-            2 => made::draft(&mut rng, kind),
-            _ => made::any(&mut rng, kind),
-        };
-        for _ in 0..rng.pick(&[0, 0, 1, 2]) {
-            draft.add_change(&mut rng);
-        }
-        draft.alone(&mut rng, sort)
+        some_page(&mut rng, kind).alone(&mut rng, sort)
     })
 }
 
-fn edited(rng: &mut Rng, kind: Kind) -> Draft {
+/// So many of the pages that such calls are made on, with no call.
+pub fn pages(seed: u64, count: usize) -> impl Iterator<Item = List> {
+    let mut rng = Rng::new(seed, "pages by themselves");
+    (0..count).map(move |_| {
+        let kind = rng.pick(&Kind::ALL);
+        List { start: some_page(&mut rng, kind).state, moves: Vec::new() }
+    })
+}
+
+fn some_page(rng: &mut Rng, kind: Kind) -> Draft {
+    let mut draft = match rng.below(4) {
+        0..=1 => edited(rng, kind),
+        2 => made::draft(rng, kind),
+        _ => made::any(rng, kind),
+    };
+    for _ in 0..rng.pick(&[0, 0, 1, 2]) {
+        draft.add_change(rng);
+    }
+    draft
+}
+
+/// A draft in which a page is opened and edited.
+pub(super) fn edited(rng: &mut Rng, kind: Kind) -> Draft {
     let size = if rng.one_in(4) { LARGE } else { SMALL };
     let mut draft = open(rng, kind, size);
     for _ in 0..rng.below(6) {
@@ -114,7 +128,7 @@ fn fitting(rng: &mut Rng, kind: Kind, cells: usize) -> Vec<u8> {
 mod tests {
     use super::*;
     use crate::calls::Move;
-    use crate::second::page::{left, sound};
+    use crate::second::page::{ask, left, sound, Page};
     use crate::second::Call;
 
     #[test]
@@ -125,6 +139,41 @@ mod tests {
                 assert_eq!(left(&list.start, call, &[]).answer.number, 0);
             }
         }
+    }
+
+    #[test]
+    fn marks_are_set_dropped_and_left_behind() {
+        for kind in Kind::ALL {
+            let lists: Vec<List> = opened(1, kind, SMALL, 500).collect();
+            // Lists that come to a page as it was saved, to one that has steps done since, to one that has steps undone
+            // since, to one with no mark, and back to one that was left behind.
+            let meanings: [fn(&Page, &Page) -> bool; 5] = [
+                |_, after| after.done > 0 && after.saved == Some(after.done),
+                |_, after| after.saved.is_some_and(|mark| 0 < mark && mark < after.done),
+                |_, after| after.saved > Some(after.done),
+                |before, after| before.saved.is_some() && after.saved.is_none(),
+                |before, after| {
+                    before.saved == after.saved && before.done != after.done && after.saved == Some(after.done)
+                },
+            ];
+            for (number, meaning) in meanings.into_iter().enumerate() {
+                let count =
+                    lists.iter().filter(|list| pages_of(list).windows(2).any(|two| meaning(&two[0], &two[1]))).count();
+                assert!(count >= 50, "{number}: {count}");
+            }
+        }
+    }
+
+    /// The pages after each call of a list, from the second on.
+    fn pages_of(list: &List) -> Vec<Page> {
+        let mut state = list.start.clone();
+        let mut pages = Vec::new();
+        for item in &list.moves {
+            let Move::Call(call) = item else { panic!("a change") };
+            state = left(&state, call, &vec![0; call.room()]).state;
+            pages.push(state.page);
+        }
+        pages
     }
 
     #[test]
@@ -146,5 +195,9 @@ mod tests {
             let accepted = alone(1, sort, 1_000).filter(is_accepted).count();
             assert!((50..950).contains(&accepted), "{accepted}");
         }
+        let asked: Vec<_> = pages(1, 1_000).map(|list| ask(&list.start)).collect();
+        let accepted = asked.iter().filter(|asked| asked.answer.number == 0).count();
+        let unchanged = asked.iter().filter(|asked| asked.unchanged).count();
+        assert!((200..950).contains(&accepted) && (50..accepted - 50).contains(&unchanged), "{accepted}, {unchanged}");
     }
 }

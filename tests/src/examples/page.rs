@@ -1,16 +1,23 @@
-//! Examples of the page: that of document 01, and pages made by hand.
+//! Examples of the page: that of document 01 with the marks of order 5 of document 02, and pages made by hand.
 
 use std::fmt::{self, Display, Formatter};
 
 use crate::calls::{blank, Change};
-use crate::second::page::{Left, Page, State};
+use crate::second::page::{Asked, Left, Page, State};
 use crate::second::{Answer, Call, Kind};
 
-/// Calls one after another, with what each leaves.
+/// Calls one after another.
 pub struct Course {
     pub name: &'static str,
     pub start: State,
-    pub turns: Vec<(Call, Left)>,
+    pub turns: Vec<Turn>,
+}
+
+/// A call, what it leaves, and whether the page is then as it was saved.
+pub struct Turn {
+    pub call: Call,
+    pub left: Left,
+    pub unchanged: bool,
 }
 
 /// A call on a page made by hand, and its answer.
@@ -19,6 +26,13 @@ pub struct Judged {
     pub state: State,
     pub call: Call,
     pub answer: Answer,
+}
+
+/// The question on a page made by hand, and what it gives.
+pub struct Question {
+    pub name: &'static str,
+    pub state: State,
+    pub asked: Asked,
 }
 
 impl Display for Course {
@@ -33,10 +47,16 @@ impl Display for Judged {
     }
 }
 
-/// A body page: its opening length, length, words used and words done, and its buffers.
-fn body(numbers: [usize; 4], text: &[u32], history: &[u32]) -> State {
+impl Display for Question {
+    fn fmt(&self, f: &mut Formatter) -> fmt::Result {
+        write!(f, "{}, asked with {}", self.name, self.state.page)
+    }
+}
+
+/// A body page: its opening length, length, words used and words done, its mark, and its buffers.
+fn body(numbers: [usize; 4], saved: Option<usize>, text: &[u32], history: &[u32]) -> State {
     let [opening, length, used, done] = numbers;
-    let page = Page { kind: Kind::Utf7Body.number(), opening, length, used, done };
+    let page = Page { kind: Kind::Utf7Body.number(), opening, length, used, done, saved };
     State { page, text: text.to_vec(), history: history.to_vec() }
 }
 
@@ -53,45 +73,108 @@ fn leaves(number: u32, place: usize, state: &State, output: &[u8]) -> Left {
     Left { answer: Answer { number, place }, state: state.clone(), output: output.to_vec() }
 }
 
+/// A call after which the page is as it was saved.
+fn same(call: Call, left: Left) -> Turn {
+    Turn { call, left, unchanged: true }
+}
+
+/// A call after which it is not.
+fn other(call: Call, left: Left) -> Turn {
+    Turn { call, left, unchanged: false }
+}
+
 const P2: &[u8] = b"A+ImIDkQ.";
+
+/// The worked page of document 01, and pages that are saved and go on.
+pub fn courses() -> Vec<Course> {
+    worked().into_iter().chain([marks()]).collect()
+}
 
 /// "Body page on P2, one cell at 1 replaced by 003D: history 1 1 1 2262 003D (hex), save "A=+A5E-."; undo, save
 /// "A+ImIDkQ."; undo again: 13. With four words of history the replace is 12, place 5."
-pub fn worked() -> Vec<Course> {
+fn worked() -> [Course; 2] {
     let open = Call::Open { kind: Kind::Utf7Body, arrived: P2.to_vec() };
-    let opened = body([4, 4, 0, 0], &[0x41, 0x2262, 0x391, 0x2E, 0], &[0; 6]);
-    let replaced = body([4, 4, 5, 5], &[0x41, 0x3D, 0x391, 0x2E, 0], &[1, 1, 1, 0x2262, 0x3D, 0]);
-    let undone = body([4, 4, 5, 0], &[0x41, 0x2262, 0x391, 0x2E, 0], &[1, 1, 1, 0x2262, 0x3D, 0]);
-    let with_four_words = body([4, 4, 0, 0], &[0x41, 0x2262, 0x391, 0x2E, 0], &[0; 4]);
-    vec![
+    let [text, replaced] = [[0x41, 0x2262, 0x391, 0x2E, 0], [0x41, 0x3D, 0x391, 0x2E, 0]];
+    let history = [1, 1, 1, 0x2262, 0x3D, 0];
+    let opened = body([4, 4, 0, 0], Some(0), &text, &[0; 6]);
+    let replaced = |saved| body([4, 4, 5, 5], Some(saved), &replaced, &history);
+    let undone = |saved| body([4, 4, 5, 0], Some(saved), &text, &history);
+    let with_four_words = body([4, 4, 0, 0], Some(0), &text, &[0; 4]);
+    [
         Course {
             name: "the body page on P2",
             start: blank(5, 6),
             turns: vec![
-                (open.clone(), leaves(0, 4, &opened, b"")),
-                (replace(1, 1, &[0x3D]), leaves(0, 4, &replaced, b"")),
-                (save(P2, 8), leaves(0, 8, &replaced, b"A=+A5E-.")),
-                (Call::Undo, leaves(0, 4, &undone, b"")),
-                (save(P2, 9), leaves(0, 9, &undone, b"A+ImIDkQ.")),
-                (Call::Undo, leaves(13, 0, &undone, b"")),
+                same(open.clone(), leaves(0, 4, &opened, b"")),
+                other(replace(1, 1, &[0x3D]), leaves(0, 4, &replaced(0), b"")),
+                same(save(P2, 8), leaves(0, 8, &replaced(5), b"A=+A5E-.")),
+                other(Call::Undo, leaves(0, 4, &undone(5), b"")),
+                same(save(P2, 9), leaves(0, 9, &undone(0), b"A+ImIDkQ.")),
+                same(Call::Undo, leaves(13, 0, &undone(0), b"")),
             ],
         },
         Course {
             name: "the body page on P2 with four words of history",
             start: blank(5, 4),
             turns: vec![
-                (open, leaves(0, 4, &with_four_words, b"")),
-                (replace(1, 1, &[0x3D]), leaves(12, 5, &with_four_words, b"")),
+                same(open, leaves(0, 4, &with_four_words, b"")),
+                same(replace(1, 1, &[0x3D]), leaves(12, 5, &with_four_words, b"")),
             ],
         },
     ]
 }
 
-/// A sound page: the step of document 01 stands, and one that puts 0042 0043 in the place of 0041 at 0 is undone. Both
-/// buffers have room for one element or two more.
+/// A body page on "abc": X is put before it, then its a is removed. Undo and redo lead away from the mark and back to it,
+/// a refused call leaves it, and only the replace that drops the step it stands behind drops it too.
+fn marks() -> Course {
+    let (first, second, third) = ([0, 0, 1, 0x58], [1, 1, 0, 0x61], [4, 0, 0]);
+    let on = |used, done, saved, text: &[u8], records: &[&[u32]]| {
+        let mut cells: Vec<u32> = text.iter().map(|&byte| byte.into()).collect();
+        let mut history = records.concat();
+        cells.resize(4, 0);
+        history.resize(9, 0);
+        body([3, text.len(), used, done], saved, &cells, &history)
+    };
+    let both: &[&[u32]] = &[&first, &second];
+    let opened = on(0, 0, Some(0), b"abc", &[]);
+    let with_x = |saved| on(4, 4, Some(saved), b"Xabc", &[&first]);
+    let all_done = |saved| on(8, 8, Some(saved), b"Xbc", both);
+    let one_undone = |saved| on(8, 4, Some(saved), b"Xabc", both);
+    let all_undone = on(8, 0, Some(4), b"abc", both);
+    let dropped = |done, saved, text| on(7, done, saved, text, &[&first, &third]);
+    Course {
+        name: "the body page on \"abc\"",
+        start: blank(4, 9),
+        turns: vec![
+            same(Call::Open { kind: Kind::Utf7Body, arrived: b"abc".to_vec() }, leaves(0, 3, &opened, b"")),
+            other(replace(0, 0, &[0x58]), leaves(0, 4, &with_x(0), b"")),
+            same(save(b"", 4), leaves(0, 4, &with_x(4), b"Xabc")),
+            other(replace(1, 1, &[]), leaves(0, 3, &all_done(4), b"")),
+            same(Call::Undo, leaves(0, 4, &one_undone(4), b"")),
+            other(Call::Undo, leaves(0, 3, &all_undone, b"")),
+            other(save(b"ab", 0), leaves(15, 0, &all_undone, b"")),
+            other(save(b"abc", 0), leaves(9, 3, &all_undone, b"")),
+            same(Call::Redo, leaves(0, 4, &one_undone(4), b"")),
+            other(Call::Redo, leaves(0, 3, &all_done(4), b"")),
+            same(save(b"abc", 3), leaves(0, 3, &all_done(8), b"Xbc")),
+            other(Call::Undo, leaves(0, 4, &one_undone(8), b"")),
+            other(replace(0, 0, &[65_536]), leaves(10, 0, &one_undone(8), b"")),
+            other(replace(0, 4, &[0x61; 4]), leaves(12, 15, &one_undone(8), b"")),
+            other(replace(4, 0, &[]), leaves(0, 4, &dropped(7, None, b"Xabc"), b"")),
+            other(Call::Undo, leaves(0, 4, &dropped(4, None, b"Xabc"), b"")),
+            other(Call::Undo, leaves(0, 3, &dropped(0, None, b"abc"), b"")),
+            same(save(b"abc", 3), leaves(0, 3, &dropped(0, Some(0), b"abc"), b"abc")),
+            other(Call::Redo, leaves(0, 4, &dropped(4, Some(0), b"Xabc"), b"")),
+            same(save(b"abc", 4), leaves(0, 4, &dropped(4, Some(4), b"Xabc"), b"Xabc")),
+        ],
+    }
+}
+
+/// A sound page: the step of document 01 stands and was saved, and one that puts 0042 0043 in the place of 0041 at 0 is
+/// undone. Both buffers have room for one element or two more.
 fn edited() -> State {
     let history = [1, 1, 1, 0x2262, 0x3D, 0, 1, 2, 0x41, 0x42, 0x43, 0];
-    body([4, 4, 11, 5], &[0x41, 0x3D, 0x391, 0x2E, 0, 0], &history)
+    body([4, 4, 11, 5], Some(5), &[0x41, 0x3D, 0x391, 0x2E, 0, 0], &history)
 }
 
 /// The sound page with these changes.
@@ -102,7 +185,7 @@ fn with(changes: &[Change]) -> State {
 }
 
 /// Changes that leave the page not sound, each with the reason.
-const NOT_SOUND: [(&str, &[Change]); 24] = [
+const NOT_SOUND: [(&str, &[Change]); 35] = [
     ("a number of no kind", &[Change::Kind(3)]),
     (
         "an opening length over the text buffer",
@@ -133,7 +216,60 @@ const NOT_SOUND: [(&str, &[Change]); 24] = [
     ("a cell past the length", &[Change::Cell(4, 1)]),
     ("a last cell past the length", &[Change::Cell(5, 1)]),
     ("a word past those used", &[Change::Word(11, 1)]),
+    ("a mark at the first word", &[Change::Saved(Some(1))]),
+    ("a mark at the last word of a standing step", &[Change::Saved(Some(4))]),
+    ("a mark just past a standing step", &[Change::Saved(Some(6))]),
+    ("a mark within an undone step", &[Change::Saved(Some(8))]),
+    ("a mark at the last word of an undone step", &[Change::Saved(Some(10))]),
+    ("a mark past the records", &[Change::Saved(Some(12))]),
+    ("a mark past the history", &[Change::Saved(Some(13))]),
+    ("the largest mark", &[Change::Saved(Some(usize::MAX - 1))]),
+    ("a mark that is right if cut off at 32 bits", &[Change::Saved(Some((1 << 32) + 5))]),
+    ("a mark of 0 if cut off at 32 bits", &[Change::Saved(Some(1 << 32))]),
+    (
+        "a mark at words that are used no more",
+        &[
+            Change::Saved(Some(11)),
+            Change::Used(5),
+            Change::Word(6, 0),
+            Change::Word(7, 0),
+            Change::Word(8, 0),
+            Change::Word(9, 0),
+            Change::Word(10, 0),
+        ],
+    ),
 ];
+
+/// The question on pages made by hand.
+pub fn questions() -> Vec<Question> {
+    let not_sound = NOT_SOUND.iter().map(|&(name, changes)| question(name, with(changes), 14, 0, false));
+    let on_sound = |name, changes: &[Change], unchanged| question(name, with(changes), 0, 0, unchanged);
+    let too_long = |cells, words| body([0; 4], Some(0), &vec![7; cells], &vec![7; words]);
+    let all_done = [Change::Done(11), Change::Length(5)];
+    let nothing_used = |saved| body([1, 1, 0, 0], saved, &[0x61], &[]);
+    let others = [
+        on_sound("a sound page", &[], true),
+        on_sound("no mark", &[Change::Saved(None)], false),
+        on_sound("a mark at 0", &[Change::Saved(Some(0))], false),
+        on_sound("a mark at the words used", &[Change::Saved(Some(11))], false),
+        on_sound("no step stands", &[Change::Done(0)], false),
+        on_sound("no step stands, and none was saved", &[Change::Done(0), Change::Saved(Some(0))], true),
+        on_sound("no step stands, and there is no mark", &[Change::Done(0), Change::Saved(None)], false),
+        on_sound("all steps stand", &all_done, false),
+        on_sound("all steps stand and were saved", &[&all_done[..], &[Change::Saved(Some(11))]].concat(), true),
+        question("a page on which nothing was done", nothing_used(Some(0)), 0, 0, true),
+        question("a page on which nothing was done, with no mark", nothing_used(None), 0, 0, false),
+        question("an empty page in empty buffers", body([0; 4], Some(0), &[], &[]), 0, 0, true),
+        question("a text buffer over the limit", too_long(65_537, 0), 16, 65_536, false),
+        question("a history over the limit", too_long(0, 65_537), 16, 65_536, false),
+        question("buffers at the limit, and not sound", too_long(65_536, 65_536), 14, 0, false),
+    ];
+    not_sound.chain(others).collect()
+}
+
+fn question(name: &'static str, state: State, number: u32, place: usize, unchanged: bool) -> Question {
+    Question { name, state, asked: Asked { answer: Answer { number, place }, unchanged } }
+}
 
 /// Calls on pages made by hand, sound and not.
 pub fn judged() -> Vec<Judged> {
@@ -155,12 +291,22 @@ fn sound_pages() -> Vec<Judged> {
     let then_cut = [Change::Word(6, 2), Change::Word(7, 1)];
     let all_done = [Change::Done(11), Change::Length(5)];
     let other_contents = [Change::Cell(1, 0x7A), Change::Word(3, 0x7B), Change::Word(4, 0x7C)];
-    let empty = || body([0; 4], &[], &[]);
+    let empty = || body([0; 4], Some(0), &[], &[]);
+    let undone_mark = || with(&[Change::Saved(Some(11))]);
     vec![
         judge("a sound page", edited(), Call::Undo, 0, 4),
         judge("a sound page", edited(), Call::Redo, 0, 5),
         judge("a sound page", edited(), save(b"~", 8), 0, 8),
         judge("a sound page", edited(), save(P2, 7), 9, 8),
+        judge("a mark at an undone step", undone_mark(), Call::Undo, 0, 4),
+        judge("a mark at an undone step", undone_mark(), Call::Redo, 0, 5),
+        judge("a mark at an undone step", undone_mark(), save(P2, 7), 9, 8),
+        judge("a mark at an undone step", undone_mark(), save(P2, 8), 0, 8),
+        judge("a mark at an undone step", undone_mark(), replace(0, 0, &[]), 0, 4),
+        judge("a mark at an undone step", undone_mark(), replace(0, 2, &[0x61; 3]), 12, 13),
+        judge("no mark", with(&[Change::Saved(None)]), save(P2, 8), 0, 8),
+        judge("no mark", with(&[Change::Saved(None)]), save(P2, 7), 9, 8),
+        judge("no mark", with(&[Change::Saved(None)]), replace(0, 0, &[]), 0, 4),
         judge("cells that no record has", with(&other_contents), Call::Undo, 0, 4),
         judge("a step at the end of the text", with(&[&appended[..], &then_cut].concat()), Call::Undo, 0, 4),
         judge("all steps stand", with(&all_done), Call::Redo, 13, 0),

@@ -1,7 +1,7 @@
 //! The calls on a page.
 
 use super::RawAnswer;
-use crate::second::page::Page;
+use crate::second::page::{mark_of, Page};
 use crate::second::{Answer, Call, Kind};
 
 #[repr(C)]
@@ -11,17 +11,21 @@ struct RawPage {
     length: usize,
     used: usize,
     done: usize,
+    saved: usize,
 }
 
+/// QALITHONDA_NEVER_SAVED: no mark. Every other number is one.
+const NEVER_SAVED: usize = usize::MAX;
+
 impl From<Page> for RawPage {
-    fn from(Page { kind, opening, length, used, done }: Page) -> RawPage {
-        RawPage { kind, opening, length, used, done }
+    fn from(Page { kind, opening, length, used, done, saved }: Page) -> RawPage {
+        RawPage { kind, opening, length, used, done, saved: saved.unwrap_or(NEVER_SAVED) }
     }
 }
 
 impl From<RawPage> for Page {
-    fn from(RawPage { kind, opening, length, used, done }: RawPage) -> Page {
-        Page { kind, opening, length, used, done }
+    fn from(RawPage { kind, opening, length, used, done, saved }: RawPage) -> Page {
+        Page { kind, opening, length, used, done, saved: mark_of(saved) }
     }
 }
 
@@ -29,6 +33,12 @@ impl From<RawPage> for Page {
 struct RawEdited {
     answer: RawAnswer,
     page: RawPage,
+}
+
+#[repr(C)]
+struct RawAsked {
+    answer: RawAnswer,
+    unchanged: u32,
 }
 
 type RawOpen = unsafe extern "C" fn(*const u8, usize, *mut u32, usize, *mut u32, usize) -> RawEdited;
@@ -94,7 +104,14 @@ extern "C" {
         arrived_len: usize,
         out: *mut u8,
         out_len: usize,
-    ) -> RawAnswer;
+    ) -> RawEdited;
+    fn qalithonda_unchanged(
+        page: RawPage,
+        text: *const u32,
+        text_len: usize,
+        history: *const u32,
+        history_len: usize,
+    ) -> RawAsked;
 }
 
 /// The name of the function that a call is made with.
@@ -120,6 +137,7 @@ pub const REPLACE: &str = "qalithonda_replace";
 pub const UNDO: &str = "qalithonda_undo";
 pub const REDO: &str = "qalithonda_redo";
 pub const SAVE: &str = "qalithonda_save";
+pub const UNCHANGED: &str = "qalithonda_unchanged";
 
 /// Makes a call, and gives its answer and the page that it gives back.
 pub fn make(call: &Call, page: Page, text: &mut [u32], history: &mut [u32], output: &mut [u8]) -> (Answer, Page) {
@@ -128,7 +146,7 @@ pub fn make(call: &Call, page: Page, text: &mut [u32], history: &mut [u32], outp
         Call::Replace { place, count, cells } => replace(page, *place, *count, cells, text, history),
         Call::Undo => undo(page, text, history),
         Call::Redo => redo(page, text, history),
-        Call::Save { arrived, .. } => (save(page, text, history, arrived, output), page),
+        Call::Save { arrived, .. } => save(page, text, history, arrived, output),
     }
 }
 
@@ -185,9 +203,9 @@ fn turn(raw: RawTurn, page: Page, text: &mut [u32], history: &[u32]) -> (Answer,
     given(unsafe { raw(page.into(), text.as_mut_ptr(), text.len(), history.as_ptr(), history.len()) })
 }
 
-pub fn save(page: Page, text: &[u32], history: &[u32], arrived: &[u8], output: &mut [u8]) -> Answer {
+pub fn save(page: Page, text: &[u32], history: &[u32], arrived: &[u8], output: &mut [u8]) -> (Answer, Page) {
     // SAFETY: each pointer comes with the length of its slice, and only `output` is written to.
-    let raw = unsafe {
+    given(unsafe {
         qalithonda_save(
             page.into(),
             text.as_ptr(),
@@ -199,6 +217,13 @@ pub fn save(page: Page, text: &[u32], history: &[u32], arrived: &[u8], output: &
             output.as_mut_ptr(),
             output.len(),
         )
-    };
-    raw.into()
+    })
+}
+
+/// Asks whether the page is as it was saved: the answer, and the number that says so.
+pub fn ask(page: Page, text: &[u32], history: &[u32]) -> (Answer, u32) {
+    // SAFETY: each pointer comes with the length of its slice, and nothing is written to.
+    let asked =
+        unsafe { qalithonda_unchanged(page.into(), text.as_ptr(), text.len(), history.as_ptr(), history.len()) };
+    (asked.answer.into(), asked.unchanged)
 }

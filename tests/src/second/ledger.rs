@@ -1,5 +1,5 @@
-//! The ledger, after the section "The page" of document 01. "It takes nothing from the page, the text buffer or the
-//! history."
+//! The ledger, after the section "The page" of document 01, with the mark of order 5 of document 02. "It takes nothing
+//! from the page, the text buffer or the history."
 
 use super::{Call, Elements, Kind};
 
@@ -11,31 +11,39 @@ pub struct Step {
     pub cells: Vec<u32>,
 }
 
-/// "It holds the reading of those bytes and two lists of steps, standing and undone."
+/// "It holds the reading of those bytes and two lists of steps, standing and undone." Order 5: the mark is "the one that
+/// the same ledger now keeps by these rules".
 #[derive(Clone, Debug, PartialEq, Eq)]
 pub struct Ledger {
     kind: Kind,
     pub reading: Vec<u32>,
     pub standing: Vec<Step>,
     pub undone: Vec<Step>,
+    pub saved: Option<usize>,
 }
 
 impl Ledger {
     /// "The **ledger** is fed the kind and the arrived bytes of an accepted open." There is none if they do not read.
+    /// Order 5: "An accepted open sets it to 0".
     pub fn new(kind: Kind, arrived: &[u8]) -> Option<Ledger> {
         let reading = kind.read(arrived).ok()?;
-        Some(Ledger { kind, reading, standing: Vec::new(), undone: Vec::new() })
+        Some(Ledger { kind, reading, standing: Vec::new(), undone: Vec::new(), saved: Some(0) })
     }
 
     /// ", then each call with its arguments and whether it was accepted." A call of open belongs to another ledger.
     pub fn hear(&mut self, call: &Call, accepted: bool) {
-        // "Save and every refused call change nothing."
+        // "Save and every refused call change nothing", but for the mark, "there too set by accepted saves".
         if !accepted {
             return;
         }
+        let done = self.words_done();
         match call {
             // "An accepted replace puts its step at the end of the standing list and empties the undone list."
             Call::Replace { place, count, cells } => {
+                // "an accepted replace made while the mark exceeds the words done sets it to none"
+                if self.saved > Some(done) {
+                    self.saved = None;
+                }
                 self.standing.push(Step { place: *place, count: *count, cells: cells.clone() });
                 self.undone.clear();
             }
@@ -47,8 +55,20 @@ impl Ledger {
             }
             // "An accepted redo moves the first undone step, if any, to the end of the standing list."
             Call::Redo if !self.undone.is_empty() => self.standing.push(self.undone.remove(0)),
-            Call::Redo | Call::Save { .. } | Call::Open { .. } => {}
+            // "an accepted save sets it to the words done"
+            Call::Save { .. } => self.saved = Some(done),
+            Call::Redo | Call::Open { .. } => {}
         }
+    }
+
+    /// "The ledger's words done are 3 for each standing step and one for each cell that it removes or adds."
+    pub fn words_done(&self) -> usize {
+        self.standing.iter().map(|step| 3 + step.count + step.cells.len()).sum()
+    }
+
+    /// '"unchanged" exactly when the mark equals the words done'
+    pub fn is_unchanged(&self) -> bool {
+        self.saved == Some(self.words_done())
     }
 
     /// "The ledger's text begins as the reading. Each standing step in order turns it into the cells before its place,
@@ -96,6 +116,30 @@ mod tests {
         assert_eq!(after(Call::Redo, false), left("Yc", 2, 1));
         assert_eq!(after(replace(0, 0, &[]), true), left("Yc", 3, 0));
         assert_eq!(after(Call::Redo, true), left("Yc", 3, 0));
+    }
+
+    #[test]
+    fn the_mark_is_kept_by_its_own_words() {
+        let mut ledger = Ledger::new(Kind::Utf7Body, b"abc").expect("a whole text");
+        assert!(ledger.saved == Some(0) && ledger.is_unchanged());
+        let mut after = |call: Call, accepted| {
+            ledger.hear(&call, accepted);
+            (ledger.words_done(), ledger.saved, ledger.is_unchanged())
+        };
+        let save = Call::Save { arrived: vec![], room: 9 };
+        assert_eq!(after(replace(1, 2, &[0x58]), true), (6, Some(0), false));
+        assert_eq!(after(save.clone(), false), (6, Some(0), false));
+        assert_eq!(after(save.clone(), true), (6, Some(6), true));
+        assert_eq!(after(replace(0, 0, &[]), true), (9, Some(6), false));
+        assert_eq!(after(save.clone(), true), (9, Some(9), true));
+        assert_eq!(after(Call::Undo, true), (6, Some(9), false));
+        assert_eq!(after(Call::Redo, true), (9, Some(9), true));
+        assert_eq!(after(Call::Undo, true), (6, Some(9), false));
+        assert_eq!(after(replace(0, 0, &[]), false), (6, Some(9), false));
+        assert_eq!(after(replace(0, 0, &[]), true), (9, None, false));
+        assert_eq!(after(replace(0, 1, &[]), true), (13, None, false));
+        assert_eq!(after(Call::Undo, true), (9, None, false));
+        assert_eq!(after(save, true), (9, Some(9), true));
     }
 
     #[test]

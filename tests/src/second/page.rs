@@ -1,11 +1,13 @@
-//! The page, after the sections "The page" and "Numbers given back" of document 01. A call is a function from all that
-//! is lent to all that is left: the history is cut into a list of records, the text is built anew as another list, and
-//! both are laid out again.
+//! The page, after the sections "The page" and "Numbers given back" of document 01, with the saved mark of order 5 of
+//! document 02. A call is a function from all that is lent to all that is left: the history is cut into a list of
+//! records, the text is built anew as another list, and both are laid out again.
+
+use std::fmt::{self, Display, Formatter};
 
 use super::{outcome, refuse, within_limit, Answer, Call, Elements, Kind};
 
 /// "A page has a kind (..), an opening length, a length, words used and words done." The kind is a number, which may be
-/// that of no kind.
+/// that of no kind. Order 5: "The page gains a saved mark: the words done at the last accepted save, or none."
 #[derive(Clone, Copy, Debug, PartialEq, Eq)]
 pub struct Page {
     pub kind: u32,
@@ -13,13 +15,24 @@ pub struct Page {
     pub length: usize,
     pub used: usize,
     pub done: usize,
+    pub saved: Option<usize>,
 }
 
 impl Page {
-    /// A page of this length on which nothing was done.
+    /// A page of this length on which nothing was done. Order 5: "An accepted open sets it to 0".
     pub fn opened(kind: Kind, length: usize) -> Page {
-        Page { kind: kind.number(), opening: length, length, used: 0, done: 0 }
+        Page { kind: kind.number(), opening: length, length, used: 0, done: 0, saved: Some(0) }
     }
+
+    /// "A refused open gives the kind with four zeros." Order 5: "a refused one to none".
+    fn refused(kind: Kind) -> Page {
+        Page { saved: None, ..Page::opened(kind, 0) }
+    }
+}
+
+/// The mark that a number stands for in the C interface, where the largest is none.
+pub fn mark_of(number: usize) -> Option<usize> {
+    (number != usize::MAX).then_some(number)
 }
 
 /// "Lent beside it are a text buffer of cells and a history of 32-bit words."
@@ -38,12 +51,24 @@ pub struct Left {
     pub output: Vec<u8>,
 }
 
+/// What the question gives.
+#[derive(Clone, Copy, Debug, PartialEq, Eq)]
+pub struct Asked {
+    pub answer: Answer,
+    pub unchanged: bool,
+}
+
+impl Display for Asked {
+    fn fmt(&self, f: &mut Formatter) -> fmt::Result {
+        write!(f, "{}, {}", self.answer, if self.unchanged { "unchanged" } else { "changed" })
+    }
+}
+
 /// What a call leaves that is lent this state and this output.
 pub fn left(state: &State, call: &Call, output: &[u8]) -> Left {
     match call {
         Call::Open { kind, arrived } => {
-            // "A refused open gives the kind with four zeros."
-            let blank = State { page: Page::opened(*kind, 0), ..state.clone() };
+            let blank = State { page: Page::refused(*kind), ..state.clone() };
             edited(&blank, open(&blank, *kind, arrived), output)
         }
         Call::Replace { place, count, cells } => edited(state, replace(state, *place, *count, cells), output),
@@ -51,8 +76,20 @@ pub fn left(state: &State, call: &Call, output: &[u8]) -> Left {
         Call::Redo => edited(state, redo(state), output),
         Call::Save { arrived, .. } => {
             let saved = outcome(&save(state, arrived), output);
-            Left { answer: saved.answer, state: state.clone(), output: saved.output }
+            // Order 5: "an accepted save sets it to the words done", and "Save now gives a page back."
+            let mark = if saved.answer.number == 0 { Some(state.page.done) } else { state.page.saved };
+            let state = State { page: Page { saved: mark, ..state.page }, ..state.clone() };
+            Left { answer: saved.answer, state, output: saved.output }
         }
+    }
+}
+
+/// Order 5: "the question gives 16, then 14, else place 0", and 'A new question answers "unchanged" exactly when the
+/// mark equals the words done.' Refused, it answers no.
+pub fn ask(state: &State) -> Asked {
+    match accepted_page(state, 0) {
+        Err(answer) => Asked { answer, unchanged: false },
+        Ok(_) => Asked { answer: Answer { number: 0, place: 0 }, unchanged: state.page.saved == Some(state.page.done) },
     }
 }
 
@@ -127,13 +164,16 @@ pub fn sound(state: &State) -> Option<Sound> {
     let reached = reached(page.opening, &records)?;
     // "*done* is 0 or one of their ends"
     let standing = reached.iter().position(|&(end, _)| end == page.done)?;
+    // Order 5: "14 also when the mark is not none and is neither 0 nor the end of a record"
+    let mark_fits = page.saved.is_none_or(|mark| reached.iter().any(|&(end, _)| end == mark));
     // "no such length exceeds the text buffer"
     let lengths_fit = reached.iter().all(|&(_, length)| length <= text.len());
     // "the length reached at *done* is the page's"
     let (_, length_at_done) = reached[standing];
     // "and everything past the ends is 0."
     let mut past_the_ends = text[page.length..].iter().chain(&history[page.used..]);
-    let is_sound = lengths_fit && length_at_done == page.length && past_the_ends.all(|&element| element == 0);
+    let zeros_past_the_ends = past_the_ends.all(|&element| element == 0);
+    let is_sound = mark_fits && lengths_fit && length_at_done == page.length && zeros_past_the_ends;
 
     let undone = records.split_off(standing);
     is_sound.then(|| Sound { kind, text: text[..page.length].to_vec(), standing: records, undone })
@@ -209,8 +249,10 @@ fn replace(state: &State, place: usize, count: usize, cells: &[u32]) -> Result<S
         return refuse(12, history.len());
     }
     let used = history.len();
+    // Order 5: "an accepted replace made while the mark exceeds the words done sets it to none"
+    let saved = state.page.saved.filter(|&mark| mark <= state.page.done);
     let recorded = State {
-        page: Page { used, ..state.page },
+        page: Page { used, saved, ..state.page },
         history: padded(history, state.history.len()),
         text: state.text.clone(),
     };
@@ -260,17 +302,26 @@ pub fn save(state: &State, arrived: &[u8]) -> Elements<u8> {
 #[cfg(test)]
 mod tests {
     use super::*;
-    use crate::examples::page::{judged, worked};
+    use crate::examples::page::{courses, judged, questions, Turn};
 
     #[test]
-    fn follows_the_worked_page() {
-        for course in worked() {
+    fn follows_the_courses() {
+        for course in courses() {
             let mut state = course.start.clone();
-            for (call, expected) in &course.turns {
+            for Turn { call, left: expected, unchanged } in &course.turns {
                 let found = left(&state, call, &vec![0; call.room()]);
                 assert_eq!(&found, expected, "{course}, {call}");
                 state = found.state;
+                let asked = Asked { answer: Answer { number: 0, place: 0 }, unchanged: *unchanged };
+                assert_eq!(ask(&state), asked, "{course}, {call}");
             }
+        }
+    }
+
+    #[test]
+    fn answers_the_questions() {
+        for question in questions() {
+            assert_eq!(ask(&question.state), question.asked, "{question}");
         }
     }
 
@@ -288,12 +339,12 @@ mod tests {
 
     #[test]
     fn a_refused_open_gives_the_kind_and_leaves_the_buffers() {
-        let page = Page { kind: 7, opening: 1, length: 1, used: 1, done: 1 };
+        let page = Page { kind: 7, opening: 1, length: 1, used: 1, done: 1, saved: Some(1) };
         let state = State { page, text: vec![7; 2], history: vec![7; 2] };
         for (arrived, number, place) in [(&b"a~"[..], 3, 1), (b"abc", 9, 3), (&[0x80; 65_537], 16, 65_536)] {
             let found = left(&state, &Call::Open { kind: Kind::Utf7Body, arrived: arrived.to_vec() }, &[]);
             assert_eq!(found.answer, Answer { number, place });
-            let blank = Page { kind: 1, opening: 0, length: 0, used: 0, done: 0 };
+            let blank = Page { kind: 1, opening: 0, length: 0, used: 0, done: 0, saved: None };
             assert_eq!(found.state, State { page: blank, ..state.clone() });
         }
     }
@@ -301,7 +352,7 @@ mod tests {
     #[test]
     fn sixteen_comes_first() {
         let state = |cells, words| State {
-            page: Page { kind: 9, opening: 1, length: 1, used: 1, done: 1 },
+            page: Page { kind: 9, opening: 1, length: 1, used: 1, done: 1, saved: Some(1) },
             text: vec![0; cells],
             history: vec![0; words],
         };
@@ -313,6 +364,8 @@ mod tests {
             assert_eq!(number(state(0, 65_537), call.clone()), 16);
             assert_eq!(number(state(65_536, 65_536), call), 14);
         }
+        let asked = [(65_537, 0), (0, 65_537), (65_536, 65_536)].map(|(cells, words)| ask(&state(cells, words)));
+        assert_eq!(asked.map(|asked| (asked.answer.number, asked.unchanged)), [(16, false), (16, false), (14, false)]);
         assert_eq!([replace(65_537), save(65_537)].map(|call| number(state(0, 0), call)), [16, 16]);
         assert_eq!([replace(65_536), save(65_536)].map(|call| number(state(0, 0), call)), [14, 14]);
     }

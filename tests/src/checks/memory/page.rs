@@ -8,7 +8,7 @@ use crate::lent::filled;
 use crate::library::page as library;
 use crate::report::{Report, Statuses};
 use crate::second::page::{Left, State};
-use crate::second::{Call, Kind};
+use crate::second::{Answer, Call, Kind};
 use crate::settings::Settings;
 use crate::trial::try_all;
 
@@ -36,6 +36,9 @@ pub fn run(report: &mut Report, settings: Settings) {
             try_all(seeded::alone(seed, sort, rounds), |list| memory.follow(list, statuses))
         });
     }
+    report.check(&name(library::UNCHANGED), WHAT, |statuses| {
+        try_all(seeded::pages(seed, rounds), |list| memory.ask(&list.start, statuses))
+    });
     for kind in Kind::ALL {
         let what = "lists of calls with as much as can be lent, and with more, in guarded memory";
         report.check(&name(&format!("page-{}-limit", kind.name())), what, |statuses| {
@@ -51,20 +54,31 @@ impl Memory {
         Memory { text, history, cells, arrived, output }
     }
 
-    /// Makes the calls of a list.
+    /// Makes the calls of a list, and asks the question after each.
     fn follow(&mut self, list: &List, statuses: &mut Statuses) -> Result<(), String> {
         let mut state = list.start.clone();
         for (number, item) in (1..).zip(&list.moves) {
             match item {
                 Move::Change(change) => change.make(&mut state),
                 Move::Call(call) => {
-                    let left = on_both_sides(|side| self.make(&state, call, side))
-                        .map_err(|difference| format!("after {number}, {difference}"))?;
+                    let after = |difference| format!("after {number}, {difference}");
+                    let left = on_both_sides(|side| self.make(&state, call, side)).map_err(after)?;
                     statuses.count(library::name(call), left.answer.number);
                     state = left.state;
+                    self.ask(&state, statuses).map_err(after)?;
                 }
             }
         }
+        Ok(())
+    }
+
+    /// Asks the question, to which both buffers are lent to be read.
+    fn ask(&mut self, state: &State, statuses: &mut Statuses) -> Result<(), String> {
+        let Memory { text, history, .. } = self;
+        let (answer, _): (Answer, u32) = on_both_sides(|side| {
+            library::ask(state.page, text.lend_to_read(&state.text, side), history.lend_to_read(&state.history, side))
+        })?;
+        statuses.count(library::UNCHANGED, answer.number);
         Ok(())
     }
 
@@ -87,7 +101,7 @@ impl Memory {
                 let bytes = arrived.lend_to_read(bytes, side);
                 let output = output.lend(&filled(*room), side);
                 let (text, history) = (text.lend_to_read(all_cells, side), history.lend_to_read(words, side));
-                (library::save(*page, text, history, bytes, output), *page)
+                library::save(*page, text, history, bytes, output)
             }
         };
         let state =

@@ -1,13 +1,12 @@
-//! Demand 3 of document 01, by the ledger: what holds after each call of a list, and after the list.
+//! Demand 3 of document 01, by the ledger, with the mark and the question of order 5 of document 02: what holds after
+//! each call of a list, and after the list.
 
+use super::Program;
 use crate::calls::{List, Move};
 use crate::second::ledger::{Ledger, Step};
-use crate::second::page::{self, Left, Record, State};
-use crate::second::{Call, Kind};
+use crate::second::page::{self, Asked, Left, Record, State};
+use crate::second::{Answer, Call, Kind};
 use crate::trial::show;
-
-/// Makes a call on a program.
-type Make = fn(&State, &Call) -> Result<Left, String>;
 
 /// What was opened: the bytes that arrived, and the ledger of the calls since.
 struct Opened {
@@ -16,7 +15,7 @@ struct Opened {
 }
 
 /// Makes the calls of a list on a program, and asks after each whether what demand 3 says holds of it.
-pub fn follow(list: &List, make: Make) -> Result<(), String> {
+pub fn follow(list: &List, program: &Program) -> Result<(), String> {
     let mut state = list.start.clone();
     let mut opened = None;
     for (number, item) in (1..).zip(&list.moves) {
@@ -28,17 +27,17 @@ pub fn follow(list: &List, make: Make) -> Result<(), String> {
             }
             Move::Call(call) => {
                 let after = |difference| format!("after {number}, {difference}");
-                state = follow_call(&mut opened, &state, call, make).map_err(after)?;
+                state = follow_call(&mut opened, &state, call, program).map_err(after)?;
             }
         }
     }
     let at_the_bottom = |difference| format!("after the list, undone until it is refused, {difference}");
-    opened.map_or(Ok(()), |opened| opened.holds_at_the_bottom(state, make).map_err(at_the_bottom))
+    opened.map_or(Ok(()), |opened| opened.holds_at_the_bottom(state, program).map_err(at_the_bottom))
 }
 
 /// Makes a call, and asks what holds of its answer and of the state that it leaves.
-fn follow_call(opened: &mut Option<Opened>, state: &State, call: &Call, make: Make) -> Result<State, String> {
-    let left = make(state, call)?;
+fn follow_call(opened: &mut Option<Opened>, state: &State, call: &Call, program: &Program) -> Result<State, String> {
+    let left = (program.make)(state, call)?;
     let accepted = left.answer.number == 0;
     if let Call::Open { kind, arrived } = call {
         *opened = if accepted { Some(Opened::new(*kind, arrived)?) } else { None };
@@ -47,7 +46,7 @@ fn follow_call(opened: &mut Option<Opened>, state: &State, call: &Call, make: Ma
         opened.ledger.hear(call, accepted);
     }
     if let Some(opened) = opened {
-        opened.holds(&left.state, make)?;
+        opened.holds(&left.state, program)?;
     }
     Ok(left.state)
 }
@@ -59,12 +58,27 @@ impl Opened {
     }
 
     /// What demand 3 says of a state, and of the calls that may follow.
-    fn holds(&self, state: &State, make: Make) -> Result<(), String> {
+    fn holds(&self, state: &State, program: &Program) -> Result<(), String> {
         self.records_agree(state)?;
         text_is(&self.ledger.text(), state)?;
+        self.mark_is_kept(state, program)?;
         for call in [Call::Undo, Call::Redo, self.save()] {
             let of_call = |difference| format!("{call} would be wrong: {difference}");
-            make(state, &call).and_then(|left| self.holds_of(&call, &left)).map_err(of_call)?;
+            (program.make)(state, &call).and_then(|left| self.holds_of(&call, &left)).map_err(of_call)?;
+        }
+        Ok(())
+    }
+
+    /// "after the list the page's mark equals the one that the same ledger now keeps by these rules"; and the question is
+    /// answered by it.
+    fn mark_is_kept(&self, state: &State, program: &Program) -> Result<(), String> {
+        if state.page.saved != self.ledger.saved {
+            return Err(format!("the page has {}, and the mark of the ledger is {:?}", state.page, self.ledger.saved));
+        }
+        let expected = Asked { answer: Answer { number: 0, place: 0 }, unchanged: self.ledger.is_unchanged() };
+        let asked = (program.ask)(state)?;
+        if asked != expected {
+            return Err(format!("the question gives {asked} and not {expected}"));
         }
         Ok(())
     }
@@ -117,10 +131,12 @@ impl Opened {
 
     /// Undo until it is refused, which it is after as many as stand: the reading is back, and save with the bytes that
     /// were opened gives them.
-    fn holds_at_the_bottom(mut self, mut state: State, make: Make) -> Result<(), String> {
+    fn holds_at_the_bottom(mut self, mut state: State, program: &Program) -> Result<(), String> {
+        let make = program.make;
         for _ in 0..self.ledger.standing.len() {
             state = make(&state, &Call::Undo).and_then(|left| number_is(0, &left).map(|()| left.state))?;
             self.ledger.hear(&Call::Undo, true);
+            self.mark_is_kept(&state, program)?;
         }
         make(&state, &Call::Undo).and_then(|left| number_is(13, &left))?;
         text_is(&self.ledger.reading, &state)?;
@@ -129,7 +145,8 @@ impl Opened {
         if saved.answer.place != self.arrived.len() || saved.output != self.arrived {
             return Err(format!("\"{}\" is saved", saved.output.escape_ascii()));
         }
-        Ok(())
+        self.ledger.hear(&self.save(), true);
+        self.mark_is_kept(&saved.state, program)
     }
 }
 
@@ -155,12 +172,22 @@ mod tests {
     use crate::calls::seeded;
     use crate::checks::page::second;
     use crate::second::page::Page;
-    use crate::second::Answer;
 
     /// Whether demand 3 holds of a program on seeded lists.
-    fn holds(make: Make) -> bool {
+    fn holds_of_program(program: &Program) -> bool {
         let lists = |kind| seeded::opened(1, kind, seeded::SMALL, 100);
-        Kind::ALL.into_iter().flat_map(lists).all(|list| follow(&list, make).is_ok())
+        Kind::ALL.into_iter().flat_map(lists).all(|list| follow(&list, program).is_ok())
+    }
+
+    /// Whether it holds of one that answers the question as the second program does.
+    fn holds(make: impl Fn(&State, &Call) -> Result<Left, String>) -> bool {
+        holds_of_program(&Program { make: &make, ask: &|state| Ok(page::ask(state)) })
+    }
+
+    /// Whether it holds of one that makes the calls as the second program does, and finds a page unchanged by this rule.
+    fn holds_of_answer(is_unchanged: impl Fn(&Page) -> bool) -> bool {
+        let ask = |state: &State| Ok(Asked { unchanged: is_unchanged(&state.page), ..page::ask(state) });
+        holds_of_program(&Program { make: &|state, call| Ok(second(state, call)), ask: &ask })
     }
 
     fn accept(state: State) -> Result<Left, String> {
@@ -230,6 +257,77 @@ mod tests {
             }
             Ok(left)
         }));
+    }
+
+    /// The mark that a call leaves, by the page before it and by its own.
+    type Rule = fn(&Page, &Page) -> Option<usize>;
+
+    /// Whether demand 3 holds of a program whose accepted calls of a sort mark by this rule.
+    fn holds_with(is_of_sort: fn(&Call) -> bool, rule: Rule) -> bool {
+        holds(|state, call| {
+            let mut left = second(state, call);
+            if is_of_sort(call) && left.answer.number == 0 {
+                left.state.page.saved = rule(&state.page, &left.state.page);
+            }
+            Ok(left)
+        })
+    }
+
+    #[test]
+    fn a_save_marks_at_the_words_done() {
+        let save = |call: &Call| matches!(call, Call::Save { .. });
+        assert!(holds_with(save, |before, _| Some(before.done)));
+        let others: [Rule; 4] = [|before, _| before.saved, |before, _| Some(before.used), |_, _| Some(0), |_, _| None];
+        assert!(others.into_iter().all(|other| !holds_with(save, other)));
+    }
+
+    #[test]
+    fn a_refused_save_marks_nothing() {
+        assert!(!holds(|state, call| {
+            let mut left = second(state, call);
+            if matches!(call, Call::Save { .. }) {
+                left.state.page.saved = Some(state.page.done);
+            }
+            Ok(left)
+        }));
+    }
+
+    #[test]
+    fn a_replace_drops_a_mark_that_exceeds_the_words_done_before_it() {
+        let replace = |call: &Call| matches!(call, Call::Replace { .. });
+        assert!(holds_with(replace, |before, _| before.saved.filter(|&mark| mark <= before.done)));
+        let others: [Rule; 4] = [
+            |before, _| before.saved,
+            |_, _| None,
+            |before, _| before.saved.filter(|&mark| mark < before.done),
+            |before, after| before.saved.filter(|&mark| mark <= after.done),
+        ];
+        assert!(others.into_iter().all(|other| !holds_with(replace, other)));
+    }
+
+    #[test]
+    fn undo_and_redo_leave_the_mark() {
+        let turn = |call: &Call| matches!(call, Call::Undo | Call::Redo);
+        assert!(holds_with(turn, |before, _| before.saved));
+        let others: [Rule; 3] = [
+            |_, _| None,
+            |before, after| before.saved.filter(|&mark| mark <= after.done),
+            |before, after| before.saved.map(|_| after.done),
+        ];
+        assert!(others.into_iter().all(|other| !holds_with(turn, other)));
+    }
+
+    #[test]
+    fn the_question_compares_the_mark_with_the_words_done() {
+        assert!(holds_of_answer(|page| page.saved == Some(page.done)));
+        let others: [fn(&Page) -> bool; 5] = [
+            |page| page.saved == Some(page.used),
+            |page| page.saved <= Some(page.done),
+            |page| page.saved >= Some(page.done),
+            |page| page.saved.is_some(),
+            |page| page.done == 0,
+        ];
+        assert!(others.into_iter().all(|other| !holds_of_answer(other)));
     }
 
     #[test]

@@ -3,16 +3,16 @@
 mod demand3;
 
 use super::call::rooms;
-use crate::calls::{limit, opening, seeded, List, Move};
-use crate::examples::page::{judged, worked, Course, Judged};
+use crate::calls::{limit, marks, opening, seeded, List, Move};
+use crate::examples::page::{courses, judged, questions, Course, Judged, Question, Turn};
 use crate::formats;
 use crate::lent::{filled, Lent};
 use crate::library::page as library;
 use crate::parts::Part;
 use crate::report::{Report, Statuses};
 use crate::rng::Rng;
-use crate::second::page::{self, Left, State};
-use crate::second::{Call, Kind};
+use crate::second::page::{self, Asked, Left, State};
+use crate::second::{Answer, Call, Kind};
 use crate::trial::{same, try_all, try_examples};
 
 /// The examples, and a part for each kind of page.
@@ -22,11 +22,14 @@ pub fn parts(seed: u64) -> Vec<Part> {
 }
 
 fn check_examples(report: &mut Report) {
-    report.check("page-worked", "the worked page of document 01, step by step", |statuses| {
-        try_examples(&worked(), |course| follow_course(course, statuses))
+    report.check("page-worked", "the worked page of document 01 and one that is saved, step by step", |statuses| {
+        try_examples(&courses(), |course| follow_course(course, statuses))
     });
     report.check("page-by-hand", "calls on pages made by hand, sound and not", |statuses| {
         try_examples(&judged(), |example| compare_judged(example, statuses))
+    });
+    report.check("page-questions", "the question on pages made by hand, sound and not", |statuses| {
+        try_examples(&questions(), |Question { state, asked, .. }| compare_asked(state, asked, statuses))
     });
 }
 
@@ -43,10 +46,11 @@ fn check_kind(report: &mut Report, kind: Kind, seed: u64) {
     check("large", "seeded lists of calls in larger buffers", &mut large());
     check("changed", "seeded lists with changes that no call makes", &mut seeded::changed(seed, kind, 3_000));
     check("made", "seeded lists on pages made by hand", &mut seeded::made(seed, kind, 3_000));
+    check("marks", "pages with every mark, at ends of records and elsewhere", &mut marks::lists(seed, kind, 100));
     check("limit", "lists with as much as can be lent, and with more", &mut limit::lists(kind));
     let what = "demand 3, by the ledger, after each call of the lists that open a page";
     report.check(&format!("page-{}-demand-3", kind.name()), what, |_| {
-        try_all(small().chain(large()).chain([limit::full(kind)]), |list| demand3::follow(list, built))
+        try_all(small().chain(large()).chain([limit::full(kind)]), |list| demand3::follow(list, &BUILT))
     });
     expect_statuses(report, kind);
 }
@@ -74,7 +78,17 @@ pub fn expect_statuses(report: &mut Report, kind: Kind) {
     report.expect_statuses(library::UNDO, &[0, 13, 14, 16]);
     report.expect_statuses(library::REDO, &[0, 13, 14, 16]);
     report.expect_statuses(library::SAVE, &[0, 9, 10, 14, 15, 16]);
+    report.expect_statuses(library::UNCHANGED, &[0, 14, 16]);
 }
+
+/// A program that keeps a page: how a call is made on it, and how it is asked the question.
+struct Program<'a> {
+    make: &'a dyn Fn(&State, &Call) -> Result<Left, String>,
+    ask: &'a dyn Fn(&State) -> Result<Asked, String>,
+}
+
+/// The library.
+const BUILT: Program = Program { make: &built, ask: &built_asked };
 
 /// What the second program leaves, lent this state.
 fn second(state: &State, call: &Call) -> Left {
@@ -93,19 +107,35 @@ fn built(state: &State, call: &Call) -> Result<Left, String> {
     Ok(Left { answer, state: State { page, text, history }, output })
 }
 
-/// Makes the calls of a list, and compares what each leaves with what the second program leaves.
+/// What the library answers to the question, lent this state; or what it did to the memory, all of which it is to leave.
+fn built_asked(state: &State) -> Result<Asked, String> {
+    let (mut text, mut history) = (Lent::new(&state.text), Lent::new(&state.history));
+    let (answer, unchanged) = library::ask(state.page, text.contents(), history.contents());
+    let of = |what: &'static str| move |difference| format!("the question changed the {what}: {difference}");
+    text.take_back().and_then(|found| same(&state.text, &found, 0)).map_err(of("text buffer"))?;
+    history.take_back().and_then(|found| same(&state.history, &found, 0)).map_err(of("history"))?;
+    match unchanged {
+        0 | 1 => Ok(Asked { answer, unchanged: unchanged == 1 }),
+        _ => Err(format!("the question says {unchanged}, which is neither yes nor no")),
+    }
+}
+
+/// Makes the calls of a list, and compares what each leaves with what the second program leaves. After each, and after
+/// each change, the question is asked.
 fn follow(list: &List, statuses: &mut Statuses) -> Result<(), String> {
     let mut state = list.start.clone();
+    compare_asked(&state, &page::ask(&state), statuses).map_err(|difference| format!("at first, {difference}"))?;
     for (number, item) in (1..).zip(&list.moves) {
+        let after = |difference| format!("after {number}, {difference}");
         match item {
             Move::Change(change) => change.make(&mut state),
             Move::Call(call) => {
                 let expected = second(&state, call);
-                compare(&state, call, &expected, statuses)
-                    .map_err(|difference| format!("after {number}, {difference}"))?;
+                compare(&state, call, &expected, statuses).map_err(after)?;
                 state = expected.state;
             }
         }
+        compare_asked(&state, &page::ask(&state), statuses).map_err(after)?;
     }
     Ok(())
 }
@@ -113,9 +143,12 @@ fn follow(list: &List, statuses: &mut Statuses) -> Result<(), String> {
 /// Makes the calls of an example, and compares what each leaves with what the paper says.
 fn follow_course(course: &Course, statuses: &mut Statuses) -> Result<(), String> {
     let mut state = &course.start;
-    for (call, expected) in &course.turns {
-        compare(state, call, expected, statuses).map_err(|difference| format!("after {call}, {difference}"))?;
-        state = &expected.state;
+    for Turn { call, left, unchanged } in &course.turns {
+        let after = |difference| format!("after {call}, {difference}");
+        compare(state, call, left, statuses).map_err(after)?;
+        state = &left.state;
+        let asked = Asked { answer: Answer { number: 0, place: 0 }, unchanged: *unchanged };
+        compare_asked(state, &asked, statuses).map_err(after)?;
     }
     Ok(())
 }
@@ -140,4 +173,14 @@ fn compare(state: &State, call: &Call, expected: &Left, statuses: &mut Statuses)
     same(&expected.state.text, &found.state.text, 0).map_err(within("text buffer"))?;
     same(&expected.state.history, &found.state.history, 0).map_err(within("history"))?;
     same(&expected.output, &found.output, 0).map_err(within("output"))
+}
+
+/// Asks the library the question, and compares what it gives with what it is to give.
+fn compare_asked(state: &State, expected: &Asked, statuses: &mut Statuses) -> Result<(), String> {
+    let found = built_asked(state)?;
+    statuses.count(library::UNCHANGED, found.answer.number);
+    if found == *expected {
+        return Ok(());
+    }
+    Err(format!("the question gives {found} and not {expected}"))
 }
