@@ -1,5 +1,5 @@
--- Demand 3 through C: a host's calls leave what the page's calls leave, with the kind and the mark as numbers; so long as
--- its mark is one of the words used, which all pages of demand 3 keep. Assumes nothing.
+-- Demand 3 through C: a host's calls leave what the page's calls leave, with the kind and the mark as numbers. No mark
+-- is taken for none: along the calls it is one of the words used. Assumes nothing.
 use Prim.Native.Nat.{ℕ, _-_, _≤_}
 use mathlib.Core.Path.{_≡_, refl, sym, ap, _∙_, subst₂}
 use mathlib.Core.Bool.{Bool, true, false, _&&_, false≢true}
@@ -63,12 +63,15 @@ mark-used :
     (es : List Entry) (m : Mark) → markFits inWords m (map stepOf es) ≡ true → markWithin (sizes es) m ≡ true
 mark-used es m h =
     let p = mark-parts es [] (sizes es) (sizes es) refl (omega arith) m in
-    let all : (markWithin (sizes es) m && ends es (cutIn m 0 (sizes es)) && ends [] (cutIn m (sizes es) (sizes es) - sizes es)) ≡ true =
-    sym p ∙ rw (append-nil es) h in
-    and-first (markWithin (sizes es) m) _ (and-first (markWithin (sizes es) m && ends es (cutIn m 0 (sizes es))) _ all)
+    let n : ℕ = sizes es in
+    let within : Bool = markWithin n m in
+    let standing : Bool = ends es (cutIn m 0 n) in
+    let all : (within && standing && ends [] (cutIn m n n - n)) ≡ true = sym p ∙ rw (append-nil es) h in
+    and-first within standing (and-first (within && standing) _ all)
 
 -- the mark of a page in which an editor lies
-mark-lies : {opening : ℕ} {s : State} {e : Editor} → Lies opening s e → markIn (markNumber (s .page .saved)) ≡ s .page .saved
+mark-lies :
+    {opening : ℕ} {s : State} {e : Editor} → Lies opening s e → markIn (markNumber (s .page .saved)) ≡ s .page .saved
 mark-lies {e = e} l =
     rw (l .state)
     (mark-there (e .saved) (sizes (entries e)) (mark-used (entries e) (e .saved) (l .legal .marked))
@@ -94,14 +97,16 @@ module _ (s : State) (own : markIn (markNumber (s .page .saved)) ≡ s .page .sa
 -- along the calls of demand 3
 module _ {arrived : List ℕ} where
   pub host-after :
-      {s : State} {l : Ledger} → Kept page-lays arrived s l → (calls : List Call) → hostAfter (hostState s) calls ≡ hostState (after s calls)
+      {s : State} {l : Ledger} → Kept page-lays arrived s l → (calls : List Call) →
+      hostAfter (hostState s) calls ≡ hostState (after s calls)
   host-after k [] = refl
   host-after {s} k (c ∷ cs) =
       ap (λ (o : HostOutcome). hostAfter (leftBy o) cs) (host-call s (mark-lies (k .lies)) c)
       ∙ host-after (kept-call page-lays k c) cs
 
   pub host-heard :
-      {s : State} {l : Ledger} → Kept page-lays arrived s l → (calls : List Call) → hostHeard l (hostState s) calls ≡ heard l s calls
+      {s : State} {l : Ledger} → Kept page-lays arrived s l → (calls : List Call) →
+      hostHeard l (hostState s) calls ≡ heard l s calls
   host-heard k [] = refl
   host-heard {s} {l} k (c ∷ cs) =
       ap (λ (o : HostOutcome). hostHeard (fed inWords l c (hostTaken o)) (leftBy o) cs)

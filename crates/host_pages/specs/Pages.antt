@@ -67,7 +67,14 @@ pub record HostOutcome : Type 0 where
   pub output : List ℕ
 
 abbrev pub hosted : Outcome → HostOutcome
-hosted o = record { verdict = o .verdict; page = hostPage (o .state .page); text = o .state .text; history = o .state .history; output = o .output }
+hosted o =
+    record {
+      verdict = o .verdict;
+      page = hostPage (o .state .page);
+      text = o .state .text;
+      history = o .state .history;
+      output = o .output;
+    }
 
 -- a page whose kind's number is no kind is not sound: 14, but "16 comes first"; `list` is the list lent beside the page
 abbrev pub unsound : List ℕ → List ℕ → List ℕ → Verdict

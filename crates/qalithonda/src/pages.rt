@@ -1,13 +1,13 @@
-// The page for hosts: its five calls, with the kind as a number.
+// The page for hosts: its five calls and the question, with the kind and the mark as numbers.
 use codec::Kind;
-use host_numbers::Numbers;
+use host_pages::HostAsked;
 use host_pages::HostEdited;
 use host_pages::HostPage;
 ghost use mathlib.Core.Path.{_≡_};
 ghost use mathlib.Core.List.{[]};
 ghost use Rattle.ledger.specs.Calls.{openOf, replaceOf, undoOf, redoOf, saveOf};
 ghost use Rattle.codec.specs.declared.Kind.the-variants.{Utf7Header, Utf7Body, Jp2};
-ghost use Rattle.host_pages.specs.Pages.{hosted, onPage, finds, findsSaved};
+ghost use Rattle.host_pages.specs.Pages.{hosted, onPage, finds, findsSaved, askedOn, hears};
 
 #[no_mangle]
 pub extern "C" fn qalithonda_utf7_header_open(
@@ -84,10 +84,17 @@ pub extern "C" fn qalithonda_save(
     history: &[u32],
     arrived: &[u8],
     out: &mut [u8],
-) -> Numbers
-    ensures { λ r. ⌜ findsSaved r p (now (text .entry)) (now (history .entry)) (now (out .exit))
+) -> HostEdited
+    ensures { λ r. ⌜ findsSaved r (now (text .entry)) (now (history .entry)) (now (out .exit))
         ≡ onPage p (now (text .entry)) (now (history .entry)) (now (out .entry)) (now (arrived .entry))
         (λ s. saveOf s (now (arrived .entry)) (now (out .entry))) ⌝ }
 {
     host_pages::save(p, text, history, arrived, out)
+}
+
+#[no_mangle]
+pub extern "C" fn qalithonda_unchanged(p: HostPage, text: &[u32], history: &[u32]) -> HostAsked
+    ensures { λ r. ⌜ hears r ≡ askedOn p (now (text .entry)) (now (history .entry)) ⌝ }
+{
+    host_pages::unchanged(p, text, history)
 }

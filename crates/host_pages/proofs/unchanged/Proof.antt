@@ -10,7 +10,8 @@ no-kind-requires c κs = search needs
 returns : tie.Need-returns
 returns c =
     let a = c .before .before .before .before .before .args in
-    none-asked (a .p) (now (a .text)) (now (a .history)) (c .no-kind .result) (c .before .if1 .taken) (c .no-kind .ensures)
+    none-asked (a .p) (now (a .text)) (now (a .history)) (c .no-kind .result) (c .before .if1 .taken)
+    (c .no-kind .ensures)
 
 page-in-requires : tie.Need-page-in-requires
 page-in-requires c κs = search needs
