@@ -30,14 +30,19 @@ impl Draft {
         self.add_call(Call::Open { kind: self.kind, arrived: self.arrived.clone() });
     }
 
-    /// Adds one to four calls of one sort.
+    /// Adds one to four calls of one sort; or some that lead away from what was saved, most often for good.
     pub fn add_calls(&mut self, rng: &mut Rng) {
-        let (sort, most) = match rng.below(18) {
-            0..=6 => (Sort::Replace, 3),
-            7..=9 => (Sort::Undo, 4),
-            10..=12 => (Sort::Redo, 3),
-            _ => (Sort::Save, 2),
-        };
+        match rng.below(18) {
+            0..=6 => self.add_some(rng, Sort::Replace, 3),
+            7..=9 => self.add_some(rng, Sort::Undo, 4),
+            10..=12 => self.add_some(rng, Sort::Redo, 3),
+            13..=15 => self.add_some(rng, Sort::Save, 2),
+            _ => [Sort::Save, Sort::Undo, Sort::Replace].into_iter().for_each(|sort| self.add_some(rng, sort, 1)),
+        }
+    }
+
+    /// Adds calls of this sort, at least one and at most so many.
+    fn add_some(&mut self, rng: &mut Rng, sort: Sort, most: usize) {
         for _ in 0..rng.between(1, most) {
             self.add_call(self.call(rng, sort));
         }
