@@ -4,11 +4,10 @@ use super::item::{Item, What};
 use super::tokens::{cut, split, start, tokens};
 
 /// The structs that cross, as C names them. (A step is `stepped` in C: `step` is the function that makes it.)
-const STRUCTS: [(&str, &str); 10] = [
+const STRUCTS: [(&str, &str); 9] = [
     ("Numbers", "qalithonda_numbers"),
     ("HostPage", "qalithonda_page"),
     ("HostEdited", "qalithonda_edited"),
-    ("HostAsked", "qalithonda_asked"),
     ("HostUtf7Cursor", "qalithonda_utf7_cursor"),
     ("HostUtf7Step", "qalithonda_utf7_stepped"),
     ("HostJp2Cursor", "qalithonda_jp2_cursor"),
@@ -34,7 +33,6 @@ pub fn items(source: &str) -> Result<Vec<Item>, String> {
             ["Refusal" | "Kind", ":", ":", name, "=", ">", number, ..] => found.push(constant(name, number)?),
             ["Accepted", "(", "_", ")", "=", ">", number, ..] => found.push(constant("Accepted", number)?),
             ["const", "LIMIT", ":", "usize", "=", number, ..] => found.push(constant("Limit", number)?),
-            ["const", "NEVER", ":", "usize", "=", number, ..] => found.push(constant("NeverSaved", number)?),
             _ => {}
         }
     }
@@ -95,10 +93,9 @@ fn crossed(parameter: &[&str]) -> Result<Vec<String>, String> {
     }
 }
 
-/// `HighByte` is QALITHONDA_HIGH_BYTE. C has a name for the largest size.
+/// `HighByte` is QALITHONDA_HIGH_BYTE.
 fn constant(name: &str, number: &str) -> Result<Item, String> {
-    let number: usize = number.parse().map_err(|_| format!("{name}: `{number}` is not a number"))?;
-    let number = if number == usize::MAX { "SIZE_MAX".to_string() } else { number.to_string() };
+    let number: u32 = number.parse().map_err(|_| format!("{name}: `{number}` is not a number"))?;
     let mut in_c = "QALITHONDA".to_string();
     for letter in name.chars() {
         if letter.is_ascii_uppercase() {
@@ -106,7 +103,7 @@ fn constant(name: &str, number: &str) -> Result<Item, String> {
         }
         in_c.push(letter.to_ascii_uppercase());
     }
-    Ok(Item { name: in_c, what: What::Constant, parts: vec![number] })
+    Ok(Item { name: in_c, what: What::Constant, parts: vec![number.to_string()] })
 }
 
 #[cfg(test)]
@@ -147,14 +144,13 @@ mod tests {
 
     #[test]
     fn constants() {
-        let source = "pub const LIMIT: usize = 65536; const NEVER: usize = 18446744073709551615; match a { Accepted(_) => 0, Refused(why, _) => f(why) } \
+        let source = "pub const LIMIT: usize = 65536; match a { Accepted(_) => 0, Refused(why, _) => f(why) } \
                       match r { Refusal::HighByte => 1, Refusal::EmptyG2 => 6 } match k { Kind::Utf7Body => 1 } \
                       match a { Accepted(count) => count, } g(Kind::Jp2)";
         assert_eq!(
             read(source),
             [
                 "constant QALITHONDA_LIMIT: 65536",
-                "constant QALITHONDA_NEVER_SAVED: SIZE_MAX",
                 "constant QALITHONDA_ACCEPTED: 0",
                 "constant QALITHONDA_HIGH_BYTE: 1",
                 "constant QALITHONDA_EMPTY_G2: 6",
