@@ -278,7 +278,15 @@ qalithonda_mailbox_stepped qalithonda_mailbox_step(const uint8_t *text, size_t t
  *
  * After an accepted open, replace, undo or redo the text is the first `length` cells of the text
  * buffer; the text buffer past `length` and the history past `used` are 0.
+ *
+ * A page knows when it was saved last: its mark is the words done at that time. An open counts as a
+ * save. `qalithonda_unchanged` asks whether the page is as it was then: ask before the page is
+ * closed.
  */
+
+/* The mark of a page that cannot be as it was saved: the steps that led there were dropped by a
+   replace. */
+#define QALITHONDA_NEVER_SAVED SIZE_MAX
 
 /* A page's numbers. There is a step to undo if done > 0, and one to redo if done < used. */
 typedef struct {
@@ -287,14 +295,22 @@ typedef struct {
     size_t length;   /* how many cells it has */
     size_t used;     /* words of history that hold steps */
     size_t done;     /* those of them whose steps stand; the others can be redone */
+    size_t saved;    /* its mark: `done` at the last save; or QALITHONDA_NEVER_SAVED, no mark */
 } qalithonda_page;
 
-/* What open, replace, undo and redo give back. A refused replace, undo or redo gives the page that
-   was handed in; a refused open gives the kind with four zeros, which is no page to go on with. */
+/* What open, replace, undo, redo and save give back. A refused replace, undo, redo or save gives
+   the page that was handed in; a refused open gives the kind with four zeros and no mark
+   (QALITHONDA_NEVER_SAVED), which is no page to go on with. */
 typedef struct {
     qalithonda_numbers answer;
     qalithonda_page page;
 } qalithonda_edited;
+
+/* What `qalithonda_unchanged` gives. */
+typedef struct {
+    qalithonda_numbers answer;
+    uint32_t unchanged;  /* 1: the page is as it was saved, or opened; 0: it is not, or refused */
+} qalithonda_asked;
 
 /*
  * Open a page on the bytes of a letter as they arrived. Keep these bytes for `save`.
@@ -315,7 +331,7 @@ qalithonda_edited qalithonda_jp2_open(const uint8_t *arrived, size_t arrived_len
 
 /*
  * Puts `cells` in the place of the `count` cells from `place` on. Steps that could be redone are
- * dropped.
+ * dropped, and the mark with them if it is among them.
  * Accepted: the new length.
  * Refused: 16 (cells, text, history); 14; 11; 10 (the index is in `cells`); 9 (text: the new
  * length); 12 (done + 3 + count + cells_len words).
@@ -342,15 +358,30 @@ qalithonda_edited qalithonda_redo(qalithonda_page page,
  * written in the page's kind. `arrived` are the bytes that the page was opened on. Room for
  * arrived_len bytes is enough if no step stands; otherwise 5 * length is (UTF-7), or
  * 6 * length + 3 (JP-2).
+ *
+ * The page that it gives has its mark at `done`; nothing else of it is changed. Write the bytes to
+ * where they belong, and only then go on with that page. If they could not be written, go on with
+ * the page that was handed in: its mark still says what was saved before.
  * Accepted: the count of bytes, which are in `out`.
  * Refused: 16 (text, history, arrived); 14; 15 (only if no step stands), 10 (only if one does: the
  * index is in the text); 9 (out).
  */
-qalithonda_numbers qalithonda_save(qalithonda_page page,
-                                   const uint32_t *text, size_t text_len,
-                                   const uint32_t *history, size_t history_len,
-                                   const uint8_t *arrived, size_t arrived_len,
-                                   uint8_t *out, size_t out_len);
+qalithonda_edited qalithonda_save(qalithonda_page page,
+                                  const uint32_t *text, size_t text_len,
+                                  const uint32_t *history, size_t history_len,
+                                  const uint8_t *arrived, size_t arrived_len,
+                                  uint8_t *out, size_t out_len);
+
+/*
+ * Asks whether the page is as it was saved last, or opened: whether its mark is at `done`. Steps
+ * that were undone and done again, or done and undone, make no difference; the same cells put by
+ * another step do.
+ * Accepted: 0.
+ * Refused: 16 (text, history); 14.
+ */
+qalithonda_asked qalithonda_unchanged(qalithonda_page page,
+                                      const uint32_t *text, size_t text_len,
+                                      const uint32_t *history, size_t history_len);
 
 #ifdef __cplusplus
 }

@@ -133,8 +133,10 @@ mod tests {
 
     #[test]
     fn constants() {
-        let header = "#define LIMIT 65536\nenum number { ACCEPTED = 0, /* b, c */ HIGH_BYTE = 1 };";
-        assert_eq!(read(header), ["constant LIMIT: 65536", "constant ACCEPTED: 0", "constant HIGH_BYTE: 1"]);
+        let header = "#define LIMIT 65536\n#define NEVER SIZE_MAX\nenum number { ACCEPTED = 0, /* b, c */ HIGH_BYTE = 1 };";
+        let constants =
+            ["constant LIMIT: 65536", "constant NEVER: SIZE_MAX", "constant ACCEPTED: 0", "constant HIGH_BYTE: 1"];
+        assert_eq!(read(header), constants);
     }
 
     #[test]

@@ -4,10 +4,11 @@ use super::item::{Item, What};
 use super::tokens::{cut, split, start, tokens};
 
 /// The structs that cross, as C names them. (A step is `stepped` in C: `step` is the function that makes it.)
-const STRUCTS: [(&str, &str); 9] = [
+const STRUCTS: [(&str, &str); 10] = [
     ("Numbers", "qalithonda_numbers"),
     ("HostPage", "qalithonda_page"),
     ("HostEdited", "qalithonda_edited"),
+    ("HostAsked", "qalithonda_asked"),
     ("HostUtf7Cursor", "qalithonda_utf7_cursor"),
     ("HostUtf7Step", "qalithonda_utf7_stepped"),
     ("HostJp2Cursor", "qalithonda_jp2_cursor"),
@@ -22,7 +23,8 @@ const NUMBERS: [(&str, &str); 4] = [("u8", "uint8_t"), ("u16", "uint16_t"), ("u3
 /// Parameters that C names otherwise. (`page` is a crate in the source.)
 const RENAMED: [(&str, &str); 1] = [("p", "page")];
 
-/// The exported functions, the structs that cross, and the numbers of refusals, kinds and the limit, in one file.
+/// The exported functions, the structs that cross, and the numbers of refusals, kinds, the limit and no mark, in one
+/// file.
 pub fn items(source: &str) -> Result<Vec<Item>, String> {
     let tokens = tokens(source);
     let mut found = Vec::new();
@@ -33,6 +35,7 @@ pub fn items(source: &str) -> Result<Vec<Item>, String> {
             ["Refusal" | "Kind", ":", ":", name, "=", ">", number, ..] => found.push(constant(name, number)?),
             ["Accepted", "(", "_", ")", "=", ">", number, ..] => found.push(constant("Accepted", number)?),
             ["const", "LIMIT", ":", "usize", "=", number, ..] => found.push(constant("Limit", number)?),
+            ["const", "NEVER", ":", "usize", "=", number, ..] => found.push(never(number)?),
             _ => {}
         }
     }
@@ -106,6 +109,15 @@ fn constant(name: &str, number: &str) -> Result<Item, String> {
     Ok(Item { name: in_c, what: What::Constant, parts: vec![number.to_string()] })
 }
 
+/// The number of no mark: the greatest size, which is SIZE_MAX in C.
+fn never(number: &str) -> Result<Item, String> {
+    if number != usize::MAX.to_string() {
+        return Err(format!("NEVER: `{number}` is not the greatest size"));
+    }
+    let name = "QALITHONDA_NEVER_SAVED".to_string();
+    Ok(Item { name, what: What::Constant, parts: vec!["SIZE_MAX".to_string()] })
+}
+
 #[cfg(test)]
 mod tests {
     use super::*;
@@ -146,7 +158,7 @@ mod tests {
     fn constants() {
         let source = "pub const LIMIT: usize = 65536; match a { Accepted(_) => 0, Refused(why, _) => f(why) } \
                       match r { Refusal::HighByte => 1, Refusal::EmptyG2 => 6 } match k { Kind::Utf7Body => 1 } \
-                      match a { Accepted(count) => count, } g(Kind::Jp2)";
+                      match a { Accepted(count) => count, } g(Kind::Jp2) const NEVER: usize = 18446744073709551615;";
         assert_eq!(
             read(source),
             [
@@ -154,7 +166,8 @@ mod tests {
                 "constant QALITHONDA_ACCEPTED: 0",
                 "constant QALITHONDA_HIGH_BYTE: 1",
                 "constant QALITHONDA_EMPTY_G2: 6",
-                "constant QALITHONDA_UTF7_BODY: 1"
+                "constant QALITHONDA_UTF7_BODY: 1",
+                "constant QALITHONDA_NEVER_SAVED: SIZE_MAX"
             ]
         );
     }
@@ -173,6 +186,7 @@ mod tests {
             "#[repr(C)] pub struct Numbers { a: u8 }",
             "#[repr(C)] pub struct Numbers { pub a: [u8; 3] }",
             "match k { Kind::Jp2 => two }",
+            "const NEVER: usize = 4294967295;",
         ];
         for source in unread {
             assert!(items(source).is_err(), "{source}");
