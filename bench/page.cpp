@@ -64,9 +64,10 @@ struct Desk {
     }
 
     void save() {
-        const auto answer = qalithonda_save(page, text.data(), LIMIT, history.data(), LIMIT, arrived.data(), arrived.size(),
-                                            out.data(), out.size());
-        if (answer.number != 0) fail("save: number " + std::to_string(answer.number));
+        const auto answer = accepted(qalithonda_save(page, text.data(), LIMIT, history.data(), LIMIT, arrived.data(),
+                                                     arrived.size(), out.data(), out.size()),
+                                     "save")
+                                .answer;
         if (answer.place != page.length || out[last] != (page.done > 0 ? '.' : 'a')) fail("save: not the text");
     }
 
