@@ -19,7 +19,7 @@ import operator
 import os
 from array import array
 from pathlib import Path
-from typing import Iterable, List, NamedTuple
+from typing import Callable, Iterable, List, NamedTuple, Optional, TypeVar
 
 __all__ = ["LIMIT", "Kind", "Page", "Refusal", "Refused", "Step", "Steps", "jp2", "mailbox", "utf7"]
 
@@ -109,11 +109,26 @@ class _Numbers(ctypes.Structure):
 
 
 class _Page(ctypes.Structure):
-    _fields_ = [("kind", _Word), ("opening", _Size), ("length", _Size), ("used", _Size), ("done", _Size)]
+    _fields_ = [
+        ("kind", _Word),
+        ("opening", _Size),
+        ("length", _Size),
+        ("used", _Size),
+        ("done", _Size),
+        ("saved", _Size),
+    ]
+
+
+#: The `saved` of a page that has no mark.
+_NEVER_SAVED = _Size(-1).value
 
 
 class _Edited(ctypes.Structure):
     _fields_ = [("answer", _Numbers), ("page", _Page)]
+
+
+class _Asked(ctypes.Structure):
+    _fields_ = [("answer", _Numbers), ("unchanged", _Word)]
 
 
 class _Utf7Cursor(ctypes.Structure):
@@ -214,7 +229,8 @@ _jp2_open = _function("jp2_open", _Edited, *_BYTES, *_WORDS, *_WORDS)
 _replace = _function("replace", _Edited, _Page, _Size, _Size, *_WORDS, *_WORDS, *_WORDS)
 _undo = _function("undo", _Edited, _Page, *_WORDS, *_WORDS)
 _redo = _function("redo", _Edited, _Page, *_WORDS, *_WORDS)
-_save = _function("save", _Numbers, _Page, *_WORDS, *_WORDS, *_BYTES, *_OUT)
+_save = _function("save", _Edited, _Page, *_WORDS, *_WORDS, *_BYTES, *_OUT)
+_unchanged = _function("unchanged", _Asked, _Page, *_WORDS, *_WORDS)
 
 
 # From Python to C and back. ctypes would cut a number that is too large down without a word, so none gets there.
@@ -427,6 +443,7 @@ class Kind(enum.IntEnum):
     JP2 = 2
 
 
+_T = TypeVar("_T")
 _OPEN = {Kind.UTF7_HEADER: _utf7_header_open, Kind.UTF7_BODY: _utf7_body_open, Kind.JP2: _jp2_open}
 
 
@@ -436,8 +453,12 @@ class Page:
     >>> page = Page.open(Kind.UTF7_BODY, b"A+ImIDkQ.", 100, 100)
     >>> page.replace(1, 1, [0x3D])
     4
+    >>> page.unchanged
+    False
     >>> page.save()
     b'A=+A5E-.'
+    >>> page.unchanged
+    True
     """
 
     def __init__(self, kind: Kind, arrived: bytes, text_room: int, history_room: int) -> None:
@@ -461,7 +482,7 @@ class Page:
 
     def replace(self, place: int, count: int, cells: Iterable[int]) -> int:
         """Puts cells in the place of the count cells from place on, and gives the new length. Steps that could be
-        redone are dropped.
+        redone are dropped, and the mark with them if it is among them.
 
         Refused with 16, 11, 10 (an index in cells), 9 (the new length) or 12.
         """
@@ -479,9 +500,50 @@ class Page:
         return self._keep(_redo(self._numbers, *self._buffers()))
 
     def save(self) -> bytes:
-        """The letter's bytes: those that arrived if no step stands, otherwise the text written in the page's kind."""
-        lent = (self._numbers, *self._buffers(), self._arrived, len(self._arrived))
-        return bytes(_filled(_Byte, lambda out, room: _save(*lent, out, room)))
+        """The letter's bytes: those that arrived if no step stands, otherwise the text written in the page's kind. The
+        page counts as saved from then on (`unchanged`); bytes that are still to be written to a file, which may fail,
+        are better saved by `save_with`."""
+        return self.save_with(lambda letter: letter)
+
+    def save_with(self, put: Callable[[bytes], _T]) -> _T:
+        """Gives the letter's bytes to put, which writes them to where they belong, and gives what it gives. If put
+        raises, the page stays as it was, and so does what was saved before. Put is not to change the page.
+
+        >>> page = Page.open(Kind.UTF7_BODY, b"A+ImIDkQ.", 100, 100)
+        >>> page.replace(1, 1, [0x3D])
+        4
+        >>> page.save_with(Path("/nowhere/letter").write_bytes)
+        Traceback (most recent call last):
+        FileNotFoundError: [Errno 2] No such file or directory: '/nowhere/letter'
+        >>> page.unchanged
+        False
+        >>> page.save_with(Path("/dev/null").write_bytes)
+        8
+        >>> page.unchanged
+        True
+        """
+        numbers = self._numbers
+        lent = (numbers, *self._buffers(), self._arrived, len(self._arrived))
+        edited = _Edited()
+
+        def call(out, room):
+            nonlocal edited
+            edited = _save(*lent, out, room)
+            return edited.answer
+
+        given = put(bytes(_filled(_Byte, call)))
+        # If put has changed the page after all, the bytes are not those of the page any more.
+        if self._numbers is numbers:
+            self._numbers = edited.page
+        return given
+
+    @property
+    def unchanged(self) -> bool:
+        """Whether it is as it was saved last, or opened if it was not saved since. Steps that were undone and done
+        again make no difference; the same cells put by another step do. Good to ask before a page is dropped."""
+        asked = _unchanged(self._numbers, *self._buffers())
+        _accepted(asked.answer)
+        return asked.unchanged == 1
 
     def text(self) -> List[int]:
         """Its cells."""
@@ -521,6 +583,12 @@ class Page:
     def done(self) -> int:
         """How many words of history hold steps that stand. There is one to undo if this is not 0."""
         return self._numbers.done
+
+    @property
+    def saved(self) -> Optional[int]:
+        """The mark: `done` when it was saved last, or 0 if it was only opened; None if a replacement dropped the steps
+        that led there. It is unchanged if this is what is done."""
+        return None if self._numbers.saved == _NEVER_SAVED else self._numbers.saved
 
     def _buffers(self):
         return self._text, len(self._text), self._history, len(self._history)

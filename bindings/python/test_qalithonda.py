@@ -229,17 +229,50 @@ class Pages(Case):
         page = Page.open(Kind.UTF7_BODY, P2, 5, 6)
         self.assertEqual((page.kind, page.arrived), (Kind.UTF7_BODY, P2))
         self.assertEqual((page.text(), page.history(), self.numbers(page)), (P2_CELLS, [], (4, 4, 0, 0)))
+        self.assertEqual((page.saved, page.unchanged), (0, True))
         self.assertEqual(page.replace(1, 1, [0x3D]), 4)
         self.assertEqual((page.text(), page.history()), ([0x41, 0x3D, 0x391, 0x2E], [1, 1, 1, 0x2262, 0x3D]))
         self.assertEqual(self.numbers(page), (4, 4, 5, 5))
+        self.assertEqual((page.saved, page.unchanged), (0, False))
         self.assertEqual(page.save(), b"A=+A5E-.")
+        self.assertEqual((page.saved, page.unchanged), (5, True))
         self.assertEqual(page.undo(), 4)
         self.assertEqual(self.numbers(page), (4, 4, 5, 0))
+        self.assertEqual((page.saved, page.unchanged), (5, False))
         self.assertEqual(page.save(), P2)
+        self.assertEqual((page.saved, page.unchanged), (0, True))
         self.refused(13, 0, page.undo)
         self.assertEqual(page.redo(), 4)
         self.assertEqual(page.text(), [0x41, 0x3D, 0x391, 0x2E])
         self.refused(13, 0, page.redo)
+
+    def test_a_replacement_drops_a_mark_that_could_be_redone(self):
+        page = Page.open(Kind.UTF7_BODY, P2, 5, 9)
+        page.replace(1, 1, [0x3D])
+        page.save()
+        page.undo()
+        page.redo()
+        self.assertTrue(page.unchanged)
+        page.undo()
+        page.replace(1, 1, [0x3D])
+        self.assertEqual((page.saved, page.unchanged), (None, False))
+        page.save()
+        self.assertEqual((page.saved, page.unchanged), (5, True))
+
+    def test_bytes_that_were_not_put_do_not_count_as_saved(self):
+        page = Page.open(Kind.UTF7_BODY, P2, 5, 20)
+        page.replace(1, 1, [0x3D])
+        with self.assertRaises(ZeroDivisionError):
+            page.save_with(lambda letter: 1 // 0)
+        self.assertEqual((page.saved, page.unchanged), (0, False))
+        put = []
+        self.assertIsNone(page.save_with(put.append))
+        self.assertEqual((page.saved, page.unchanged, put), (5, True, [b"A=+A5E-."]))
+        # What is put is not to change the page; if it does, the page is still sound.
+        page.save_with(lambda letter: page.replace(0, 1, []))
+        self.assertEqual((page.saved, page.unchanged, page.length), (5, False, 3))
+        page.undo()
+        self.assertTrue(page.unchanged)
 
     def test_four_words_of_history(self):
         page = Page.open(Kind.UTF7_BODY, P2, 5, 4)
@@ -306,11 +339,11 @@ class Pages(Case):
             self.follow(Kind.JP2, jp2.read, cells, rng)
 
     def follow(self, kind, read, cells, rng):
-        """Every text so far is kept, and undo and redo go to and fro between them."""
+        """Every text so far is kept, undo and redo go to and fro between them, and one of them may be the saved one."""
         page = Page.open(kind, P2, 12, 60)
-        texts, now = [page.text()], 0
+        texts, now, saved = [page.text()], 0, 0
         for _ in range(100):
-            call = rng.choice(("undo", "redo", "replace", "replace"))
+            call = rng.choice(("undo", "redo", "save", "replace", "replace", "replace"))
             if call == "replace":
                 place, count, added = rng.randrange(14), rng.randrange(4), rng.choices(cells, k=rng.randrange(4))
                 try:
@@ -319,15 +352,19 @@ class Pages(Case):
                     continue
                 text = texts[now]
                 texts[now + 1 :] = [text[:place] + added + text[place + count :]]
+                saved = None if saved is not None and saved > now else saved
                 now += 1
+            elif call == "save":
+                self.assertEqual(read(page.save()), texts[now])
+                saved = now
             elif now == (0 if call == "undo" else len(texts) - 1):
                 self.refused(13, 0, getattr(page, call))
             else:
                 getattr(page, call)()
                 now += -1 if call == "undo" else 1
             self.assertEqual(page.text(), texts[now])
-            self.assertEqual(read(page.save()), texts[now])
             self.assertEqual(page.done == 0, now == 0)
+            self.assertEqual((page.unchanged, page.saved is None), (saved == now, saved is None))
 
 
 class Refusals(Case):
@@ -349,8 +386,9 @@ class Loading(unittest.TestCase):
         """A struct that is too small would be written past its end. These are the sizes that C gives them on x86-64."""
         sizes = {
             qalithonda._Numbers: 16,
-            qalithonda._Page: 40,
-            qalithonda._Edited: 56,
+            qalithonda._Page: 48,
+            qalithonda._Edited: 64,
+            qalithonda._Asked: 24,
             qalithonda._Utf7Cursor: 32,
             qalithonda._Utf7Stepped: 72,
             qalithonda._Jp2Cursor: 24,

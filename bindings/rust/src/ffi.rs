@@ -33,12 +33,22 @@ pub struct Page {
     pub length: usize,
     pub used: usize,
     pub done: usize,
+    pub saved: usize,
 }
+
+/// The `saved` of a page that has no mark.
+pub const NEVER_SAVED: usize = usize::MAX;
 
 #[repr(C)]
 pub struct Edited {
     pub answer: Numbers,
     pub page: Page,
+}
+
+#[repr(C)]
+pub struct Asked {
+    pub answer: Numbers,
+    pub unchanged: u32,
 }
 
 #[derive(Clone, Copy, Debug)]
@@ -180,7 +190,14 @@ extern "C" {
         arrived_len: usize,
         out: *mut u8,
         out_len: usize,
-    ) -> Numbers;
+    ) -> Edited;
+    pub fn qalithonda_unchanged(
+        page: Page,
+        text: *const u32,
+        text_len: usize,
+        history: *const u32,
+        history_len: usize,
+    ) -> Asked;
 }
 
 #[cfg(test)]
@@ -192,8 +209,9 @@ mod tests {
     #[test]
     fn structs_have_their_sizes_in_c() {
         assert_eq!(size_of::<Numbers>(), 16);
-        assert_eq!(size_of::<Page>(), 40);
-        assert_eq!(size_of::<Edited>(), 56);
+        assert_eq!(size_of::<Page>(), 48);
+        assert_eq!(size_of::<Edited>(), 64);
+        assert_eq!(size_of::<Asked>(), 24);
         assert_eq!(size_of::<Utf7Cursor>(), 32);
         assert_eq!(size_of::<Utf7Stepped>(), 72);
         assert_eq!(size_of::<Jp2Cursor>(), 24);

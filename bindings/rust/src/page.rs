@@ -21,7 +21,9 @@ pub enum Kind {
 /// let mut page = Page::open(Kind::Utf7Body, b"A+ImIDkQ.", 100, 100)?;
 /// page.replace(1, 1, &[0x3D])?;
 /// assert_eq!(page.text(), [0x41, 0x3D, 0x391, 0x2E]);
+/// assert!(!page.is_unchanged());
 /// assert_eq!(page.save_to_vec()?, b"A=+A5E-.");
+/// assert!(page.is_unchanged());
 /// page.undo()?;
 /// assert_eq!(page.save_to_vec()?, b"A+ImIDkQ.");
 /// assert_eq!(page.undo().unwrap_err().refusal, Refusal::NothingLeft);
@@ -68,7 +70,7 @@ impl Page {
     }
 
     /// Puts `cells` in the place of the `count` cells from `place` on, and gives the new length. Steps that could be
-    /// redone are dropped.
+    /// redone are dropped, and the mark with them if it is among them.
     ///
     /// Refused with [`OverLimit`], [`BeyondLength`], [`Unwritable`] (an index in `cells`), [`NoRoom`] (the new length)
     /// or [`HistoryFull`].
@@ -121,32 +123,61 @@ impl Page {
     }
 
     /// Fills the first elements of `out` with the letter's bytes, and gives their count: the bytes that arrived if no
-    /// step stands, otherwise the text written in the page's kind.
+    /// step stands, otherwise the text written in the page's kind. The page counts as saved from then on
+    /// ([`is_unchanged`](Page::is_unchanged)); bytes that are still to be written to a file, which may fail, are better
+    /// saved by [`save_with`](Page::save_with).
     ///
-    /// Refused with [`NoRoom`], which leaves `out` as it was.
+    /// Refused with [`NoRoom`], which leaves `out` and the page as they were.
     ///
     /// [`NoRoom`]: crate::Refusal::NoRoom
-    pub fn save(&self, out: &mut [u8]) -> Result<usize, Refused> {
-        // SAFETY: each pointer comes with the length of its slice or vector.
-        let numbers = unsafe {
-            ffi::qalithonda_save(
-                self.numbers,
-                self.text.as_ptr(),
-                self.text.len(),
-                self.history.as_ptr(),
-                self.history.len(),
-                self.arrived.as_ptr(),
-                self.arrived.len(),
-                out.as_mut_ptr(),
-                out.len(),
-            )
-        };
-        numbers.answer()
+    pub fn save(&mut self, out: &mut [u8]) -> Result<usize, Refused> {
+        let edited = self.saved_in(out);
+        self.keep(edited)
     }
 
     /// The letter's bytes, as [`save`](Page::save) gives them, in a vector of exactly their number.
-    pub fn save_to_vec(&self) -> Result<Vec<u8>, Refused> {
-        room::filled(|out| self.save(out))
+    pub fn save_to_vec(&mut self) -> Result<Vec<u8>, Refused> {
+        self.save_with(Ok)
+    }
+
+    /// Gives the letter's bytes to `put`, which writes them to where they belong, and gives what it gives. Only if that
+    /// is `Ok` the page counts as saved; otherwise it stays as it was, and so does what was saved before.
+    ///
+    /// ```
+    /// use qalithonda::{Kind, Page};
+    /// use std::{error::Error, fs};
+    ///
+    /// let mut page = Page::open(Kind::Utf7Body, b"A+ImIDkQ.", 100, 100)?;
+    /// page.replace(1, 1, &[0x3D])?;
+    /// let save = |page: &mut Page, file| page.save_with(|bytes| Ok::<_, Box<dyn Error>>(fs::write(file, bytes)?));
+    /// assert!(save(&mut page, "/nowhere/letter").is_err());
+    /// assert!(!page.is_unchanged());
+    /// save(&mut page, "/dev/null")?;
+    /// assert!(page.is_unchanged());
+    /// # Ok::<(), Box<dyn Error>>(())
+    /// ```
+    pub fn save_with<T, E: From<Refused>>(&mut self, put: impl FnOnce(Vec<u8>) -> Result<T, E>) -> Result<T, E> {
+        let mut saved = self.numbers;
+        let bytes = room::filled(|out| {
+            let edited = self.saved_in(out);
+            saved = edited.page;
+            edited.answer.answer()
+        })?;
+        let given = put(bytes)?;
+        self.numbers = saved;
+        Ok(given)
+    }
+
+    /// Whether it is as it was saved last, or opened if it was not saved since. Steps that were undone and done again
+    /// make no difference; the same cells put by another step do. Good to ask before a page is dropped.
+    pub fn is_unchanged(&self) -> bool {
+        let (text, history) = (&self.text, &self.history);
+        // SAFETY: each pointer comes with the length of its vector.
+        let asked = unsafe {
+            ffi::qalithonda_unchanged(self.numbers, text.as_ptr(), text.len(), history.as_ptr(), history.len())
+        };
+        debug_assert_eq!(asked.answer.answer(), Ok(0), "a page is sound");
+        asked.unchanged == 1
     }
 
     /// What it is read and written as.
@@ -188,6 +219,30 @@ impl Page {
     /// How many words of history hold steps that stand. There is one to undo if this is not 0.
     pub fn done(&self) -> usize {
         self.numbers.done
+    }
+
+    /// The mark: [`done`](Page::done) when it was saved last, or 0 if it was only opened; none if a replacement dropped
+    /// the steps that led there. It [is unchanged](Page::is_unchanged) if this is what is done.
+    pub fn saved(&self) -> Option<usize> {
+        (self.numbers.saved != ffi::NEVER_SAVED).then_some(self.numbers.saved)
+    }
+
+    /// The letter's bytes, and the page with its mark set, which is not kept yet.
+    fn saved_in(&self, out: &mut [u8]) -> ffi::Edited {
+        // SAFETY: each pointer comes with the length of its slice or vector.
+        unsafe {
+            ffi::qalithonda_save(
+                self.numbers,
+                self.text.as_ptr(),
+                self.text.len(),
+                self.history.as_ptr(),
+                self.history.len(),
+                self.arrived.as_ptr(),
+                self.arrived.len(),
+                out.as_mut_ptr(),
+                out.len(),
+            )
+        }
     }
 
     /// A refused call gives the page back as it was.

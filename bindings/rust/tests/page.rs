@@ -19,20 +19,51 @@ fn the_worked_page() {
     assert_eq!((page.kind(), page.arrived()), (Kind::Utf7Body, P2));
     assert_eq!((page.text(), page.history()), (&[0x41, 0x2262, 0x391, 0x2E][..], &[][..]));
     assert_eq!(numbers(&page), [4, 4, 0, 0]);
+    assert_eq!((page.saved(), page.is_unchanged()), (Some(0), true));
 
     assert_eq!(page.replace(1, 1, &[0x3D]), Ok(4));
     assert_eq!((page.text(), page.history()), (&[0x41, 0x3D, 0x391, 0x2E][..], &[1, 1, 1, 0x2262, 0x3D][..]));
     assert_eq!(numbers(&page), [4, 4, 5, 5]);
+    assert_eq!((page.saved(), page.is_unchanged()), (Some(0), false));
     assert_eq!(page.save_to_vec(), Ok(b"A=+A5E-.".to_vec()));
+    assert_eq!((page.saved(), page.is_unchanged()), (Some(5), true));
 
     assert_eq!(page.undo(), Ok(4));
     assert_eq!(numbers(&page), [4, 4, 5, 0]);
+    assert_eq!((page.saved(), page.is_unchanged()), (Some(5), false));
     assert_eq!(page.save_to_vec(), Ok(P2.to_vec()));
+    assert_eq!((page.saved(), page.is_unchanged()), (Some(0), true));
     assert_eq!(page.undo(), refused(Refusal::NothingLeft, 0));
 
     assert_eq!(page.redo(), Ok(4));
     assert_eq!(page.text(), [0x41, 0x3D, 0x391, 0x2E]);
     assert_eq!(page.redo(), refused(Refusal::NothingLeft, 0));
+}
+
+#[test]
+fn a_replacement_drops_a_mark_that_could_be_redone() {
+    let mut page = Page::open(Kind::Utf7Body, P2, 5, 9).unwrap();
+    page.replace(1, 1, &[0x3D]).unwrap();
+    page.save_to_vec().unwrap();
+    page.undo().unwrap();
+    page.redo().unwrap();
+    assert!(page.is_unchanged());
+    page.undo().unwrap();
+    page.replace(1, 1, &[0x3D]).unwrap();
+    assert_eq!((page.saved(), page.is_unchanged()), (None, false));
+    page.save_to_vec().unwrap();
+    assert_eq!((page.saved(), page.is_unchanged()), (Some(5), true));
+}
+
+#[test]
+fn bytes_that_were_not_put_do_not_count_as_saved() {
+    let mut page = Page::open(Kind::Utf7Body, P2, 5, 9).unwrap();
+    page.replace(1, 1, &[0x3D]).unwrap();
+    assert_eq!(page.save_with(|_| refused::<()>(Refusal::NoRoom, 1)), refused(Refusal::NoRoom, 1));
+    assert_eq!((page.saved(), page.is_unchanged()), (Some(0), false));
+    let mut put = Vec::new();
+    assert_eq!(page.save_with(|bytes| Ok::<_, Refused>(put.extend(bytes))), Ok(()));
+    assert_eq!((page.saved(), page.is_unchanged(), put), (Some(5), true, b"A=+A5E-.".to_vec()));
 }
 
 #[test]
@@ -88,7 +119,11 @@ fn replace_is_refused_and_changes_nothing() {
 
 #[test]
 fn save_fills_a_slice_as_far_as_the_count() {
-    let page = Page::open(Kind::Utf7Body, P2, 5, 9).unwrap();
+    let mut page = Page::open(Kind::Utf7Body, P2, 5, 20).unwrap();
+    page.replace(0, 0, &[]).unwrap();
+    assert_eq!(page.save(&mut []), refused(Refusal::NoRoom, 10));
+    assert_eq!(page.saved(), Some(0));
+    page.undo().unwrap();
     let mut out = [7; 11];
     assert_eq!(page.save(&mut out[..8]), refused(Refusal::NoRoom, 9));
     assert_eq!(out, [7; 11]);
@@ -123,43 +158,44 @@ fn below(seed: &mut u64, bound: usize) -> usize {
     (*seed % bound as u64) as usize
 }
 
-/// Every text so far is kept, and undo and redo go to and fro between them.
+/// Every text so far is kept, undo and redo go to and fro between them, and one of them may be the saved one.
 fn follow(kind: Kind, cells: &[u32], seed: &mut u64) {
     let mut page = Page::open(kind, P2, 12, 60).unwrap();
+    let read = if kind == Kind::Jp2 { jp2::read_to_vec } else { utf7::read_to_vec };
     let mut texts = vec![page.text().to_vec()];
-    let mut now = 0;
+    let (mut now, mut saved) = (0, Some(0));
     for _ in 0..200 {
-        let call = below(seed, 4);
-        let answer = match call {
-            0 => page.undo(),
-            1 => page.redo(),
+        match below(seed, 6) {
+            0 => {
+                assert_eq!(page.undo().is_ok(), now > 0);
+                now -= usize::from(now > 0);
+            }
+            1 => {
+                let more = now + 1 < texts.len();
+                assert_eq!(page.redo().is_ok(), more);
+                now += usize::from(more);
+            }
+            2 => {
+                assert_eq!(read(&page.save_to_vec().unwrap()).unwrap(), texts[now]);
+                saved = Some(now);
+            }
             _ => {
                 let (place, count) = (below(seed, 14), below(seed, 4));
                 let added: Vec<u32> = (0..below(seed, 4)).map(|_| cells[below(seed, cells.len())]).collect();
-                let mut text = texts[now].clone();
-                let answer = page.replace(place, count, &added);
-                if answer.is_ok() {
+                if page.replace(place, count, &added).is_ok() {
+                    let mut text = texts[now].clone();
                     text.splice(place..place + count, added);
                     texts.truncate(now + 1);
                     texts.push(text);
+                    saved = saved.filter(|saved| *saved <= now);
+                    now += 1;
                 }
-                answer
             }
-        };
-        match call {
-            0 => assert_eq!(answer.is_ok(), now > 0),
-            1 => assert_eq!(answer.is_ok(), now + 1 < texts.len()),
-            _ => {}
-        }
-        match (answer, call) {
-            (Err(_), _) => {}
-            (Ok(_), 0) => now -= 1,
-            (Ok(_), _) => now += 1,
         }
         assert_eq!(page.text(), texts[now]);
-        let read = if kind == Kind::Jp2 { jp2::read_to_vec } else { utf7::read_to_vec };
-        assert_eq!(read(&page.save_to_vec().unwrap()).unwrap(), texts[now]);
         assert_eq!(now == 0, page.done() == 0);
+        assert_eq!((page.is_unchanged(), page.saved().is_some()), (saved == Some(now), saved.is_some()));
+        assert_eq!(read(&page.clone().save_to_vec().unwrap()).unwrap(), texts[now]);
     }
 }
 
