@@ -124,50 +124,64 @@ fn worked() -> [Course; 2] {
     ]
 }
 
-/// A body page on "abc": X is put before it, then its a is removed. Undo and redo lead away from the mark and back to it,
-/// a refused call leaves it, and only the replace that drops the step it stands behind drops it too.
+/// A body page on "abc" that is saved and goes on.
 fn marks() -> Course {
-    let (first, second, third) = ([0, 0, 1, 0x58], [1, 1, 0, 0x61], [4, 0, 0]);
-    let on = |used, done, saved, text: &[u8], records: &[&[u32]]| {
-        let mut cells: Vec<u32> = text.iter().map(|&byte| byte.into()).collect();
-        let mut history = records.concat();
-        cells.resize(4, 0);
-        history.resize(9, 0);
-        body([3, text.len(), used, done], saved, &cells, &history)
-    };
-    let both: &[&[u32]] = &[&first, &second];
-    let opened = on(0, 0, Some(0), b"abc", &[]);
-    let with_x = |saved| on(4, 4, Some(saved), b"Xabc", &[&first]);
-    let all_done = |saved| on(8, 8, Some(saved), b"Xbc", both);
-    let one_undone = |saved| on(8, 4, Some(saved), b"Xabc", both);
-    let all_undone = on(8, 0, Some(4), b"abc", both);
-    let dropped = |done, saved, text| on(7, done, saved, text, &[&first, &third]);
-    Course {
-        name: "the body page on \"abc\"",
-        start: blank(4, 9),
-        turns: vec![
-            same(Call::Open { kind: Kind::Utf7Body, arrived: b"abc".to_vec() }, leaves(0, 3, &opened, b"")),
-            other(replace(0, 0, &[0x58]), leaves(0, 4, &with_x(0), b"")),
-            same(save(b"", 4), leaves(0, 4, &with_x(4), b"Xabc")),
-            other(replace(1, 1, &[]), leaves(0, 3, &all_done(4), b"")),
-            same(Call::Undo, leaves(0, 4, &one_undone(4), b"")),
-            other(Call::Undo, leaves(0, 3, &all_undone, b"")),
-            other(save(b"ab", 0), leaves(15, 0, &all_undone, b"")),
-            other(save(b"abc", 0), leaves(9, 3, &all_undone, b"")),
-            same(Call::Redo, leaves(0, 4, &one_undone(4), b"")),
-            other(Call::Redo, leaves(0, 3, &all_done(4), b"")),
-            same(save(b"abc", 3), leaves(0, 3, &all_done(8), b"Xbc")),
-            other(Call::Undo, leaves(0, 4, &one_undone(8), b"")),
-            other(replace(0, 0, &[65_536]), leaves(10, 0, &one_undone(8), b"")),
-            other(replace(0, 4, &[0x61; 4]), leaves(12, 15, &one_undone(8), b"")),
-            other(replace(4, 0, &[]), leaves(0, 4, &dropped(7, None, b"Xabc"), b"")),
-            other(Call::Undo, leaves(0, 4, &dropped(4, None, b"Xabc"), b"")),
-            other(Call::Undo, leaves(0, 3, &dropped(0, None, b"abc"), b"")),
-            same(save(b"abc", 3), leaves(0, 3, &dropped(0, Some(0), b"abc"), b"abc")),
-            other(Call::Redo, leaves(0, 4, &dropped(4, Some(0), b"Xabc"), b"")),
-            same(save(b"abc", 4), leaves(0, 4, &dropped(4, Some(4), b"Xabc"), b"Xabc")),
-        ],
-    }
+    let turns = kept_marks().into_iter().chain(dropped_mark()).collect();
+    Course { name: "the body page on \"abc\"", start: blank(4, 9), turns }
+}
+
+/// That page with these words used and done, this mark and text, and these records.
+fn on_abc(used: usize, done: usize, saved: Option<usize>, text: &[u8], records: &[&[u32]]) -> State {
+    let mut cells: Vec<u32> = text.iter().map(|&byte| byte.into()).collect();
+    let mut history = records.concat();
+    cells.resize(4, 0);
+    history.resize(9, 0);
+    body([3, text.len(), used, done], saved, &cells, &history)
+}
+
+/// X is put before the text, then its a is removed.
+const BOTH: &[&[u32]] = &[&[0, 0, 1, 0x58], &[1, 1, 0, 0x61]];
+
+/// Both steps recorded, and one of them undone.
+fn one_undone(saved: usize) -> State {
+    on_abc(8, 4, Some(saved), b"Xabc", BOTH)
+}
+
+/// Undo and redo lead away from the mark and back to it, and a refused save leaves it.
+fn kept_marks() -> Vec<Turn> {
+    let opened = on_abc(0, 0, Some(0), b"abc", &[]);
+    let with_x = |saved| on_abc(4, 4, Some(saved), b"Xabc", &BOTH[..1]);
+    let all_done = |saved| on_abc(8, 8, Some(saved), b"Xbc", BOTH);
+    let all_undone = on_abc(8, 0, Some(4), b"abc", BOTH);
+    vec![
+        same(Call::Open { kind: Kind::Utf7Body, arrived: b"abc".to_vec() }, leaves(0, 3, &opened, b"")),
+        other(replace(0, 0, &[0x58]), leaves(0, 4, &with_x(0), b"")),
+        same(save(b"", 4), leaves(0, 4, &with_x(4), b"Xabc")),
+        other(replace(1, 1, &[]), leaves(0, 3, &all_done(4), b"")),
+        same(Call::Undo, leaves(0, 4, &one_undone(4), b"")),
+        other(Call::Undo, leaves(0, 3, &all_undone, b"")),
+        other(save(b"ab", 0), leaves(15, 0, &all_undone, b"")),
+        other(save(b"abc", 0), leaves(9, 3, &all_undone, b"")),
+        same(Call::Redo, leaves(0, 4, &one_undone(4), b"")),
+        other(Call::Redo, leaves(0, 3, &all_done(4), b"")),
+        same(save(b"abc", 3), leaves(0, 3, &all_done(8), b"Xbc")),
+        other(Call::Undo, leaves(0, 4, &one_undone(8), b"")),
+    ]
+}
+
+/// A refused replace leaves the mark that stands behind an undone step; an accepted one drops it with the step.
+fn dropped_mark() -> Vec<Turn> {
+    let dropped = |done, saved, text: &[u8]| on_abc(7, done, saved, text, &[BOTH[0], &[4, 0, 0]]);
+    vec![
+        other(replace(0, 0, &[65_536]), leaves(10, 0, &one_undone(8), b"")),
+        other(replace(0, 4, &[0x61; 4]), leaves(12, 15, &one_undone(8), b"")),
+        other(replace(4, 0, &[]), leaves(0, 4, &dropped(7, None, b"Xabc"), b"")),
+        other(Call::Undo, leaves(0, 4, &dropped(4, None, b"Xabc"), b"")),
+        other(Call::Undo, leaves(0, 3, &dropped(0, None, b"abc"), b"")),
+        same(save(b"abc", 3), leaves(0, 3, &dropped(0, Some(0), b"abc"), b"abc")),
+        other(Call::Redo, leaves(0, 4, &dropped(4, Some(0), b"Xabc"), b"")),
+        same(save(b"abc", 4), leaves(0, 4, &dropped(4, Some(4), b"Xabc"), b"Xabc")),
+    ]
 }
 
 /// A sound page: the step of document 01 stands and was saved, and one that puts 0042 0043 in the place of 0041 at 0 is
@@ -245,6 +259,11 @@ pub fn questions() -> Vec<Question> {
     let not_sound = NOT_SOUND.iter().map(|&(name, changes)| question(name, with(changes), 14, 0, false));
     let on_sound = |name, changes: &[Change], unchanged| question(name, with(changes), 0, 0, unchanged);
     let too_long = |cells, words| body([0; 4], Some(0), &vec![7; cells], &vec![7; words]);
+    let no_kind = |cells, words| {
+        let mut state = too_long(cells, words);
+        state.page.kind = 3;
+        state
+    };
     let all_done = [Change::Done(11), Change::Length(5)];
     let nothing_used = |saved| body([1, 1, 0, 0], saved, &[0x61], &[]);
     let others = [
@@ -263,6 +282,8 @@ pub fn questions() -> Vec<Question> {
         question("a text buffer over the limit", too_long(65_537, 0), 16, 65_536, false),
         question("a history over the limit", too_long(0, 65_537), 16, 65_536, false),
         question("buffers at the limit, and not sound", too_long(65_536, 65_536), 14, 0, false),
+        question("a number of no kind and a history over the limit", no_kind(0, 65_537), 16, 65_536, false),
+        question("a number of no kind and buffers at the limit", no_kind(65_536, 65_536), 14, 0, false),
     ];
     not_sound.chain(others).collect()
 }
