@@ -27,12 +27,12 @@ use Rattle.ledger.specs.Demand.{Promised}
 use Rattle.ledger.proofs.Words.{length-words}
 use Rattle.ledger.proofs.Marks.{mark-parts}
 use Rattle.ledger.proofs.Lying.{Lies, page-lays}
-use Rattle.ledger.proofs.Opens.{begun}
+use Rattle.ledger.proofs.Opens.{begun, open-refused}
 use Rattle.ledger.proofs.Demand.{refused-same}
 use Rattle.host_pages.specs.Pages.{kindOf, kindNumber, never, markIn, markNumber, pageIn, hostPage}
 use Rattle.host_pages.specs.Pages.{HostOutcome, hosted, onPage, inReply, askedOn}
 use Rattle.host_pages.specs.Runs.{HostState, hostState, leftBy, hostTaken, hostOutcome, hostAfter, hostHeard}
-use Rattle.host_pages.specs.Runs.{HostPromised, HostDemand3, hostRefusing, HostRefusedSame}
+use Rattle.host_pages.specs.Runs.{HostPromised, HostDemand3, hostRefusing, HostRefusedSame, HostOpenRefused}
 use Rattle.host_pages.proofs.OnPages.{page-back}
 
 -- a kind has a number of its own, 0, 1 or 2
@@ -157,3 +157,11 @@ host-refused-same h (replace place count cells) = stays-on h cells (replace plac
 host-refused-same h undo = stays-on h [] undo
 host-refused-same h redo = stays-on h [] redo
 host-refused-same h (save arrived out) = stays-on h arrived (save arrived out)
+
+pub host-open-refused : HostOpenRefused
+unfolding markNumber
+host-open-refused kind arrived text history t =
+    let u = open-refused kind arrived text history t in
+    λ i.
+    hosted
+    (record { verdict = openOf kind arrived text history .verdict; state = u .state i; output = u .output i })

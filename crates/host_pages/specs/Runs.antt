@@ -12,7 +12,7 @@ use Rattle.ledger.specs.Calls.{openOf, replaceOf, undoOf, redoOf, saveOf}
 use Rattle.ledger.specs.Words.{inWords}
 use Rattle.ledger.specs.Ledger.{Ledger, Call, replace, undo, redo, save, opened, fed, unchangedBy}
 use Rattle.ledger.specs.Demand.{Promised}
-use Rattle.host_pages.specs.Pages.{markIn, hostPage, HostOutcome, hosted, onPage, askedOn}
+use Rattle.host_pages.specs.Pages.{kindNumber, never, markIn, hostPage, HostOutcome, hosted, onPage, askedOn}
 use Rattle.host_pages.specs.declared.HostPage.{HostPage}
 
 -- the page that a host has in hand, and its buffers
@@ -77,3 +77,14 @@ abbrev pub HostRefusedSame : Type 0
 HostRefusedSame =
     (h : HostState) (c : Call) → hostTaken (hostOutcome h c) ≡ false →
     hostOutcome h c ≡ hostRefusing h (outputOf c) (hostOutcome h c .verdict)
+
+-- "a refused open gives the kind with four zeros", and no mark
+abbrev pub hostNoPage : Kind → HostPage
+hostNoPage kind = record { kind = kindNumber kind; opening = 0; length = 0; used = 0; done = 0; saved = never }
+
+abbrev pub HostOpenRefused : Type 0
+HostOpenRefused =
+    (kind : Kind) (arrived text history : List ℕ) → hostTaken (hosted (openOf kind arrived text history)) ≡ false →
+    hosted (openOf kind arrived text history)
+    ≡ hostRefusing (record { page = hostNoPage kind; text = text; history = history }) []
+    (openOf kind arrived text history .verdict)
