@@ -33,8 +33,8 @@ fn refused(kind: Kind) -> impl Iterator<Item = List> {
     .into_iter()
 }
 
-/// A page as long as can be, with calls that it just takes and calls that it just does not. One of its saves is marked at
-/// the most words that can be done, and a replace drops that mark.
+/// A page as long as can be, with calls that it just takes and calls that it just does not. One of its saves marks the
+/// most words that can be done, and a replace drops that mark.
 pub fn full(kind: Kind) -> List {
     let arrived = vec![BYTE; LIMIT];
     let replace = |place, count, added| Call::Replace { place, count, cells: vec![cell(kind); added] };

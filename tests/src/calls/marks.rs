@@ -1,5 +1,5 @@
-//! Pages with the mark at every number that it might have: at each word of the history, just past it, far beyond it, and
-//! none.
+//! Pages with the mark at every number that it might have: at each word of the history, just past it, far beyond it,
+//! and none.
 
 use super::draft::Draft;
 use super::{made, seeded, Change, List};
@@ -62,7 +62,7 @@ mod tests {
                 let (state, saved, number) = asked(&list);
                 let unmarked = State { page: Page { saved: None, ..state.page }, ..state.clone() };
                 let Some(sound) = sound(&unmarked) else { continue };
-                // Walks the words by hand.
+                // Where the records end, by the counts in the words alone.
                 let mut ends = vec![0];
                 while ends[ends.len() - 1] < state.page.used {
                     let at = ends[ends.len() - 1];

@@ -164,7 +164,7 @@ mod tests {
         }
     }
 
-    /// The pages after each call of a list, from the second on.
+    /// The page after each call of a list.
     fn pages_of(list: &List) -> Vec<Page> {
         let mut state = list.start.clone();
         let mut pages = Vec::new();
