@@ -11,8 +11,8 @@ pub struct Step {
     pub cells: Vec<u32>,
 }
 
-/// "It holds the reading of those bytes and two lists of steps, standing and undone." Order 5: the mark is "the one that
-/// the same ledger now keeps by these rules".
+/// "It holds the reading of those bytes and two lists of steps, standing and undone." Order 5: the mark is "the one
+/// that the same ledger now keeps by these rules".
 #[derive(Clone, Debug, PartialEq, Eq)]
 pub struct Ledger {
     kind: Kind,

@@ -69,8 +69,8 @@ impl Opened {
         Ok(())
     }
 
-    /// "after the list the page's mark equals the one that the same ledger now keeps by these rules"; and the question is
-    /// answered by it.
+    /// "after the list the page's mark equals the one that the same ledger now keeps by these rules"; and the question
+    /// is answered by it.
     fn mark_is_kept(&self, state: &State, program: &Program) -> Result<(), String> {
         if state.page.saved != self.ledger.saved {
             return Err(format!("the page has {}, and the mark of the ledger is {:?}", state.page, self.ledger.saved));
@@ -184,7 +184,7 @@ mod tests {
         holds_of_program(&Program { make: &make, ask: &|state| Ok(page::ask(state)) })
     }
 
-    /// Whether it holds of one that makes the calls as the second program does, and finds a page unchanged by this rule.
+    /// Whether it holds of one that makes the calls as the second program does, and answers the question by this rule.
     fn holds_of_answer(is_unchanged: impl Fn(&Page) -> bool) -> bool {
         let ask = |state: &State| Ok(Asked { unchanged: is_unchanged(&state.page), ..page::ask(state) });
         holds_of_program(&Program { make: &|state, call| Ok(second(state, call)), ask: &ask })

@@ -107,7 +107,7 @@ fn built(state: &State, call: &Call) -> Result<Left, String> {
     Ok(Left { answer, state: State { page, text, history }, output })
 }
 
-/// What the library answers to the question, lent this state; or what it did to the memory, all of which it is to leave.
+/// What the library answers to the question, lent this state; or what it did to the memory, which it is to leave.
 fn built_asked(state: &State) -> Result<Asked, String> {
     let (mut text, mut history) = (Lent::new(&state.text), Lent::new(&state.history));
     let (answer, unchanged) = library::ask(state.page, text.contents(), history.contents());
