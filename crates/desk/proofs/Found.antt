@@ -1,7 +1,7 @@
 -- A replace's numbers: a reading has no more cells than bytes, so those of a line fit; and what they ask for. Assumes nothing.
 use Prim.Native.Nat.{ℕ, suc, _+_, _-_, _<_, _≤_}
 use mathlib.Core.Path.{_≡_, refl, ap, _∙_}
-use mathlib.Core.Bool.{true, false}
+use mathlib.Core.Bool.{Bool, true, false}
 use mathlib.Core.List.{List, [], _∷_}
 use mathlib.Core.Option.{Option, none}
 use native.Mathlib.Omega.{arith}
@@ -17,6 +17,7 @@ use Rattle.answer.proofs.Once.{number-pos}
 use Rattle.reading.specs.Reading.{Ending, accepted, fault, onEnding, reading, readInto}
 use Rattle.reading.proofs.Laws.{SoundEnd, good-reading}
 use Rattle.reading.proofs.Filling.{few-cells}
+use Rattle.codec.specs.Kinds.{bytesPerCell, bytesAtEnd, mostBytes}
 use Rattle.ledger.specs.Page.{State}
 use Rattle.ledger.specs.Calls.{replaceOf}
 use Rattle.ledger.specs.Ledger.{Call}
@@ -26,7 +27,7 @@ use Rattle.commands.proofs.Words.{stretch-most, end-within}
 use Rattle.commands.proofs.Kept.{numbers-kept}
 use Rattle.commands.specs.declared.Said.{Said}
 use Rattle.commands.specs.declared.Verb.the-variants.{Replace}
-use Rattle.desk.specs.Desk.{replacing, asked, leaving, quits, callIn, afterCall}
+use Rattle.desk.specs.Desk.{replacing, room, saving, asked, afterCall, Desk, begun, afterCommand, afterLine}
 
 -- the page after one call is that after the same call
 pub same-call : (s : State) {a b : Option Call} → a ≡ b → afterCall a s ≡ afterCall b s
@@ -73,9 +74,9 @@ module _ (out o : List ℕ) where
 as-many : (n : ℕ) → limit ≤ n → limit ≤ length {A = ℕ} (replicate n 0)
 as-many n h = omega (arith, length-replicate {A = ℕ} n 0)
 
-pub room : limit ≤ length {A = ℕ} (replicate 65536 0)
+pub wide-room : limit ≤ length {A = ℕ} (replicate 65536 0)
 unfolding limit
-room = as-many 65536 (omega arith)
+wide-room = as-many 65536 (omega arith)
 
 -- a line's numbers, read into an output with room for as many as a line has bytes
 module _ (words out o : List ℕ) (short : length words ≤ limit) (wide : limit ≤ length out) where
@@ -88,7 +89,7 @@ module _ (words out o : List ℕ) (short : length words ≤ limit) (wide : limit
 
   module _ {a : Answer} (q : leaves a o ≡ readInto numbers words out) where
     module _ {m n : ℕ} (e : a ≡ Accepted m) (k : n ≡ inNumbers a .place) where
-      known : (n ≡ length (reading numbers words .cells)) × (replacing accepted (take n o) ≡ asked Replace words)
+      known : (n ≡ length (reading numbers words .cells)) × (replacing accepted (take n o) ≡ asked none Replace words)
       known =
           let s : n ≡ m = k ∙ ap (λ (x : Answer). inNumbers x .place) e in
           rw s (accepted-by out o (reading numbers words .ending) (reading numbers words .cells) m (good-reading numbers-kept words .1) fits (rw e at (by _ q)))
@@ -96,12 +97,26 @@ module _ (words out o : List ℕ) (short : length words ≤ limit) (wide : limit
       pub found-few : n ≤ limit
       found-few = omega (arith, known .0, few-cells numbers words)
 
-      pub found-all : replacing accepted (take n o) ≡ asked Replace words
+      pub found-all : replacing accepted (take n o) ≡ asked none Replace words
       found-all = known .1
 
-    pub found-none : {why : Refusal} {place : ℕ} → a ≡ Refused why place → asked Replace words ≡ none
+    pub found-none : {why : Refusal} {place : ℕ} → a ≡ Refused why place → asked none Replace words ≡ none
     found-none {why} {place} e =
         refused-by out o (reading numbers words .ending) (reading numbers words .cells) why place fits (rw e at (by _ q))
+
+-- the output that a save is lent
+pub most : 393219 ≡ mostBytes
+unfolding mostBytes bytesPerCell bytesAtEnd limit
+most = refl
+
+pub zeros-room : (n : ℕ) → n ≡ mostBytes → replicate n 0 ≡ room
+unfolding room
+zeros-room n e = ap (λ (k : ℕ). replicate k 0) e
+
+pub in-room :
+    (s : State) (letter : List ℕ) (put : Bool) {d : Desk} {out : List ℕ} → out ≡ room →
+    d ≡ begun (afterCall (saving letter out put) s) → d ≡ begun (afterCall (saving letter room put) s)
+in-room s letter put e saved = rw e at saved
 
 -- a part to the end
 pub to-end : (n : ℕ) (l : List ℕ) → take (length l - n) (drop n l) ≡ drop n l
@@ -115,14 +130,9 @@ rest-within line =
     let to : ℕ = from + stretch false (drop from line) in
     end-within true line to (end-within false line from (stretch-most true line))
 
-pub line-calls :
-    (line : List ℕ) {said : Said} → said ≡ saidIn line →
-    asked (said .verb) (take (length line - said .rest) (drop (said .rest) line)) ≡ callIn line
-unfolding callIn
-line-calls line e = rw (e, to-end (saidIn line .rest) line)
-
-pub line-quits :
-    (line : List ℕ) {said : Said} → said ≡ saidIn line →
-    leaving (said .verb) (take (length line - said .rest) (drop (said .rest) line)) ≡ quits line
-unfolding quits
-line-quits line e = rw (e, to-end (saidIn line .rest) line)
+pub line-done :
+    (letter line : List ℕ) (put : Bool) (d : Desk) {said : Said} → said ≡ saidIn line →
+    afterCommand (saving letter room put) d (said .verb) (take (length line - said .rest) (drop (said .rest) line))
+    ≡ afterLine letter d (record { line = line; put = put })
+unfolding afterLine
+line-done letter line put d e = rw (e, to-end (saidIn line .rest) line)

@@ -17,19 +17,28 @@ use Rattle.ledger.specs.declared.Page.{Page}
 use Rattle.ledger.specs.declared.Edited.{Edited}
 use Rattle.ledger.specs.Calls.{openOf}
 use Rattle.ledger.specs.Running.{taken}
-use Rattle.desk.specs.Desk.{Turn, obeys, waits, Turns, begun, then}
-use Rattle.desk.specs.Hands.{Took, passed, obeyed, closed, Worked, Served}
+use Rattle.desk.specs.Desk.{Desk, begun, afterLine, Turn, obeys, passes, waits, Turns, none-yet, then}
+use Rattle.desk.specs.Hands.{deskIn, sitting, Took, passed, obeyed, closed, Worked, Served}
 use Rattle.desk.specs.declared.lines.Hand.{Hand}
 
 -- a line that was taken is a turn, and so is a page that stays
-pub took-turn : {line : List ℕ} {s t : State} {left passing : Bool} → Took line s t left passing → Turn s t left
-took-turn (passed e l) = waits e l
-took-turn {line} (obeyed e l) = obeys line e l
+pub took-turn : {letter line : List ℕ} {d e : Desk} {passing : Bool} → Took letter line d e passing → Turn letter d e
+took-turn (passed q) = passes q
+took-turn {line = line} (obeyed put q) = obeys (record { line = line; put = put }) q
 
-pub page-waits :
-    {p q : Page} {text history : List ℕ} {left : Bool} → q ≡ p → left ≡ false →
-    Turn (stateOf p text history) (stateOf q text history) left
-page-waits {text = text} {history = history} e l = waits (ap (λ (x : Page). stateOf x text history) e) l
+pub hand-waits :
+    {letter : List ℕ} (h r : Hand) {text history : List ℕ} → r .page ≡ h .page → r .warned ≡ h .warned → r .left ≡ false →
+    Turn letter (sitting (h .page) (h .warned) text history) (deskIn r text history)
+hand-waits h r p w l = waits (rw (p, w, l))
+
+-- a turn does not ask whether the desk was left
+sat-turn :
+    {letter : List ℕ} (h : Hand) {text history : List ℕ} {e : Desk} →
+    Turn letter (sitting (h .page) (h .warned) text history) e → Turn letter (deskIn h text history) e
+unfolding afterLine
+sat-turn h (obeys c q) = obeys c q
+sat-turn h (passes q) = passes q
+sat-turn h (waits q) = waits q
 
 or-false : (a b : Bool) → (a || b) ≡ false → a ≡ false
 or-false true b e = e
@@ -40,50 +49,58 @@ or-true true = refl
 or-true false = refl
 
 -- the loop with some rounds left: so many turns were made, and none left the desk
-pub record Going (from to : State) (hand : Hand) (rounds : ℕ) : Type 0 where
+pub record Going (letter : List ℕ) (from : Desk) (hand : Hand) (text history : List ℕ) (rounds : ℕ) : Type 0 where
   pub turns : ℕ
-  pub led : Turns from turns to false
+  pub led : Turns letter from turns (deskIn hand text history)
   pub stays : hand .left ≡ false
   pub count : rounds + turns ≡ 18446744073709551615
 
-pub going-begun : (s : State) (hand : Hand) → hand .left ≡ false → Going s s hand 18446744073709551615
-going-begun s hand e = record { turns = 0; led = begun; stays = e; count = refl }
+pub going-begun :
+    {letter : List ℕ} (h : Hand) {text history : List ℕ} → h .left ≡ false →
+    Going letter (deskIn h text history) h text history 18446744073709551615
+going-begun h e = record { turns = 0; led = none-yet; stays = e; count = refl }
 
 module _
-    {from s t : State} {before hand : Hand} {rounds : ℕ} (g : Going from s before rounds) (turn : Turn s t (hand .left))
-  where
-    pub going-again : 0 < rounds → closed hand ≡ false → Going from t hand (rounds - 1)
-    going-again h e =
-        let stays : hand .left ≡ false = or-false (hand .left) _ e in
-        record {
-          turns = suc (g .turns);
-          led = rw stays at (then (g .led) turn);
-          stays = stays;
-          count = omega (arith, g .count);
-        }
+    {letter : List ℕ} {from : Desk} {before hand : Hand} {text history text' history' : List ℕ} {rounds : ℕ}
+    (g : Going letter from before text history rounds)
+    (turn : Turn letter (sitting (before .page) (before .warned) text history) (deskIn hand text' history')) where
+  pub going-again :
+      0 < rounds → closed hand ≡ false → Going letter from hand text' history' (rounds - 1)
+  going-again h e =
+      record {
+        turns = suc (g .turns);
+        led = then (g .led) (g .stays) (sat-turn before turn);
+        stays = or-false (hand .left) _ e;
+        count = omega (arith, g .count);
+      }
 
-    pub going-closed : closed hand ≡ true → Worked from t hand
-    going-closed e =
-        record {
-          turns = suc (g .turns);
-          led = then (g .led) turn;
-          until = ap (λ (b : Bool). b || eqb (suc (g .turns)) 18446744073709551615) e;
-        }
+  pub going-closed : closed hand ≡ true → Worked letter from (deskIn hand text' history') hand
+  going-closed e =
+      record {
+        turns = suc (g .turns);
+        led = then (g .led) (g .stays) (sat-turn before turn);
+        until = ap (λ (b : Bool). b || eqb (suc (g .turns)) 18446744073709551615) e;
+      }
 
 pub going-over :
-    {from to : State} {hand : Hand} {rounds : ℕ} → Going from to hand rounds → rounds ≤ 0 → Worked from to hand
+    {letter : List ℕ} {from : Desk} {hand : Hand} {text history : List ℕ} {rounds : ℕ} →
+    Going letter from hand text history rounds → rounds ≤ 0 → Worked letter from (deskIn hand text history) hand
 going-over {hand = hand} g h =
     record {
       turns = g .turns;
-      led = rw (g .stays) (g .led);
+      led = g .led;
       until =
           ap (λ (b : Bool). closed hand || b) (eq-eqb (g .turns) 18446744073709551615 (omega (arith, g .count)))
           ∙ or-true (closed hand);
     }
 
+-- nothing is in hand at first
+abbrev pub empty : Page → Hand
+empty p = record { page = p; from = 0; to = 0; passing = false; ended = false; warned = false; left = false }
+
 pub worked-from :
-    {p q : Page} {text history : List ℕ} {to : State} {hand : Hand} → q ≡ p →
-    Worked (stateOf q text history) to hand → Worked (stateOf p text history) to hand
+    {letter : List ℕ} {p : Page} {h : Hand} {text history : List ℕ} {to : Desk} {hand : Hand} → h ≡ empty p →
+    Worked letter (deskIn h text history) to hand → Worked letter (sitting p false text history) to hand
 worked-from e w = rw e at w
 
 -- what is done with the page of an open
@@ -97,8 +114,8 @@ module _
   answered a e = ap taken (sym o) ∙ ap (λ (x : Answer). eqb (inNumbers x .number) 0) e
 
   pub served-worked :
-      {to : State} {hand : Hand} (n : ℕ) → r .answer ≡ Accepted n → Worked (stateOf (r .page) text' history') to hand →
-      Served kind letter text history to hand
+      {to : Desk} {hand : Hand} (n : ℕ) → r .answer ≡ Accepted n →
+      Worked letter (sitting (r .page) false text' history') to hand → Served kind letter text history to hand
   served-worked n a w =
       record {
         refused = λ e. absurd (false≢true (sym e ∙ answered (Accepted n) a));
@@ -106,12 +123,12 @@ module _
       }
 
   pub served-idle :
-      {q : Page} {hand : Hand} (why : Refusal) (place : ℕ) → r .answer ≡ Refused why place → q ≡ r .page →
-      Served kind letter text history (stateOf q text' history') hand
+      {hand : Hand} (why : Refusal) (place : ℕ) → r .answer ≡ Refused why place → hand ≡ empty (r .page) →
+      Served kind letter text history (deskIn hand text' history') hand
   served-idle why place a e =
       let no : taken (openOf kind letter text history) ≡ false =
       answered (Refused why place) a ∙ ne-eqb (numberOf why) 0 (λ z. omega (arith, number-pos why)) in
       record {
-        refused = λ _. ap (λ (x : Page). stateOf x text' history') e ∙ sym state-left;
+        refused = λ _. ap (λ (x : Hand). deskIn x text' history') e ∙ ap begun (sym state-left);
         worked = λ y. absurd (false≢true (sym no ∙ y));
       }

@@ -8,13 +8,16 @@ use lib.ListN.{length, take, drop}
 use lib.Dec.{eqb}
 use Rattle.answer.specs.Answer.{limit}
 use Rattle.codec.specs.declared.Kind.{Kind}
-use Rattle.ledger.specs.Page.{State}
+use Rattle.ledger.specs.Page.{State, stateOf}
+use Rattle.ledger.specs.declared.Page.{Page}
 use Rattle.ledger.specs.Calls.{openOf}
-use Rattle.ledger.specs.Ledger.{opened}
+use Rattle.ledger.specs.Words.{inWords}
+use Rattle.ledger.specs.Ledger.{opened, unchangedBy}
 use Rattle.ledger.specs.Running.{taken, heard}
 use Rattle.ledger.specs.Demand.{Promised}
-use Rattle.desk.specs.Desk.{afterLine, callsIn, quits, Turns}
+use Rattle.desk.specs.Desk.{Desk, begun, Came, afterLine, callsIn, Turn, Turns}
 use Rattle.desk.specs.declared.lines.Hand.{Hand}
+use Rattle.desk.specs.declared.orders.Done.{Done}
 use Rattle.desk.specs.declared.files.Got.{Got}
 use Rattle.desk.specs.declared.files.Got.the-variants.{Bytes, Failed}
 
@@ -30,28 +33,59 @@ Within Failed at buf = Unit
 abbrev pub lineIn : List ℕ → ℕ → ℕ → List ℕ
 lineIn buf from end = take (end + 1 - from) (drop from buf)
 
+-- the desk with what is in hand, or with what a command has done
+abbrev pub deskIn : Hand → List ℕ → List ℕ → Desk
+deskIn h text history = record { state = stateOf (h .page) text history; warned = h .warned; left = h .left }
+
+abbrev pub deskAt : Done → List ℕ → List ℕ → Desk
+deskAt r text history = record { state = stateOf (r .page) text history; warned = r .warned; left = r .left }
+
+-- a page at which no line has left the desk
+abbrev pub sitting : Page → Bool → List ℕ → List ℕ → Desk
+sitting page warned text history = record { state = stateOf page text history; warned = warned; left = false }
+
 -- a line is obeyed, unless it is the rest of one that was too long
-pub data Took (line : List ℕ) (s t : State) (left : Bool) : Bool → Type 0 where
-  passed : t ≡ s → left ≡ false → Took line s t left true
-  obeyed : t ≡ afterLine s line → left ≡ quits line → Took line s t left false
+pub data Took (letter line : List ℕ) (d e : Desk) : Bool → Type 0 where
+  passed : e ≡ begun (d .state) → Took letter line d e true
+  obeyed : (put : Bool) → e ≡ afterLine letter d (record { line = line; put = put }) → Took letter line d e false
 
 -- a line left the desk, or the input has ended and nothing of it is in hand
 abbrev pub closed : Hand → Bool
 closed h = h .left || (h .ended && eqb (h .from) (h .to))
 
 -- the desk makes its turns until it is closed: nothing else ends it before 2 ^ 64 - 1 of them
-pub record Worked (from to : State) (hand : Hand) : Type 0 where
+pub record Worked (letter : List ℕ) (from to : Desk) (hand : Hand) : Type 0 where
   pub turns : ℕ
-  pub led : Turns from turns to (hand .left)
+  pub led : Turns letter from turns to
   pub until : (closed hand || eqb turns 18446744073709551615) ≡ true
 
 -- it works on the page of an accepted open, and does nothing to that of a refused one
-pub record Served (kind : Kind) (letter text history : List ℕ) (to : State) (hand : Hand) : Type 0 where
-  pub refused : taken (openOf kind letter text history) ≡ false → to ≡ openOf kind letter text history .state
-  pub worked : taken (openOf kind letter text history) ≡ true → Worked (openOf kind letter text history .state) to hand
+pub record Served (kind : Kind) (letter text history : List ℕ) (to : Desk) (hand : Hand) : Type 0 where
+  pub refused : taken (openOf kind letter text history) ≡ false → to ≡ begun (openOf kind letter text history .state)
+  pub worked :
+      taken (openOf kind letter text history) ≡ true →
+      Worked letter (begun (openOf kind letter text history .state)) to hand
 
 -- demand 3 of a page that a desk leaves: some lines led to it, and the ledger that heard their calls agrees with it
 pub record Keeps (kind : Kind) (letter text history : List ℕ) (to : State) : Type 0 where
-  pub lines : List (List ℕ)
+  pub lines : List Came
   pub promised :
-      Promised letter to (heard (opened kind letter) (openOf kind letter text history .state) (callsIn lines))
+      Promised letter to
+      (heard (opened kind letter) (openOf kind letter text history .state) (callsIn letter lines))
+
+-- a desk that a line left: the ledger that heard the calls before says that the page is saved, or the last command before
+-- was a `quit` too
+pub record Left (kind : Kind) (letter text history : List ℕ) (to : Desk) : Type 0 where
+  pub turns : ℕ
+  pub before : Desk
+  pub led : Turns letter (begun (openOf kind letter text history .state)) turns before
+  pub turn : Turn letter before to
+  pub lines : List Came
+  pub promised :
+      Promised letter (before .state)
+      (heard (opened kind letter) (openOf kind letter text history .state) (callsIn letter lines))
+  pub asked :
+      (before .warned
+      || unchangedBy inWords
+      (heard (opened kind letter) (openOf kind letter text history .state) (callsIn letter lines)))
+      ≡ true

@@ -8,9 +8,8 @@ ghost use Prim.Native.Nat.{_≤_, _<_};
 ghost use mathlib.Core.Path.{_≡_};
 ghost use mathlib.Core.Bool.{false};
 ghost use lib.ListN.{length};
-ghost use Rattle.ledger.specs.Page.{stateOf};
 ghost use Rattle.desk.specs.Desk.{Turn};
-ghost use Rattle.desk.specs.Hands.{Holds, lineIn, Took, closed, Worked};
+ghost use Rattle.desk.specs.Hands.{Holds, lineIn, deskIn, sitting, Took, closed, Worked};
 
 // A proved loop has to end, and nothing says that the input does: so it counts down from a number that no run uses up.
 const ROUNDS: u64 = 18446744073709551615;
@@ -24,6 +23,8 @@ pub struct Hand {
     pub passing: bool,
     // the input has ended
     pub ended: bool,
+    // the last command was a quit
+    pub warned: bool,
     // a line left the desk
     pub left: bool,
 }
@@ -72,8 +73,9 @@ fn read_more(buf: &mut [u8], held: usize) -> usize
 }
 
 // The desk with some bytes at the front of the buffer in hand.
-pub fn holding(page: Page, to: usize, passing: bool, ended: bool) -> Hand
-    ensures { λ r. ⌜ r ≡ record { page = page; from = 0; to = to; passing = passing; ended = ended; left = false } ⌝ }
+pub fn holding(page: Page, to: usize, passing: bool, ended: bool, warned: bool) -> Hand
+    ensures { λ r. ⌜ r
+        ≡ record { page = page; from = 0; to = to; passing = passing; ended = ended; warned = warned; left = false } ⌝ }
 {
     Hand {
         page,
@@ -81,6 +83,7 @@ pub fn holding(page: Page, to: usize, passing: bool, ended: bool) -> Hand
         to,
         passing,
         ended,
+        warned,
         left: false,
     }
 }
@@ -89,33 +92,42 @@ pub fn holding(page: Page, to: usize, passing: bool, ended: bool) -> Hand
 fn fetch(hand: Hand, buf: &mut [u8]) -> Hand
     requires { ⌜ Holds hand (now buf) ⌝ }
     ensures { λ r. ⌜ Holds r (now (buf .exit)) × (length (now (buf .exit)) ≡ length (now (buf .entry)))
-        × (r .page ≡ hand .page) × (r .left ≡ false) ⌝ }
+        × (r .page ≡ hand .page) × (r .warned ≡ hand .warned) × (r .left ≡ false) ⌝ }
 {
     let page = hand.page;
+    let warned = hand.warned;
     if hand.ended {
-        return holding(page, 0, false, true);
+        return holding(page, 0, false, true, warned);
     }
     let from = if hand.passing { hand.to } else { hand.from };
     let held = settle(&mut *buf, from, hand.to);
     if held == buf.len() {
         replies::complain(b"a line is longer than 65535 bytes");
-        return holding(page, 0, true, false);
+        return holding(page, 0, true, false, warned);
     }
     let to = read_more(&mut *buf, held);
     if held < to {
-        return holding(page, to, hand.passing, false);
+        return holding(page, to, hand.passing, false, warned);
     }
     if held == 0 {
-        return holding(page, 0, false, true);
+        return holding(page, 0, false, true, warned);
     }
     buf[held] = b'\n';
-    holding(page, held + 1, false, true)
+    holding(page, held + 1, false, true, warned)
 }
 
 // The desk with the next line in hand.
-fn past(hand: Hand, page: Page, from: usize, left: bool) -> Hand
+fn past(hand: Hand, page: Page, from: usize, warned: bool, left: bool) -> Hand
     ensures { λ r. ⌜ r
-        ≡ record { page = page; from = from; to = hand .to; passing = false; ended = hand .ended; left = left } ⌝ }
+        ≡ record {
+          page = page;
+          from = from;
+          to = hand .to;
+          passing = false;
+          ended = hand .ended;
+          warned = warned;
+          left = left;
+        } ⌝ }
 {
     Hand {
         page,
@@ -123,6 +135,7 @@ fn past(hand: Hand, page: Page, from: usize, left: bool) -> Hand
         to: hand.to,
         passing: false,
         ended: hand.ended,
+        warned,
         left,
     }
 }
@@ -138,27 +151,34 @@ fn take(
 ) -> Hand
     requires { ⌜ Holds hand (now buf) × (hand .from ≤ end) × (end < hand .to) ⌝ }
     ensures { λ r. ⌜ Holds r (now (buf .entry))
-        × Took (lineIn (now (buf .entry)) (hand .from) end)
-        (stateOf (hand .page) (now (text .entry)) (now (history .entry)))
-        (stateOf (r .page) (now (text .exit)) (now (history .exit))) (r .left) (hand .passing) ⌝ }
+        × Took (now (letter .entry)) (lineIn (now (buf .entry)) (hand .from) end)
+        (sitting (hand .page) (hand .warned) (now (text .entry)) (now (history .entry)))
+        (deskIn r (now (text .exit)) (now (history .exit))) (hand .passing) ⌝ }
 {
     let next = end + 1;
     let page = hand.page;
     if hand.passing {
-        return past(hand, page, next, false);
+        return past(hand, page, next, false, false);
     }
     let from = hand.from;
-    let done = orders::obey(page, &buf[from..next], letter, &mut *text, &mut *history);
+    let done = orders::obey(
+        page,
+        hand.warned,
+        &buf[from..next],
+        letter,
+        &mut *text,
+        &mut *history,
+    );
     let kept = done.page;
-    past(hand, kept, next, done.left)
+    past(hand, kept, next, done.warned, done.left)
 }
 
 // A line is obeyed, or more of it is got.
 fn turn(hand: Hand, buf: &mut [u8], letter: &[u8], text: &mut [u32], history: &mut [u32]) -> Hand
     requires { ⌜ Holds hand (now buf) ⌝ }
     ensures { λ r. ⌜ Holds r (now (buf .exit))
-        × Turn (stateOf (hand .page) (now (text .entry)) (now (history .entry)))
-        (stateOf (r .page) (now (text .exit)) (now (history .exit))) (r .left) ⌝ }
+        × Turn (now (letter .entry)) (sitting (hand .page) (hand .warned) (now (text .entry)) (now (history .entry)))
+        (deskIn r (now (text .exit)) (now (history .exit))) ⌝ }
 {
     let end = line_end(&*buf, hand.from, hand.to);
     if end < hand.to {
@@ -182,12 +202,12 @@ fn is_closed(hand: Hand) -> bool
 
 // Obeys line after line, until quit or the end of the input.
 pub fn work(page: Page, letter: &[u8], text: &mut [u32], history: &mut [u32]) -> Hand
-    ensures { λ r. ⌜ Worked (stateOf page (now (text .entry)) (now (history .entry)))
-        (stateOf (r .page) (now (text .exit)) (now (history .exit))) r ⌝ }
+    ensures { λ r. ⌜ Worked (now (letter .entry)) (sitting page false (now (text .entry)) (now (history .entry)))
+        (deskIn r (now (text .exit)) (now (history .exit))) r ⌝ }
 {
     let mut space = io::large_buffer();
     let buf: &mut [u8] = &mut space;
-    let mut hand = holding(page, 0, false, false);
+    let mut hand = holding(page, 0, false, false, false);
     let mut rounds = ROUNDS;
     while 0 < rounds {
         rounds -= 1;
@@ -198,4 +218,12 @@ pub fn work(page: Page, letter: &[u8], text: &mut [u32], history: &mut [u32]) ->
         }
     }
     hand
+}
+
+// Says that the input ended on a page that is not saved. A line that left the desk was asked already.
+pub fn see_out(hand: Hand, text: &[u32], history: &[u32]) {
+    let page = hand.page;
+    if !orders::may_leave(page, hand.left, text, history) {
+        replies::complain(b"the input has ended, and the page is not saved");
+    }
 }

@@ -11,8 +11,7 @@ use codec::Kind;
 use commands::Named;
 use files::Got;
 use lines::Hand;
-ghost use Rattle.ledger.specs.Page.{stateOf};
-ghost use Rattle.desk.specs.Hands.{Served};
+ghost use Rattle.desk.specs.Hands.{deskIn, Served};
 
 // The kind and the file that the program was started with.
 fn main() {
@@ -49,17 +48,21 @@ fn open(kind: Kind) {
     }
 }
 
-// Opens the page, and works on it where that is accepted.
+// Opens the page, and works on it where that is accepted. One that is not saved at the end of the input is spoken of.
 fn serve(kind: Kind, letter: &[u8], text: &mut [u32], history: &mut [u32]) -> Hand
     ensures { λ r. ⌜ Served kind (now (letter .entry)) (now (text .entry)) (now (history .entry))
-        (stateOf (r .page) (now (text .exit)) (now (history .exit))) r ⌝ }
+        (deskIn r (now (text .exit)) (now (history .exit))) r ⌝ }
 {
     let opened = page::open(kind, letter, &mut *text, &mut *history);
     let answer = opened.answer;
     let p = opened.page;
     replies::tell(answer);
     match answer {
-        Answer::Accepted(_) => lines::work(p, letter, &mut *text, &mut *history),
-        Answer::Refused(_, _) => lines::holding(p, 0, false, false),
+        Answer::Accepted(_) => {
+            let hand = lines::work(p, letter, &mut *text, &mut *history);
+            lines::see_out(hand, &*text, &*history);
+            hand
+        }
+        Answer::Refused(_, _) => lines::holding(p, 0, false, false, false),
     }
 }

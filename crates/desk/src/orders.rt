@@ -7,19 +7,27 @@ use commands::numbers;
 use ledger::Edited;
 use ledger::Page;
 ghost use Prim.Native.Nat.{_≤_};
-ghost use mathlib.Core.Bool.{false};
+ghost use mathlib.Core.Bool.{true, false, _||_};
+ghost use mathlib.Core.Option.{none};
 ghost use mathlib.Core.Path.{_≡_};
 ghost use lib.ListN.{length};
 ghost use lib.Dec.{eqb};
 ghost use Rattle.answer.specs.Answer.{limit};
 ghost use Rattle.reading.specs.Reading.{accepted};
 ghost use Rattle.ledger.specs.Page.{stateOf};
-ghost use Rattle.commands.specs.declared.Verb.the-variants.{Replace, Undo, Redo};
-ghost use Rattle.desk.specs.Desk.{replacing, asked, leaving, afterCall, afterLine, quits};
+ghost use Rattle.ledger.specs.Calls.{unchangedOf};
+ghost use Rattle.commands.specs.declared.Verb.the-variants.{Replace, Undo, Redo, Quit};
+ghost use Rattle.desk.specs.Desk.{replacing, room, saving, asked, afterCall, begun, afterCommand, afterLine};
+ghost use Rattle.desk.specs.Hands.{deskAt, sitting};
 
-// The page after a command, and whether the desk is left.
+// The page after a command, and what became of its file and of the desk.
 pub struct Done {
     pub page: Page,
+    // a save's file is in its place
+    pub put: bool,
+    // the command was a quit, or there was none and the last one was
+    pub warned: bool,
+    // the desk is left
     pub left: bool,
 }
 
@@ -50,7 +58,7 @@ fn replace_by(p: Page, numbers: &[u32], text: &mut [u32], history: &mut [u32]) -
 fn replace(p: Page, words: &[u8], text: &mut [u32], history: &mut [u32]) -> Page
     requires { ⌜ length (now words) ≤ limit ⌝ }
     ensures { λ r. ⌜ stateOf r (now (text .exit)) (now (history .exit))
-        ≡ afterCall (asked Replace (now (words .entry))) (stateOf p (now (text .entry)) (now (history .entry))) ⌝ }
+        ≡ afterCall (asked none Replace (now (words .entry))) (stateOf p (now (text .entry)) (now (history .entry))) ⌝ }
 {
     let mut found = [0u32; 65536];
     let read = numbers::read(words, &mut found);
@@ -85,7 +93,7 @@ fn alone(words: &[u8]) -> bool
 // `undo`
 fn undo(p: Page, words: &[u8], text: &mut [u32], history: &[u32]) -> Page
     ensures { λ r. ⌜ stateOf r (now (text .exit)) (now (history .entry))
-        ≡ afterCall (asked Undo (now (words .entry))) (stateOf p (now (text .entry)) (now (history .entry))) ⌝ }
+        ≡ afterCall (asked none Undo (now (words .entry))) (stateOf p (now (text .entry)) (now (history .entry))) ⌝ }
 {
     if !alone(words) {
         return p;
@@ -96,7 +104,7 @@ fn undo(p: Page, words: &[u8], text: &mut [u32], history: &[u32]) -> Page
 // `redo`
 fn redo(p: Page, words: &[u8], text: &mut [u32], history: &[u32]) -> Page
     ensures { λ r. ⌜ stateOf r (now (text .exit)) (now (history .entry))
-        ≡ afterCall (asked Redo (now (words .entry))) (stateOf p (now (text .entry)) (now (history .entry))) ⌝ }
+        ≡ afterCall (asked none Redo (now (words .entry))) (stateOf p (now (text .entry)) (now (history .entry))) ⌝ }
 {
     if !alone(words) {
         return p;
@@ -129,38 +137,106 @@ fn name_end(words: &[u8]) -> usize
     end
 }
 
-// Saves under a name, by way of an output.
-fn save_in(p: Page, name: &[u8], letter: &[u8], text: &[u32], history: &[u32], out: &mut [u8]) {
-    let answer = page::save(p, text, history, letter, &mut *out);
+// A command that is no quit, and whose file, if it is to have one, was not put.
+fn stays(p: Page) -> Done
+    ensures { λ r. ⌜ r ≡ record { page = p; put = false; warned = false; left = false } ⌝ }
+{
+    Done {
+        page: p,
+        put: false,
+        warned: false,
+        left: false,
+    }
+}
+
+// Saves under a name, by way of an output. The desk goes on with the page that save gave only where the file is in its
+// place: otherwise the mark is as it was.
+fn save_in(
+    p: Page,
+    name: &[u8],
+    letter: &[u8],
+    text: &[u32],
+    history: &[u32],
+    out: &mut [u8],
+) -> Done
+    ensures { λ r. ⌜ deskAt r (now (text .entry)) (now (history .entry))
+        ≡ begun (afterCall (saving (now (letter .entry)) (now (out .entry)) (r .put))
+        (stateOf p (now (text .entry)) (now (history .entry)))) ⌝ }
+{
+    let saved = page::save(p, text, history, letter, &mut *out);
+    let answer = saved.answer;
+    let marked = saved.page;
     let n = answer::place(answer);
     match answer {
         Answer::Accepted(_) => {
             if n <= out.len() {
                 if files::put(name, &out[..n]) {
                     replies::tell(answer);
+                    return Done {
+                        page: marked,
+                        put: true,
+                        warned: false,
+                        left: false,
+                    };
                 }
             }
+            stays(p)
         }
-        Answer::Refused(_, _) => replies::tell(answer),
+        Answer::Refused(_, _) => {
+            replies::tell(answer);
+            stays(p)
+        }
     }
 }
 
 // `save FILE`: the name goes to the end of the line and may hold spaces. The answer is told when the file is in its place.
-fn save(p: Page, words: &[u8], letter: &[u8], text: &[u32], history: &[u32]) {
+fn save(p: Page, words: &[u8], letter: &[u8], text: &[u32], history: &[u32]) -> Done
+    ensures { λ r. ⌜ deskAt r (now (text .entry)) (now (history .entry))
+        ≡ begun (afterCall (saving (now (letter .entry)) room (r .put))
+        (stateOf p (now (text .entry)) (now (history .entry)))) ⌝ }
+{
     let end = name_end(words);
     if end == 0 {
         replies::complain(b"save FILE: the name is missing");
-        return;
+        return stays(p);
     }
     let mut out = [0u8; codec::Kind::MOST_BYTES];
-    save_in(p, &words[..end], letter, text, history, &mut out);
+    save_in(p, &words[..end], letter, text, history, &mut out)
 }
 
-fn stays(p: Page) -> Done
-    ensures { λ r. ⌜ r ≡ record { page = p; left = false } ⌝ }
+// Whether a page may be left: it is saved, or whoever leaves it was warned.
+pub fn may_leave(p: Page, warned: bool, text: &[u32], history: &[u32]) -> bool
+    ensures { λ r. ⌜ r
+        ≡ (warned || unchangedOf (stateOf p (now (text .entry)) (now (history .entry))) .unchanged) ⌝ }
 {
+    if warned {
+        return true;
+    }
+    let asked = page::unchanged(p, text, history);
+    asked.unchanged
+}
+
+// `quit`: a page that is not saved is left only by a second one.
+fn quit(p: Page, words: &[u8], warned: bool, text: &[u32], history: &[u32]) -> Done
+    ensures { λ r. ⌜ deskAt r (now (text .entry)) (now (history .entry))
+        ≡ afterCommand none (sitting p warned (now (text .entry)) (now (history .entry))) Quit (now (words .entry)) ⌝ }
+{
+    if !alone(words) {
+        return stays(p);
+    }
+    if may_leave(p, warned, text, history) {
+        return Done {
+            page: p,
+            put: false,
+            warned: true,
+            left: true,
+        };
+    }
+    replies::complain(b"the page is not saved: save FILE, or quit again to leave it");
     Done {
         page: p,
+        put: false,
+        warned: true,
         left: false,
     }
 }
@@ -168,6 +244,7 @@ fn stays(p: Page) -> Done
 // A command with what follows its name.
 fn act(
     p: Page,
+    warned: bool,
     verb: Verb,
     words: &[u8],
     letter: &[u8],
@@ -175,12 +252,17 @@ fn act(
     history: &mut [u32],
 ) -> Done
     requires { ⌜ length (now words) ≤ limit ⌝ }
-    ensures { λ r. ⌜ (stateOf (r .page) (now (text .exit)) (now (history .exit))
-        ≡ afterCall (asked verb (now (words .entry))) (stateOf p (now (text .entry)) (now (history .entry))))
-        × (r .left ≡ leaving verb (now (words .entry))) ⌝ }
+    ensures { λ r. ⌜ deskAt r (now (text .exit)) (now (history .exit))
+        ≡ afterCommand (saving (now (letter .entry)) room (r .put))
+        (sitting p warned (now (text .entry)) (now (history .entry))) verb (now (words .entry)) ⌝ }
 {
     match verb {
-        Verb::Nothing => stays(p),
+        Verb::Nothing => Done {
+            page: p,
+            put: false,
+            warned,
+            left: false,
+        },
         Verb::Unknown => {
             replies::complain(
                 b"no such command: show, replace PLACE COUNT CELL.., undo, redo, save FILE, quit",
@@ -191,29 +273,38 @@ fn act(
             show(p, words, &*text);
             stays(p)
         }
-        Verb::Save => {
-            save(p, words, letter, &*text, &*history);
-            stays(p)
-        }
+        Verb::Save => save(p, words, letter, &*text, &*history),
         Verb::Replace => stays(replace(p, words, &mut *text, &mut *history)),
         Verb::Undo => stays(undo(p, words, &mut *text, &*history)),
         Verb::Redo => stays(redo(p, words, &mut *text, &*history)),
-        Verb::Quit => {
-            let left = alone(words);
-            Done { page: p, left }
-        }
+        Verb::Quit => quit(p, words, warned, &*text, &*history),
     }
 }
 
 // Obeys a line. The letter is lent again to save.
-pub fn obey(p: Page, line: &[u8], letter: &[u8], text: &mut [u32], history: &mut [u32]) -> Done
+pub fn obey(
+    p: Page,
+    warned: bool,
+    line: &[u8],
+    letter: &[u8],
+    text: &mut [u32],
+    history: &mut [u32],
+) -> Done
     requires { ⌜ length (now line) ≤ limit ⌝ }
-    ensures { λ r. ⌜ (stateOf (r .page) (now (text .exit)) (now (history .exit))
-        ≡ afterLine (stateOf p (now (text .entry)) (now (history .entry))) (now (line .entry)))
-        × (r .left ≡ quits (now (line .entry))) ⌝ }
+    ensures { λ r. ⌜ deskAt r (now (text .exit)) (now (history .exit))
+        ≡ afterLine (now (letter .entry)) (sitting p warned (now (text .entry)) (now (history .entry)))
+        (record { line = now (line .entry); put = r .put }) ⌝ }
 {
     let said = commands::parse(line);
     let verb = said.verb;
     let rest = said.rest;
-    act(p, verb, &line[rest..], letter, &mut *text, &mut *history)
+    act(
+        p,
+        warned,
+        verb,
+        &line[rest..],
+        letter,
+        &mut *text,
+        &mut *history,
+    )
 }

@@ -1,6 +1,4 @@
-use mathlib.Core.Path.{ap}
 use denote.Ref.{now}
-use Rattle.desk.specs.declared.lines.Hand.{Hand}
 use Rattle.desk.proofs.Working.{served-worked, served-idle}
 use borrow.Author.Needs.{needs}
 use Rattle.desk.proofs.serve.Statement.{statement}
@@ -8,7 +6,7 @@ use Rattle.desk.proofs.serve.Tie as tie
 
 returns : tie.Need-returns
 returns c =
-    let w = c .before .before .before .before in
+    let w = c .before .before .before .before .before .before .before in
     let t = w .before .before .before in
     let o = t .before .before .before .before .before .before .before .before in
     let a = o .before .before .before .before .before .before .args in
@@ -21,7 +19,7 @@ returns-2 c =
     let o = t .before .before .before .before .before .before .before .before in
     let a = o .before .before .before .before .before .before .args in
     served-idle (a .kind) (now (a .letter)) (now (a .text)) (now (a .history)) (o .«open» .result) _ _
-    (o .«open» .ensures) _ _ (t .enum-told2 .given .1) (ap (λ (x : Hand). x .page) (c .holding .ensures))
+    (o .«open» .ensures) _ _ (t .enum-told2 .given .1) (c .holding .ensures)
 
 pub serve-spec : {M : Type 1} → statement M
 serve-spec =
@@ -30,6 +28,7 @@ serve-spec =
     (λ c κs. search needs)
     (λ c κs. search needs)
     (λ c. search needs)
+    (λ c κs. search needs)
     (λ c κs. search needs)
     (λ c. search needs)
     (λ c κs. search needs)

@@ -5,14 +5,14 @@ use Rattle.desk.proofs.lines.take.Statement.{statement}
 use Rattle.desk.proofs.lines.take.Tie as tie
 
 returns : tie.Need-returns
-returns c = rw (c .past .ensures, c .before .if1 .taken) (search needs, passed refl refl)
+returns c = rw (c .past .ensures, c .before .if1 .taken) (search needs, passed refl)
 
 returns-2 : tie.Need-returns-2
 returns-2 c =
     let o = c .before .before .before .before .before .before in
     let h = o .before .before .before .before .before .before .before .before .before .before .pre in
     rw (c .past2 .ensures, o .before .before .before .before .if1 .left)
-    (search needs, obeyed (o .obey .ensures .0) (o .obey .ensures .1))
+    (search needs, obeyed _ (o .obey .ensures))
 
 pub take-spec : {M : Type 1} → statement M
 take-spec =

@@ -1,5 +1,5 @@
 use borrow.Author.Needs.{needs}
-use Rattle.desk.proofs.Working.{took-turn, page-waits}
+use Rattle.desk.proofs.Working.{took-turn, hand-waits}
 use Rattle.desk.proofs.lines.turn.Statement.{statement}
 use Rattle.desk.proofs.lines.turn.Tie as tie
 
@@ -18,4 +18,4 @@ turn-spec =
     returns
     (λ c κs. search needs)
     (λ c. search needs)
-    (λ c. (search needs, search (page-waits, needs))))
+    (λ c. (search needs, search (hand-waits, needs))))

@@ -1,9 +1,7 @@
 use mathlib.Core.Path.{_≡_, refl, sym, ap, _∙_}
 use lib.ListN.{length}
 use Rattle.answer.specs.Answer.{limit}
-use Rattle.ledger.specs.Page.{stateOf}
-use Rattle.desk.specs.Hands.{Holds}
-use Rattle.desk.specs.declared.lines.Hand.{Hand}
+use Rattle.desk.specs.Hands.{Holds, deskIn}
 use Rattle.desk.proofs.Working.{Going, going-begun, going-again, going-closed, going-over, worked-from}
 use borrow.Author.Needs.{needs}
 use Rattle.desk.proofs.lines.work.Statement.{statement}
@@ -14,21 +12,21 @@ Inv-loop letter text₀ history₀ buf₀ hand₀ rounds₀ text history buf han
     Holds hand buf
     × ((length text ≡ length text₀)
     × (length history ≡ length history₀)
-    × Going (stateOf (hand₀ .page) text₀ history₀) (stateOf (hand .page) text history) hand rounds)
+    × Going letter (deskIn hand₀ text₀ history₀) hand text history rounds)
 
 abbrev μ-loop : tie.MeasureT-loop
 μ-loop letter text₀ history₀ buf₀ hand₀ rounds₀ text history buf hand rounds = rounds
 
 loop-holds : tie.Need-loop-holds Inv-loop μ-loop
 unfolding limit
-loop-holds c = rw (c .holding .ensures) (search needs, (search needs, search needs, going-begun _ _ refl))
+loop-holds c = rw (c .holding .ensures) (search needs, (search needs, search needs, going-begun _ refl))
 
 returns : tie.Need-returns Inv-loop μ-loop
 returns c =
     let i = c .before .before in
     let t = i .before .before .before .before .before .before .before in
     let l = t .before .before .before .before .before in
-    worked-from (ap (λ (x : Hand). x .page) (l .before .holding .ensures))
+    worked-from (l .before .holding .ensures)
     (going-closed (l .loop .inv .1 .2) (t .turn .ensures .1) (sym (i .is-closed .ensures) ∙ c .before .if1 .taken))
 
 loop-again : tie.Need-loop-again Inv-loop μ-loop
@@ -48,7 +46,7 @@ loop-again c =
 returns-2 : tie.Need-returns-2 Inv-loop μ-loop
 returns-2 c =
     let l = c .before .before in
-    worked-from (ap (λ (x : Hand). x .page) (l .before .holding .ensures))
+    worked-from (l .before .holding .ensures)
     (going-over (l .loop .inv .1 .2) (c .before .loop-test .left))
 
 pub work-spec : {M : Type 1} → statement M

@@ -1,5 +1,6 @@
 use mathlib.Core.Path.{_∙_}
-use Rattle.desk.proofs.Found.{same-call, rest-within, line-calls, line-quits}
+use denote.Ref.{now}
+use Rattle.desk.proofs.Found.{rest-within, line-done}
 use borrow.Author.Needs.{needs}
 use Rattle.desk.proofs.orders.obey.Statement.{statement}
 use Rattle.desk.proofs.orders.obey.Tie as tie
@@ -29,10 +30,8 @@ returns : tie.Need-returns
 returns c =
     let a = c .before .before .before .before in
     let p = a .before .before .before .before in
-    let line = p .before .before .before .before .before .args .line .now in (
-      a .act .ensures .0 ∙ same-call _ (line-calls line (p .parse .ensures)),
-      a .act .ensures .1 ∙ line-quits line (p .parse .ensures),
-    )
+    let args = p .before .before .before .before .before .args in
+    a .act .ensures ∙ line-done (now (args .letter)) (now (args .line)) _ _ (p .parse .ensures)
 
 pub obey-spec : {M : Type 1} → statement M
 obey-spec =
