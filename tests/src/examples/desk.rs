@@ -234,6 +234,9 @@ pub fn bad_lines() -> Vec<Transcript> {
 
 const ALL_OF_ABC: (&[u8], &str) = (b"show\n", "status=0\ncount=3\ncells=00000061 00000062 00000063\n");
 
+/// What is told when the input has ended.
+const ENDED_NOT_SAVED: Line = (b"", "desk: the input has ended, and the page is not saved\n");
+
 /// Lines that are just right.
 pub fn odd_lines() -> Vec<Transcript> {
     let numbers: &[(&[u8], &str)] = &[
@@ -252,6 +255,7 @@ pub fn odd_lines() -> Vec<Transcript> {
         (b"replace 1 2\n", "status=0\ncount=6\n"),
         (b"replace 6 0\n", "status=0\ncount=6\n"),
         (b"show\n", "status=0\ncount=6\ncells=00000041 00000063 000000AB 0000CDEF 00000000 0000FFFF\n"),
+        ENDED_NOT_SAVED,
     ];
     let blanks: &[(&[u8], &str)] = &[
         (b"\n", ""),
@@ -263,6 +267,7 @@ pub fn odd_lines() -> Vec<Transcript> {
         (b"undo\r", "status=0\ncount=3\n"),
         (b"\n", ""),
         (b"redo", "status=0\ncount=5\n"),
+        ENDED_NOT_SAVED,
     ];
     let after_quit: &[(&[u8], &str)] = &[ALL_OF_ABC, (b" quit \r\n", ""), (b"show\nsave out\nshows\n", "")];
     vec![
@@ -316,6 +321,56 @@ pub fn saves() -> Vec<Transcript> {
         ("as it came", "abc"),
     ];
     vec![lines("files saved and not saved", list, &saved)]
+}
+
+/// A line with what is told for it.
+type Line<'a> = (&'a [u8], &'a str);
+
+const ADD: Line = (b"replace 0 0 41\n", "status=0\ncount=4\n");
+const UNDO: Line = (b"undo\n", "status=0\ncount=3\n");
+const REDO: Line = (b"redo\n", "status=0\ncount=4\n");
+const SAVE: Line = (b"save new\n", "status=0\ncount=4\n");
+const BLANK: Line = (b" \t\r\n", "");
+const STAYS: Line = (b"quit\n", "desk: the page is not saved: save FILE, or quit again to leave it\n");
+const LEAVES: Line = (b" quit\r\n", "");
+const UNREAD: Line = (b"show\nshows\n", "");
+const MISSING: Line = (b"save\n", "desk: save FILE: the name is missing\n");
+const BARRED: Line = (b"save sub\n", "desk: sub: is a directory: save to another name\n");
+const BESIDE: Line = (b"save no/new\n", "desk: no/new: no new file can be made beside it: No such file or directory\n");
+
+/// Pages that are left saved, and pages that are not.
+pub fn quits() -> Vec<Transcript> {
+    let new = [("new", "Aabc")];
+    vec![
+        lines("two quits", &[ADD, STAYS, LEAVES, UNREAD], &[]),
+        lines("lines with no word between two quits", &[ADD, STAYS, BLANK, BLANK, LEAVES, UNREAD], &[]),
+        quits_apart(),
+        lines("a quit and the end of the input", &[ADD, STAYS, ENDED_NOT_SAVED], &[]),
+        lines("a page that is saved", &[ADD, STAYS, SAVE, LEAVES, UNREAD], &new),
+        lines("a page that could not be saved", &[ADD, BARRED, BESIDE, MISSING, STAYS, ENDED_NOT_SAVED], &[]),
+        lines("a file that could not be put after one that was", &[ADD, SAVE, UNDO, BARRED, STAYS, REDO, LEAVES], &new),
+        lines("undo back to what was opened", &[ADD, UNDO, LEAVES, UNREAD], &[]),
+        lines("undo away from what was saved", &[ADD, SAVE, UNDO, STAYS, REDO, LEAVES, UNREAD], &new),
+        lines("what was saved is lost", &[ADD, SAVE, UNDO, ADD, STAYS, UNDO, STAYS, REDO, ENDED_NOT_SAVED], &new),
+        lines("a page that nothing was done to", &[LEAVES, UNREAD], &[]),
+    ]
+}
+
+/// Every `quit` is a first one here, for another line comes before it, but the last.
+fn quits_apart() -> Transcript {
+    let long = [&[b' '; 70_000][..], b"\n"].concat();
+    let between: [Line; 8] = [
+        (b"show\n", "status=0\ncount=4\ncells=00000041 00000061 00000062 00000063\n"),
+        (b"redo\n", "status=13\nplace=0\n"),
+        (b"quit quit\n", "desk: nothing may follow this command\n"),
+        (b"exit\n", "desk: no such command: show, replace PLACE COUNT CELL.., undo, redo, save FILE, quit\n"),
+        (b"replace 0 5\n", "status=11\nplace=4\n"),
+        (&long, "desk: a line is longer than 65535 bytes\n"),
+        MISSING,
+        BARRED,
+    ];
+    let list = [ADD, STAYS].into_iter().chain(between.into_iter().flat_map(|line| [line, STAYS]));
+    lines("other lines between quits", &list.chain([LEAVES, UNREAD]).collect::<Vec<_>>(), &[])
 }
 
 /// Starts that fail, each with what is complained of; and letters that are refused. None reads a command.
@@ -385,5 +440,5 @@ fn start(arguments: &[&str], output: &str, errors: &str) -> Transcript {
 /// Every example, for the unit tests.
 #[cfg(test)]
 pub fn all() -> Vec<Transcript> {
-    [worked(), bad_lines(), odd_lines(), saves(), starts()].into_iter().flatten().collect()
+    [worked(), bad_lines(), odd_lines(), saves(), quits(), starts()].into_iter().flatten().collect()
 }

@@ -2,6 +2,8 @@
 //! docs/DESK.md, which tells the rest and is README.md's part on `desk`. It was written without a look at the proved code.
 //! Where docs/DESK.md is silent, a comment says what is taken.
 
+use std::mem;
+
 use super::files::{Entry, Errno, Files};
 use super::page::{self, Page, State};
 use super::{print_listing, Answer, Call, Kind, LIMIT};
@@ -19,9 +21,18 @@ pub struct Start {
 
 /// All that is seen of it.
 pub struct End {
-    /// What it tells: at the start, and then for each line up to the end or to `quit`.
+    /// What it tells: at the start, and then for each line up to the end or to the `quit` that ends it.
     pub told: Vec<Told>,
+    /// What it tells when the input has ended.
+    pub last: Told,
     pub files: Files,
+}
+
+impl End {
+    /// All that it tells.
+    pub fn all(&self) -> Vec<Told> {
+        self.told.iter().chain([&self.last]).cloned().collect()
+    }
 }
 
 /// What it tells at once.
@@ -47,6 +58,9 @@ pub enum Complaint {
     LineTooLong,
     NoSuchCommand,
     NothingMayFollow,
+    /// `quit` finds the page not saved; and so does the end of the input.
+    NotSaved,
+    EndedNotSaved,
     Replace,
     NameMissing,
     NameTooLong,
@@ -131,6 +145,8 @@ impl Complaint {
                 "no such command: show, replace PLACE COUNT CELL.., undo, redo, save FILE, quit"
             }
             Complaint::NothingMayFollow => "nothing may follow this command",
+            Complaint::NotSaved => "the page is not saved: save FILE, or quit again to leave it",
+            Complaint::EndedNotSaved => "the input has ended, and the page is not saved",
             Complaint::Replace => {
                 "replace PLACE COUNT CELL..: two decimal numbers, then cells in hex, none over FFFFFFFF"
             }
@@ -156,16 +172,18 @@ fn of_name(name: &[u8], text: &str) -> Vec<u8> {
 /// Runs the program.
 pub fn run(start: &Start) -> End {
     match open(start) {
-        Err(told) => End { told: vec![told], files: start.files.clone() },
+        // "A letter that is refused, or cannot be read, makes no page: nothing is said of it at the end."
+        Err(told) => End { told: vec![told], last: Told::Nothing, files: start.files.clone() },
         Ok((told, mut desk)) => {
             let mut told = vec![told];
             for line in lines(&start.input) {
                 told.push(desk.obey(line));
                 if told.ends_with(&[Told::End]) {
-                    break;
+                    return End { told, last: Told::Nothing, files: desk.files };
                 }
             }
-            End { told, files: desk.files }
+            let last = if desk.is_saved() { Told::Nothing } else { Told::Complaint(Complaint::EndedNotSaved) };
+            End { told, last, files: desk.files }
         }
     }
 }
@@ -196,7 +214,7 @@ fn open(start: &Start) -> Result<(Told, Desk), Told> {
     if opened.answer.number != 0 {
         return Err(told);
     }
-    Ok((told, Desk { arrived, state: opened.state, files: start.files.clone(), umask: start.umask }))
+    Ok((told, Desk { arrived, state: opened.state, warned: false, files: start.files.clone(), umask: start.umask }))
 }
 
 /// "space, tab, CR, LF"
@@ -222,6 +240,8 @@ fn number(word: &[u8], base: u32) -> Option<u32> {
 struct Desk {
     arrived: Vec<u8>,
     state: State,
+    /// The command before was a `quit` that found the page not saved.
+    warned: bool,
     files: Files,
     umask: u32,
 }
@@ -230,21 +250,36 @@ impl Desk {
     /// Does what a line says, and tells what is told.
     fn obey(&mut self, line: &[u8]) -> Told {
         let line = line.strip_suffix(b"\n").unwrap_or(line);
+        // "After any other line it is a first one again"
+        let warned = mem::take(&mut self.warned);
         if line.len() > LONGEST_LINE {
             return Told::Complaint(Complaint::LineTooLong);
         }
         let words: Vec<&[u8]> = line.split(|&byte| is_blank(byte)).filter(|word| !word.is_empty()).collect();
         match &words[..] {
-            [] => Told::Nothing,
+            // "Lines with no word between the two count for nothing."
+            [] => {
+                self.warned = warned;
+                Told::Nothing
+            }
             [b"replace", numbers @ ..] => self.replace(numbers),
             [b"save", ..] => self.save(trimmed(&trimmed(line)[b"save".len()..])),
             [b"show" | b"undo" | b"redo" | b"quit", _, ..] => Told::Complaint(Complaint::NothingMayFollow),
             [b"show"] => Told::Cells(self.state.text[..self.state.page.length].to_vec()),
             [b"undo"] => self.call(UNDO, &Call::Undo),
             [b"redo"] => self.call(REDO, &Call::Redo),
-            [b"quit"] => Told::End,
+            [b"quit"] if warned || self.is_saved() => Told::End,
+            [b"quit"] => {
+                self.warned = true;
+                Told::Complaint(Complaint::NotSaved)
+            }
             _ => Told::Complaint(Complaint::NoSuchCommand),
         }
+    }
+
+    /// "A page is saved where its mark is at the words done, as document 02's question has it"
+    fn is_saved(&self) -> bool {
+        page::ask(&self.state).unchanged
     }
 
     fn call(&mut self, name: &'static str, call: &Call) -> Told {
@@ -278,7 +313,11 @@ impl Desk {
             return Told::Answer(SAVE, saved.answer);
         }
         match self.put(name, &saved.output[..saved.answer.place]) {
-            Ok(()) => Told::Answer(SAVE, saved.answer),
+            Ok(()) => {
+                self.state = saved.state;
+                Told::Answer(SAVE, saved.answer)
+            }
+            // "the desk keeps its old page, with its mark"
             Err(complaint) => Told::Complaint(complaint),
         }
     }
@@ -325,7 +364,7 @@ mod tests {
         for transcript in examples::all() {
             let (arguments, files) = (transcript.arguments.clone(), transcript.before.clone());
             let end = run(&Start { arguments, files, umask: 0o27, input: transcript.input.clone() });
-            let written = |of: fn(&Told) -> Vec<u8>| -> Vec<u8> { end.told.iter().flat_map(of).collect() };
+            let written = |of: fn(&Told) -> Vec<u8>| -> Vec<u8> { end.all().iter().flat_map(of).collect() };
             let text = |bytes: &[u8]| bytes.escape_ascii().to_string();
             assert_eq!(text(&written(Told::output)), text(&transcript.output), "{transcript}");
             assert_eq!(text(&written(Told::errors)), text(&transcript.errors), "{transcript}");

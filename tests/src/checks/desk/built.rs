@@ -69,10 +69,11 @@ impl Desk {
         session.feed(&script.lines.concat());
         session.close();
         let (output, errors) = self.end(&mut session)?;
-        same_told("standard output", &expected.told, Told::output, output)?;
-        same_told("standard error", &expected.told, Told::errors, errors)?;
+        let told = expected.all();
+        same_told("standard output", &told, Told::output, output)?;
+        same_told("standard error", &told, Told::errors, errors)?;
         same_files(&expected.files, &folder.files()?)?;
-        self.count(&expected.told, statuses);
+        self.count(&told, statuses);
         Ok(())
     }
 
@@ -97,15 +98,17 @@ impl Desk {
             }
             session.expect(&told.output(), &told.errors()).map_err(of_line)?;
         }
-        // After `quit`, and where the letter is not opened, it ends although its input does not.
+        // After a `quit` that ends it, and where the letter is not opened, it ends although its input does not.
         let is_open = matches!(first, Told::Answer(_, Answer { number: 0, .. }));
         if is_open && expected.told.last() != Some(&Told::End) {
             session.close();
         }
+        let (output, errors) = (expected.last.output(), expected.last.errors());
+        session.expect(&output, &errors).map_err(|difference| format!("when the input has ended {difference}"))?;
         session.end()?;
         session.nothing_more()?;
         same_files(&expected.files, &folder.files()?)?;
-        self.count(&expected.told, statuses);
+        self.count(&expected.all(), statuses);
         Ok(())
     }
 
@@ -147,6 +150,8 @@ fn label(complaint: &Complaint) -> String {
         Complaint::LineTooLong => "line too long",
         Complaint::NoSuchCommand => "no such command",
         Complaint::NothingMayFollow => "nothing may follow",
+        Complaint::NotSaved => "not saved",
+        Complaint::EndedNotSaved => "ended, not saved",
         Complaint::Replace => "replace",
         Complaint::NameMissing => "name missing",
         Complaint::NameTooLong => "name too long",

@@ -183,6 +183,9 @@ pub fn run(report: &mut Report, desk: &Desk) {
 pub const LETTER: &str = "abc";
 pub const NEW: &str = "Xbc";
 pub const LINES: &str = "replace 0 1 58\nsave ";
+
+/// What is said when the input has ended on a page that is not saved.
+pub const ENDED: &str = "desk: the input has ended, and the page is not saved\n";
 pub const TOLD: &str = "status=0\ncount=3\nstatus=0\ncount=3\n";
 pub const ANSWER: &str = "status=0\ncount=3\n";
 
@@ -263,6 +266,8 @@ impl Tried {
         let told = format!("{TOLD}{}", if saved.is_some() { ANSWER } else { "" });
         same_bytes("standard output", told.as_bytes(), &output)?;
         let said = if complaint.is_empty() { String::new() } else { format!("desk: {}: {complaint}\n", case.save) };
+        // A save that is not done leaves the page not saved.
+        let said = said + if saved.is_some() { "" } else { ENDED };
         same_bytes("standard error", said.as_bytes(), &errors)?;
         same_standing(&expected, &standing(&folder.path)?)
     }

@@ -11,7 +11,7 @@ use std::time::Duration;
 
 use super::built::Desk;
 use super::folder::Folder;
-use super::harm::{Tried, ANSWER, LETTER, LINES, NEW, TOLD};
+use super::harm::{Tried, ANSWER, ENDED, LETTER, LINES, NEW, TOLD};
 use super::standing::{same_standing, standing, Standing};
 use super::trace::{trace, Act, Call, FSYNC, OPENAT, READ, RENAME, UNLINK, WRITE};
 use crate::examples::desk::files;
@@ -234,8 +234,12 @@ impl Saves {
                 if !to_streams.get() {
                     let told = seen.output.ends_with(format!("{TOLD}{ANSWER}").as_bytes());
                     let left = self.settled(&folder, mode, told).map_err(at)?;
-                    let lines = seen.errors.split_inclusive(|&byte| byte == b'\n').count();
-                    let complains = lines == 1 && seen.errors.starts_with(b"desk: ");
+                    // A page that was changed and is not saved is spoken of in the end.
+                    let ended = seen.errors.strip_suffix(ENDED.as_bytes());
+                    let is_lost = !told && seen.output.starts_with(TOLD.as_bytes());
+                    let complaint = ended.unwrap_or(&seen.errors);
+                    let lines = complaint.split_inclusive(|&byte| byte == b'\n').count();
+                    let complains = lines == 1 && complaint.starts_with(b"desk: ") && ended.is_some() == is_lost;
                     if !told && !complains || lines > 1 || !left.is_empty() && calls[failing] != UNLINK {
                         return Err(at(format!("it says {}, {left:?}", seen.errors.escape_ascii()).into()));
                     }

@@ -45,6 +45,7 @@ fn check_by_hand(report: &mut Report) {
     check("bad-lines", "lines that are complained of, by complaint", examples::bad_lines());
     check("odd-lines", "lines that are just right", examples::odd_lines());
     check("saves", "files that are saved, and files that cannot be", examples::saves());
+    check("quits", "pages that are left saved, and not saved", examples::quits());
     system::run(report, &desk);
     harm::run(report, &desk);
 }
@@ -93,10 +94,12 @@ fn expect_statuses(report: &mut Report, kind: Kind) {
 }
 
 /// What can be complained of in scripts, and the errors of the system that names in them can cause.
-const COMPLAINTS: [&str; 11] = [
+const COMPLAINTS: [&str; 13] = [
     "line too long",
     "no such command",
     "nothing may follow",
+    "not saved",
+    "ended, not saved",
     "replace",
     "name missing",
     "name too long",

@@ -47,9 +47,9 @@ fn script(rng: &mut Rng, kind: Kind, letter: Vec<u8>) -> Script {
         draft.add(rng);
     }
     let mut lines = draft.lines;
-    if rng.one_in(4) {
-        let quit = line(rng, &[b"quit".to_vec()]);
-        lines.insert(rng.below(lines.len() + 1), quit);
+    if rng.one_in(3) {
+        let place = rng.below(lines.len() + 1);
+        lines.splice(place..place, quits(rng));
     }
     if let (true, Some(last)) = (rng.one_in(3), lines.last_mut()) {
         last.pop();
@@ -57,6 +57,19 @@ fn script(rng: &mut Rng, kind: Kind, letter: Vec<u8>) -> Script {
     // A damaged line may be two, or one with the next.
     let lines = second::lines(&lines.concat()).map(<[u8]>::to_vec).collect();
     in_folder(rng, kind, letter, lines)
+}
+
+/// A `quit`; or two, the second directly behind the first or behind a line with no word, with a command or with none.
+fn quits(rng: &mut Rng) -> Vec<Vec<u8>> {
+    let quit = b"quit".to_vec();
+    let mut lines = vec![line(rng, &[quit.clone()])];
+    if rng.one_in(2) {
+        let between: &[&[u8]] =
+            rng.pick(&[&[][..], &[], &[b""], &[b"", b""], &[b"show"], &[b"undo"], &[b"quit 1"], &[b"x"]]);
+        lines.extend(between.iter().map(|word| line(rng, &[word.to_vec()])).collect::<Vec<_>>());
+        lines.push(line(rng, &[quit]));
+    }
+    lines
 }
 
 /// A script in a folder with the letter and, most often, with others that saves may meet.
