@@ -65,7 +65,7 @@ stayed = (stay-ref (0 ∷ []) tt (plain (λ _. P.the-row)), (gave-slice (1 ∷ [
 abbrev pub pv : Page → Val
 pv p = only (LL.vals P.the-type P′.the-laws p)
 
-abbrev nv : Answer → Val
+abbrev pub nv : Answer → Val
 nv n = only (EL.vals N.the-type N′.the-laws n)
 
 abbrev pub sv : RefT (List ℕ) → Val

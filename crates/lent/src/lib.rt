@@ -3,8 +3,8 @@ use answer::Answer;
 use ledger::Edited;
 use ledger::Page;
 ghost use mathlib.Core.Path.{_≡_};
-ghost use Rattle.ledger.specs.Page.{stateOf, leaves};
-ghost use Rattle.ledger.specs.Calls.{undoOf, redoOf};
+ghost use Rattle.ledger.specs.Page.{stateOf, leaves, keeps};
+ghost use Rattle.ledger.specs.Calls.{undoOf, redoOf, saveOf};
 
 // Takes the last standing step of the lent page back.
 pub fn undo(p: &mut Page, text: &mut [u32], history: &[u32]) -> Answer
@@ -22,6 +22,18 @@ pub fn redo(p: &mut Page, text: &mut [u32], history: &[u32]) -> Answer
         (stateOf (now (p .entry)) (now (text .entry)) (now (history .entry))) ⌝ }
 {
     let next = page::redo(*p, text, history);
+    *p = next.page;
+    next.answer
+}
+
+// Saves the lent page, and marks it as saved.
+pub fn save(p: &mut Page, text: &[u32], history: &[u32], arrived: &[u8], out: &mut [u8]) -> Answer
+    ensures { λ r. ⌜ keeps (record { answer = r; page = now (p .exit) }) (now (text .entry)) (now (history .entry))
+        (now (out .exit))
+        ≡ saveOf (stateOf (now (p .entry)) (now (text .entry)) (now (history .entry)))
+        (now (arrived .entry)) (now (out .entry)) ⌝ }
+{
+    let next = page::save(*p, text, history, arrived, out);
     *p = next.page;
     next.answer
 }
