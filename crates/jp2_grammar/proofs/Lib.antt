@@ -1,0 +1,5 @@
+pub mod Bytes
+pub mod Whole
+pub mod Leads
+pub mod Parsing
+pub mod ByGrammar

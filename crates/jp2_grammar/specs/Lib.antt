@@ -1,0 +1,3 @@
+pub mod Notation
+pub mod Grammar
+pub mod ByGrammar
