@@ -18,11 +18,14 @@ use Rattle.jp2.proofs.Sends.{phaseOf, byte-between}
 use Rattle.jp2.proofs.Table.{row-walk}
 use Rattle.jp2.proofs.Round.{byte-first, byte-second, byte-n, byte-shifted}
 use Rattle.jp2.proofs.Ends.{Last, Rests, last-ends}
-use Rattle.jp2_grammar.specs.Notation.{Standing, Syntax, _or_, left, right, _then_, both as next, Many, none, more, Optional, absent, present, passed, Literal, sent as letter, OneOf, value}
-use Rattle.jp2_grammar.specs.Grammar.{one-of-94, single-byte-char, single-shift-seq, single-shift-char, G0, G2, g2-desig-seq, double-byte-seq, single-byte-seq, segment, text}
-use Rattle.jp2_grammar.specs.ByGrammar.{linesOf, lineStart, Follow, ByGrammar}
+use Rattle.jp2_grammar.specs.Notation.{Standing, Syntax, _or_, left, right, _then_, both, Many, none, more}
+use Rattle.jp2_grammar.specs.Notation.{Optional, absent, present, passed, Literal, sent as letter, OneOf, value}
+use Rattle.jp2_grammar.specs.Grammar.{one-of-94, single-byte-char, single-shift-seq, single-shift-char, G0, G2}
+use Rattle.jp2_grammar.specs.Grammar.{g2-desig-seq, double-byte-seq, single-byte-seq, segment, text}
+use Rattle.jp2_grammar.specs.ByGrammar.{linesOf, lineStart, Follow, inAscii, ByGrammar}
 use Rattle.jp2_grammar.proofs.Bytes.{graphic-in, ascii-in, byte-char}
-use Rattle.jp2_grammar.proofs.Whole.{unbroken, returns, Whole, whole-on, whole-none, whole-sent, whole-byte, whole-char, one-line, behind, cut, cut-joined}
+use Rattle.jp2_grammar.proofs.Whole.{unbroken, returns, Whole, whole-on, whole-none, whole-sent, whole-byte}
+use Rattle.jp2_grammar.proofs.Whole.{whole-char, one-line, behind, cut, cut-joined}
 
 -- the reader's state where a line stands
 abbrev pub stateAt : Standing → ℕ → State
@@ -92,7 +95,7 @@ then-leads : {X Y Z : ℕ → Type 0} {A B : Syntax} → Leads X Y A → Leads Y
 then-leads {X} {Y} {Z} {A} {B} f g = record { by = go }
   where
     go : Passing X Z (A then B)
-    go p s q (next a b) = passes-on (f .by p _ _ a) (g .by _ _ q b)
+    go p s q (both a b) = passes-on (f .by p _ _ a) (g .by _ _ q b)
 
 nothing-passes : {X : ℕ → Type 0} (p : Standing) → Passes X X p [] p
 nothing-passes p =
@@ -116,7 +119,10 @@ optional-leads {X} {A} f = record { by = go }
     go p s q (present a) = f .by p s q a
 
 -- what follows A follows B too
-through : {X Y : ℕ → Type 0} {A B : Syntax} → ((p : Standing) (s : List ℕ) (q : Standing) → A p s q → B p s q) → Leads X Y B → Leads X Y A
+abbrev Within : Syntax → Syntax → Type 0
+Within A B = (p : Standing) (s : List ℕ) (q : Standing) → A p s q → B p s q
+
+through : {X Y : ℕ → Type 0} {A B : Syntax} → Within A B → Leads X Y B → Leads X Y A
 through {X} {Y} {A} f b = record { by = go }
   where
     go : Passing X Y A
@@ -127,49 +133,51 @@ module _
     (i n : ℕ) (escape : String) (known : i < 9) (spelled : sent (rowAt i) ≡ bytes escape)
     (whole : unbroken true (bytes escape) ≡ true) (last : (cr : Bool) → returns cr (bytes escape) ≡ false)
   where
-    to-g0 : {X : ℕ → Type 0} → ((g0 g2 : ℕ) → designated g0 g2 (rowAt i) ≡ state n g2 plain) → X n → Leads Any X (G0 n escape)
+    row-leads : (p : Standing) (g2 : ℕ) → Walk jp2 (stateAt p g2) (bytes escape) [] (designated (p .set) g2 (rowAt i))
+    row-leads p g2 = rw spelled at (row-walk (p .set) g2 i known (p .afterReturn))
+
+    to-g0 :
+        {X : ℕ → Type 0} → ((g0 g2 : ℕ) → designated g0 g2 (rowAt i) ≡ state n g2 plain) → X n →
+        Leads Any X (G0 n escape)
     to-g0 {X} e x = record { by = go }
       where
         go : Passing Any X (G0 n escape)
         go p s q letter =
             record {
               whole = whole-sent p q s whole (last (p .afterReturn));
-              leads = λ h. (x, λ g2 k. led g2 k (rw (spelled, e (p .set) g2) at (row-walk (p .set) g2 i known (p .afterReturn))));
+              leads = λ h. (x, λ g2 k. led g2 k (rw (e (p .set) g2) at (row-leads p g2)));
             }
 
-    to-g2 : {X : ℕ → Type 0} → ((g0 g2 : ℕ) → designated g0 g2 (rowAt i) ≡ state g0 n plain) → eqb n 0 ≡ false → Leads X X (G2 escape)
+    to-g2 :
+        {X : ℕ → Type 0} → ((g0 g2 : ℕ) → designated g0 g2 (rowAt i) ≡ state g0 n plain) → eqb n 0 ≡ false →
+        Leads X X (G2 escape)
     to-g2 {X} e z = record { by = go }
       where
         go : Passing X X (G2 escape)
         go p s q letter =
             record {
               whole = whole-sent p q s whole (last (p .afterReturn));
-              leads = λ h. (h, λ g2 k. led n (rw z) (rw (spelled, e (p .set) g2) at (row-walk (p .set) g2 i known (p .afterReturn))));
+              leads = λ h. (h, λ g2 k. led n (rw z) (rw (e (p .set) g2) at (row-leads p g2)));
             }
 
 -- the designations, as one literal each
-single-byte-rows : (p : Standing) (s : List ℕ) (q : Standing) → single-byte-seq p s q → (G0 6 "␛(B" or G0 14 "␛(J") p s q
-single-byte-rows p s q (next letter (next letter (left letter))) = left letter
-single-byte-rows p s q (next letter (next letter (right letter))) = right letter
+single-byte-rows : Within single-byte-seq (G0 6 "␛(B" or G0 14 "␛(J")
+single-byte-rows p s q (both letter (both letter (left letter))) = left letter
+single-byte-rows p s q (both letter (both letter (right letter))) = right letter
 
-abbrev double-byte-rows : Syntax
-double-byte-rows = (G0 42 "␛$@" or G0 58 "␛$A" or G0 87 "␛$B") or G0 149 "␛$(C" or G0 159 "␛$(D"
+abbrev DoubleBytes : Syntax
+DoubleBytes = (G0 42 "␛$@" or G0 58 "␛$A" or G0 87 "␛$B") or G0 149 "␛$(C" or G0 159 "␛$(D"
 
-double-bytes : (p : Standing) (s : List ℕ) (q : Standing) → double-byte-seq p s q → double-byte-rows p s q
-double-bytes p s q (left (next letter (next letter (left letter)))) =
-    left (left letter)
-double-bytes p s q (left (next letter (next letter (right (left letter))))) =
-    left (right (left letter))
-double-bytes p s q (left (next letter (next letter (right (right letter))))) =
-    left (right (right letter))
-double-bytes p s q (right (next letter (next letter (next letter (left letter))))) =
-    right (left letter)
-double-bytes p s q (right (next letter (next letter (next letter (right letter))))) =
-    right (right letter)
+double-byte-rows : Within double-byte-seq DoubleBytes
+double-byte-rows p s q (left (both letter (both letter (left letter)))) = left (left letter)
+double-byte-rows p s q (left (both letter (both letter (right (left letter))))) = left (right (left letter))
+double-byte-rows p s q (left (both letter (both letter (right (right letter))))) = left (right (right letter))
+double-byte-rows p s q (right (both letter (both letter (both letter (left letter))))) = right (left letter)
+double-byte-rows p s q (right (both letter (both letter (both letter (right letter))))) = right (right letter)
 
-g2-rows : (p : Standing) (s : List ℕ) (q : Standing) → g2-desig-seq p s q → (G2 "␛.A" or G2 "␛.F") p s q
-g2-rows p s q (next letter (next letter (left letter))) = left letter
-g2-rows p s q (next letter (next letter (right letter))) = right letter
+g2-rows : Within g2-desig-seq (G2 "␛.A" or G2 "␛.F")
+g2-rows p s q (both letter (both letter (left letter))) = left letter
+g2-rows p s q (both letter (both letter (right letter))) = right letter
 
 pub single-byte-leads : Leads Any Single single-byte-seq
 unfolding designations
@@ -181,7 +189,7 @@ single-byte-leads =
 pub double-byte-leads : Leads Any Pair double-byte-seq
 unfolding designations pairSet
 double-byte-leads =
-    through double-bytes
+    through double-byte-rows
     (or-leads
     (or-leads (to-g0 2 42 _ (lit< tt) refl refl (λ _. refl) (λ g0 g2. refl) refl)
     (or-leads (to-g0 4 58 _ (lit< tt) refl refl (λ _. refl) (λ g0 g2. refl) refl)
@@ -205,10 +213,15 @@ unfolding betweenDoes
 shift-leads {X} = record { by = go }
   where
     go : Passing X X single-shift-char
-    go p s q (next (single-shift-seq.shift d (next letter letter)) (value {b = b} l u)) =
+    go p s q (both (single-shift-seq.shift d (both letter letter)) (value {b = b} l u)) =
         record {
           whole = whole-on (whole-sent p (passed p) (bytes "␛N") refl refl) (whole-byte (passed p) b l);
-          leads = λ h. (h, λ g2 k. led g2 k (goes (byte-between (p .set) g2 (p .afterReturn) 27 (lit< tt)) (goes (byte-n (p .set) g2 (some (eqb g2 0) (k ∙ d))) (gives (byte-shifted (p .set) g2 b l u) stay))));
+          leads = λ h. (
+            h,
+            λ g2 k. led g2 k
+                (goes (byte-between (p .set) g2 (p .afterReturn) 27 (lit< tt))
+                (goes (byte-n (p .set) g2 (some (eqb g2 0) (k ∙ d))) (gives (byte-shifted (p .set) g2 b l u) stay))),
+          );
         }
 
 pub char-leads : Leads Single Single single-byte-char
@@ -218,14 +231,17 @@ char-leads = record { by = go }
     go p s q (single-byte-char.char {b = b} l n a) =
         record {
           whole = whole-char p b n;
-          leads = λ h. (h, λ g2 k. led g2 k (gives (rw n at (byte-char (p .set) g2 b (p .afterReturn) h (ascii-in b l a))) stay));
+          leads = λ h. (
+            h,
+            λ g2 k. led g2 k (gives (rw n at (byte-char (p .set) g2 b (p .afterReturn) h (ascii-in b l a))) stay),
+          );
         }
 
 pub pair-leads : Leads Pair Pair (one-of-94 then one-of-94)
 pair-leads = record { by = go }
   where
     go : Passing Pair Pair (one-of-94 then one-of-94)
-    go p s q (next (value {b = a} l u) (value {b = b} m v)) =
+    go p s q (both (value {b = a} l u) (value {b = b} m v)) =
         record {
           whole = whole-on (whole-byte p a (omega arith)) (whole-byte (passed p) b (omega arith));
           leads = λ h.
@@ -270,32 +286,34 @@ text-leads =
 pub text-one-line : (p : Standing) (s : List ℕ) (q : Standing) → text p s q → linesOf s ≡ s ∷ []
 text-one-line p s q t = one-line (text-leads .by p s q t .whole)
 
-rests : (cr : Bool) → Rests (phaseOf cr)
-rests cr = cond-case Rests cr (λ _. tt) (λ _. tt)
+-- "the single-byte set that the last one ended in"
+pub text-ends-single : (p : Standing) (s : List ℕ) (q : Standing) → text p s q → Single (p .set) → Single (q .set)
+text-ends-single p s q t h = text-leads .by p s q t .leads h .0
 
 record Accepts (st : State) (s : List ℕ) : Type 0 where
   cells : List ℕ
   arrives : Arrives jp2 Last st s cells
 
 lines-lead :
-    (line : List ℕ) (lines : List (List ℕ)) (set : ℕ) → Single set → Follow set (line ∷ lines) →
-    Accepts (state set 0 plain) (line ++ behind lines)
+    (line : List ℕ) (lines : List (List ℕ)) (ended : Standing) → Single (ended .set) → Follow ended (line ∷ lines) →
+    Accepts (state (ended .set) 0 plain) (line ++ behind lines)
 unfolding Follow ascii
-lines-lead line [] set h f =
-    let l = text-leads .by (lineStart set) line (f .0) (f .1) .leads h .1 0 refl in
+lines-lead line [] ended h f =
+    let l = text-leads .by (lineStart ended) line (f .0) (f .1) .leads h .1 0 refl in
     let end = stateAt (f .0) (l .kept) in
-    let last : Last end = record { ascii = f .2; rests = rests (f .0 .afterReturn) } in
+    let last : Last end =
+    record { ascii = f .2; rests = cond-case Rests (f .0 .afterReturn) (λ _. tt) (λ _. tt) } in
     record {
       cells = l .cells;
       arrives = rw append-nil (record { end = end; walk = l .walk; last = last });
     }
-lines-lead line (second ∷ lines) set h f =
-    let t = text-leads .by (lineStart set) line (f .0) (f .1) .leads h in
+lines-lead line (second ∷ lines) ended h f =
+    let t = text-leads .by (lineStart ended) line (f .0) (f .1) .leads h in
     let l = t .1 0 refl in
     let g0 = f .0 .set in
     let cr = byte-char g0 (l .kept) 13 (f .0 .afterReturn) (t .0) refl in
     let lf = byte-char g0 (l .kept) 10 true (t .0) refl in
-    let r = lines-lead second lines g0 (t .0) (f .2) in
+    let r = lines-lead second lines (f .0) (t .0) (f .2) in
     record {
       cells = _;
       arrives = arrives-on (l .walk) (arrives-on (gives (rw and-false at cr) (gives lf stay)) (r .arrives));
@@ -305,6 +323,6 @@ lines-lead line (second ∷ lines) set h f =
 pub follows-accepted : (s : List ℕ) → ByGrammar s → reading jp2 s .ending ≡ accepted
 follows-accepted s f =
     let k = cut s in
-    let a = lines-lead (k .line) (k .lines) 6 refl (rw (k .so) at f) in
+    let a = lines-lead (k .line) (k .lines) inAscii refl (rw (k .so) at f) in
     let w = rw (cut-joined s) at (a .arrives) in
     ap (λ (r : Reading). r .ending) (walk-whole (w .walk) (last-ends (w .end) (w .last)))

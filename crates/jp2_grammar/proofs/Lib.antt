@@ -1,5 +1,6 @@
 pub mod Bytes
 pub mod Whole
 pub mod Leads
+pub mod Accepting
 pub mod Parsing
 pub mod ByGrammar

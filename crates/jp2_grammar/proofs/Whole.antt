@@ -24,7 +24,8 @@ pub record Whole (p : Standing) (s : List ℕ) (q : Standing) : Type 0 where
   pub within : unbroken (p .afterReturn) s ≡ true
   pub last : returns (p .afterReturn) s ≡ q .afterReturn
 
-unbroken-on : (cr : Bool) (s t : List ℕ) → unbroken cr s ≡ true → unbroken (returns cr s) t ≡ true → unbroken cr (s ++ t) ≡ true
+unbroken-on :
+    (cr : Bool) (s t : List ℕ) → unbroken cr s ≡ true → unbroken (returns cr s) t ≡ true → unbroken cr (s ++ t) ≡ true
 unbroken-on cr [] t a b = b
 unbroken-on cr (x ∷ s) t a b =
     let q = both (not (cr && eqb x 10)) (unbroken (eqb x 13) s) a in
@@ -45,7 +46,8 @@ pub whole-none : (p : Standing) → Whole p [] p
 whole-none p = record { within = refl; last = refl }
 
 -- bytes that leave no CR behind, whatever stands before them; and one byte that is no control
-pub whole-sent : (p q : Standing) (s : List ℕ) → unbroken true s ≡ true → returns (p .afterReturn) s ≡ q .afterReturn → Whole p s q
+pub whole-sent :
+    (p q : Standing) (s : List ℕ) → unbroken true s ≡ true → returns (p .afterReturn) s ≡ q .afterReturn → Whole p s q
 whole-sent p q s h r = record { within = from (p .afterReturn) s h; last = r }
   where
     from : (cr : Bool) (s : List ℕ) → unbroken true s ≡ true → unbroken cr s ≡ true

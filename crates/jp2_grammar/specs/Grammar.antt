@@ -1,5 +1,5 @@
 -- RFC 1554, "Formal Syntax": its productions for "text", from the page's foot to its head. Each has the RFC's name and
--- stands below the RFC's line.
+-- stands below the RFC's line; `lit` is a literal, `G0` and `G2` are literals that designate.
 use Prim.Native.Nat.{ℕ, _≤_}
 use Prim.Native.String.{String}
 use mathlib.Core.Path.{_≡_}
@@ -8,7 +8,7 @@ use mathlib.Core.List.{List, [], _∷_}
 use lib.Dec.{eqb}
 use Rattle.answer.specs.Bytes.{bytes}
 use Rattle.answer.specs.Lists.{Each}
-use Rattle.jp2_grammar.specs.Notation.{Standing, Syntax, _or_, _then_, Many, Optional, passed, Literal, lit, OneOf}
+use Rattle.jp2_grammar.specs.Notation.{Standing, Syntax, _or_, _then_, Many, Optional, Literal, lit, OneOf}
 
 -- one-of-96 = <any one of 96 values> ; (40-177, 32.-127.)
 abbrev pub one-of-96 : Syntax
@@ -30,6 +30,8 @@ CR = 13
 abbrev pub ESC : Syntax
 ESC = lit "␛"
 
+-- SO = <ISO 2022 SO, shift-out> ; ( 16, 14.)
+-- SI = <ISO 2022 SI, shift-in> ; ( 17, 15.)
 -- 7BIT = <any 7-bit value> ; ( 0-177, 0.-127.)
 -- single-byte-char = <any 7BIT, including bare CR & bare LF, but NOT including CRLF, and not including ESC, SI, SO>
 pub data single-byte-char : Standing → List ℕ → Standing → Type 0 where
@@ -39,8 +41,7 @@ pub data single-byte-char : Standing → List ℕ → Standing → Type 0 where
       single-byte-char p (b ∷ [])
       (record { set = p .set; designated = p .designated; afterReturn = eqb b CR })
 
--- single-shift-seq = ESC "N"
--- ; note: g2-desig-seq must precede single-shift-char
+-- single-shift-seq = ESC "N"; with the note that "text" has: "g2-desig-seq must precede single-shift-char"
 pub data single-shift-seq : Standing → List ℕ → Standing → Type 0 where
   shift :
       {p q : Standing} {s : List ℕ} → p .designated ≡ true → (ESC then lit "N") p s q → single-shift-seq p s q
@@ -102,6 +103,8 @@ segment = single-byte-segment or double-byte-segment
 --         *(single-byte-char /
 --           g2-desig-seq /
 --           single-shift-char ) ]
+--          ; note: g2-desig-seq must
+--          ; precede single-shift-char
 abbrev pub text : Syntax
 text =
     Many (single-byte-char or g2-desig-seq or single-shift-char)

@@ -8,14 +8,14 @@ use Rattle.answer.specs.Bytes.{bytes}
 
 infixr 20 _or_
 infixr 30 _then_
--- where the bytes of a line stand: the set in G0, by its "reg#"; whether the line has had a G2 designation; whether the
+-- where a byte of a line stands: the set in G0, by its "reg#"; whether the line has had a G2 designation; whether the
 -- byte before is CR
 pub record Standing : Type 0 where
   pub set : ℕ
   pub designated : Bool
   pub afterReturn : Bool
 
--- `A p s q`: the bytes s follow A, where p is how they stand and q how what comes after them stands
+-- `A p s q`: the bytes s follow A; p is where they stand, q where the next byte does
 abbrev pub Syntax : Type 1
 Syntax = Standing → List ℕ → Standing → Type 0
 
@@ -50,6 +50,6 @@ pub data Literal (literal : String) (change : Standing → Standing) : Standing 
 abbrev pub lit : String → Syntax
 lit literal = Literal literal passed
 
--- any one byte from the one value to the other
+-- <any one of .. values>: a byte from the least to the most
 pub data OneOf (least most : ℕ) : Standing → List ℕ → Standing → Type 0 where
   value : {p : Standing} {b : ℕ} → least ≤ b → b ≤ most → OneOf least most p (b ∷ []) (passed p)
