@@ -41,7 +41,8 @@ pub data single-byte-char : Standing → List ℕ → Standing → Type 0 where
       single-byte-char p (b ∷ [])
       (record { set = p .set; designated = p .designated; afterReturn = eqb b CR })
 
--- single-shift-seq = ESC "N"; with the note that "text" has: "g2-desig-seq must precede single-shift-char"
+-- single-shift-seq = ESC "N"
+-- ; note: g2-desig-seq must precede single-shift-char (it stands at text)
 pub data single-shift-seq : Standing → List ℕ → Standing → Type 0 where
   shift :
       {p q : Standing} {s : List ℕ} → p .designated ≡ true → (ESC then lit "N") p s q → single-shift-seq p s q
