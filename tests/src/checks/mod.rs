@@ -3,6 +3,7 @@
 mod call;
 mod cursors;
 mod desk;
+mod grammar;
 mod icu;
 mod lister;
 mod memory;
@@ -34,6 +35,7 @@ pub fn parts(settings: Settings) -> Vec<Part> {
     parts.extend(of_format(formats::utf7, &library::UTF7, icu::UTF7, seed));
     parts.extend(of_format(formats::jp2, &library::JP2, icu::JP2, seed));
     parts.push(tally);
+    parts.push(Part::new("jp2-grammar", move |report| grammar::run(report, seed)));
     parts.extend(of_format(formats::mailbox, &library::MAILBOX, icu::MAILBOX, seed));
     parts.push(Part::new("mailbox-spelling", move |report| spelling::run(report, seed)));
     parts.extend(page::parts(seed));
