@@ -301,8 +301,8 @@ unfolding Follow ascii
 lines-lead line [] ended h f =
     let l = text-leads .by (lineStart ended) line (f .0) (f .1) .leads h .1 0 refl in
     let end = stateAt (f .0) (l .kept) in
-    let last : Last end =
-    record { ascii = f .2; rests = cond-case Rests (f .0 .afterReturn) (λ _. tt) (λ _. tt) } in
+    let rests : Rests (phaseOf (f .0 .afterReturn)) = cond-case Rests (f .0 .afterReturn) (λ _. tt) (λ _. tt) in
+    let last : Last end = record { ascii = f .2; rests = rests } in
     record {
       cells = l .cells;
       arrives = rw append-nil (record { end = end; walk = l .walk; last = last });

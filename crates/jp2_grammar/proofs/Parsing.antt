@@ -219,7 +219,7 @@ module _ {n : ℕ} (ih : Claim n) where
   after-return rest g0 g2 o (char s a w) = w
   after-return rest g0 g2 o (pair s g w) = absurd (false≢true (sym s ∙ o))
 
-  module _ (p : Standing) (g2 : ℕ) (b : ℕ) (bs : List ℕ) (few : length bs < n) where
+  module _ (p : Standing) (g2 b : ℕ) (bs : List ℕ) (few : length bs < n) where
     -- a byte of its own, that ends no line
     char-on :
         Here Single p g2 (b ∷ bs) → ascii b ≡ true → Ends bs (state (p .set) g2 (phaseOf (eqb b 13))) →
