@@ -14,3 +14,4 @@ pub mod Counts
 pub mod Foreign
 pub mod ReadsBack
 pub mod Cases
+pub mod Joined

@@ -7,3 +7,4 @@ pub mod Writing
 pub mod Tally
 pub mod TableRule
 pub mod Cases
+pub mod Joined

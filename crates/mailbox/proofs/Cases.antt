@@ -18,6 +18,6 @@ unfolding limit deliver bits number allZero bitsOf groups full filler valueOf se
     readInto markedFrom markedIn own pieces letters spell spellAll writing firstOver writeInto outsideDoes
     givesUnit unitDoes closeDoes lowDoes byteDoes endsIn spanIn
 hold = refl and refl and refl and refl and refl and (λ _. refl) and (λ _. refl) and (λ _. refl) and
-    (λ _. refl) and (λ _. refl) and (λ _. refl) and (λ _. refl) and (λ _. refl) and refl and (λ _. refl) and
-    (λ _. refl) and refl and (λ _. refl) and (λ _. refl) and (λ _. refl) and (λ _. refl) and (λ _. refl) and
-    refl and refl and (λ _. refl) and tt
+    (λ _. refl) and (λ _. refl) and (λ _. refl) and (λ _. refl) and (λ _. refl) and refl and refl and
+    (λ _. refl) and (λ _. refl) and refl and (λ _. refl) and (λ _. refl) and (λ _. refl) and (λ _. refl) and
+    (λ _. refl) and refl and refl and (λ _. refl) and tt

@@ -31,7 +31,8 @@ cases =
     ∷ fails "\u{7f}" 3 0
     -- the ampersand is no run
     ∷ reads "&AKM-&-" (0xA3 ∷ 0x26 ∷ [])
-    -- 17, a run directly after a run
+    -- 17, a run directly after a run: a name joined to itself, so document 02's order 9 is not stated of names
+    ∷ reads "&AKM-" (0xA3 ∷ [])
     ∷ fails "&AKM-&AKM-" 17 6
     -- 17, a printable unit
     ∷ fails "&ACY-" 17 3

@@ -9,3 +9,4 @@ pub mod Cursors
 pub mod Matches
 pub mod ReadsBack
 pub mod Located
+pub mod Joined

@@ -15,7 +15,7 @@ use Rattle.reading.specs.Reading.{Does, give, go, bad, Rule, onRead, rea
 use Rattle.reading.specs.Spans.{Takes, markedAs, Marking, onMarked, markedFrom, markedIn}
 use Rattle.reading.specs.Located.{onState, stateAfter, cellsFrom, Least, Located, silent, without, LocatedIn}
 use Rattle.reading.proofs.Laws.{Kept, SoundDoes}
-use Rattle.reading.proofs.Walk.{Walk, stay, gives, goes, walk-on}
+use Rattle.reading.proofs.Walk.{Walk, stay, gives, goes, walk-state, walk-on}
 
 state-on :
     {S : Type 0} (rule : Rule S) (st : S) (bs more : List ℕ) →
@@ -25,12 +25,6 @@ state-on rule st [] more = refl
 state-on rule st (b ∷ bs) more = state-on rule (onState (rule .byte st b) st) bs more
 
 module _ {S : Type 0} {rule : Rule S} where
-  walk-state : {st end : S} {bs cs : List ℕ} → Walk rule st bs cs end → stateAfter rule st bs ≡ end
-  unfolding stateAfter
-  walk-state stay = refl
-  walk-state (gives e w) = rw e (walk-state w)
-  walk-state (goes e w) = rw e (walk-state w)
-
   walk-cells : {st end : S} {bs cs : List ℕ} → Walk rule st bs cs end → (at : ℕ) → readFrom rule bs at st .cells ≡ cs
   unfolding readFrom
   walk-cells stay at = refl

@@ -6,6 +6,7 @@ use native.Mathlib.Omega.{arith}
 use native.Mathlib.Nat.{zero-add}
 use lib.ListN.{length}
 use Rattle.reading.specs.Reading.{Does, give, go, bad, accepted, fault, Rule, Reading, push, onRead, readFrom, reading}
+use Rattle.reading.specs.Located.{stateAfter}
 
 pub data Walk {S : Type 0} (rule : Rule S) : S → List ℕ → List ℕ → S → Type 0 where
   stay : {st : S} → Walk rule st [] [] st
@@ -17,6 +18,13 @@ abbrev pub pushAll : List ℕ → Reading → Reading
 pushAll cs r = record { cells = cs ++ r .cells; ending = r .ending }
 
 module _ {S : Type 0} {rule : Rule S} where
+  -- a walk leads to the state that its bytes lead to
+  pub walk-state : {st end : S} {bs cs : List ℕ} → Walk rule st bs cs end → stateAfter rule st bs ≡ end
+  unfolding stateAfter
+  walk-state stay = refl
+  walk-state (gives e w) = rw e (walk-state w)
+  walk-state (goes e w) = rw e (walk-state w)
+
   pub walk-on : {a b c : S} {bs bs' cs cs' : List ℕ} → Walk rule a bs cs b → Walk rule b bs' cs' c → Walk rule a (bs ++ bs') (cs ++ cs') c
   walk-on stay w = w
   walk-on (gives e v) w = gives e (walk-on v w)

@@ -5,3 +5,4 @@ pub mod Matching
 pub mod Inner
 pub mod Cases
 pub mod Located
+pub mod Joined

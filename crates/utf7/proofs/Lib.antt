@@ -10,3 +10,4 @@ pub mod ReadsBack
 pub mod Over
 pub mod Cases
 pub mod Located
+pub mod Joined

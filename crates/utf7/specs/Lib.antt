@@ -6,3 +6,4 @@ pub mod Lines
 pub mod Cases
 pub mod Needed
 pub mod Located
+pub mod Joined
