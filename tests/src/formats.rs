@@ -15,6 +15,8 @@ pub struct Format {
     /// The second program's reader.
     pub read: fn(&[u8]) -> Elements<u32>,
     pub readings: Vec<Group<Reading>>,
+    /// Whether two accepted texts, joined and within the limit, are read as both.
+    pub joins: fn(&[u8], &[u8]) -> bool,
     /// The second program's steps, and its steps from a cursor with any numbers.
     pub steps: fn(&[u8]) -> Steps,
     pub steps_from: fn(&[u8], &[u64]) -> Steps,
@@ -77,6 +79,8 @@ pub fn utf7() -> Format {
         faults: &[1, 2, 3, 4],
         read: utf7::read,
         readings: examples::utf7::readings(),
+        // "For UTF-7 it holds when the first ends outside a run"
+        joins: |first, _| utf7::ends_outside(first),
         steps: utf7::steps,
         steps_from: utf7::steps_from,
         has_runs: true,
@@ -103,6 +107,8 @@ pub fn jp2() -> Format {
         faults: &[1, 3, 5, 6, 7, 8],
         read: jp2::read,
         readings: examples::jp2::readings(),
+        // "two accepted JP-2 texts joined are accepted"
+        joins: |_, _| true,
         steps: jp2::steps,
         steps_from: jp2::steps_from,
         has_runs: false,
@@ -127,6 +133,8 @@ pub fn mailbox() -> Format {
         faults: &[1, 2, 3, 4, 7, 17],
         read: mailbox::read,
         readings: examples::mailbox::readings(),
+        // Order 9 says nothing of names.
+        joins: |first, second| !(mailbox::ends_in_run(first) && mailbox::begins_in_run(second)),
         steps: mailbox::steps,
         steps_from: mailbox::steps_from,
         has_runs: true,

@@ -49,6 +49,14 @@ pub fn rooms(needed: usize) -> BTreeSet<usize> {
     BTreeSet::from([0, 1, needed.saturating_sub(1), needed, needed + 1, needed + 9])
 }
 
+/// What an accepted call gives in this room.
+pub fn given<T: Element>(room: usize, call: impl FnOnce(&mut [T]) -> Answer) -> Option<Vec<T>> {
+    let mut output = filled(room);
+    let answer = call(&mut output);
+    output.truncate(answer.place);
+    (answer.number == 0).then_some(output)
+}
+
 /// Lends a call an output of this length, and compares the answer and all of the memory with the outcome expected for
 /// the output as it was.
 pub fn lend<T: Element>(

@@ -5,6 +5,7 @@ mod cursors;
 mod desk;
 mod grammar;
 mod icu;
+mod joining;
 mod lister;
 mod memory;
 mod page;
@@ -45,13 +46,15 @@ pub fn parts(settings: Settings) -> Vec<Part> {
     parts
 }
 
-/// The parts of a format: its lister, its reader, its steps, these against ICU, and its writers.
+/// The parts of a format: its lister, its reader, this on texts joined, its steps, these against ICU, and its writers.
 fn of_format<C: Cursor>(format: fn() -> Format, library: &'static Functions<C>, icu: Icu, seed: u64) -> Vec<Part> {
     let Format { name, lister, writers, .. } = format();
     assert_eq!(writers.len(), library.write.len(), "a function for each writer");
     let lister = lister
         .map(|lister| Part::new(format!("{name}-lister"), move |report| lister::run(report, &format(), &lister, seed)));
     let read = Part::new(format!("{name}-read"), move |report| reading::run(report, &format(), &library.read, seed));
+    let joined =
+        Part::new(format!("{name}-joined"), move |report| joining::run(report, &format(), &library.read, seed));
     let step = Part::new(format!("{name}-step"), move |report| stepping::run(report, &format(), &library.step, seed));
     let icu = Part::new(format!("{name}-icu"), move |report| icu::run(report, &format(), &library.step, icu, seed));
     let write = writers.into_iter().zip(library.write).map(|(writer, write)| {
@@ -59,7 +62,7 @@ fn of_format<C: Cursor>(format: fn() -> Format, library: &'static Functions<C>, 
             writing::run(report, &format(), &writer, write, &library.read, seed);
         })
     });
-    lister.into_iter().chain([read, step, icu]).chain(write).collect()
+    lister.into_iter().chain([read, joined, step, icu]).chain(write).collect()
 }
 
 /// The seeded lists that writers and the tally are tried on.

@@ -4,10 +4,9 @@
 
 use std::collections::HashMap;
 
-use super::call::Call;
+use super::call::{given, Call};
 use super::subject::Subject;
 use crate::formats::{self, Format};
-use crate::lent::{filled, Element};
 use crate::library::{self, Function};
 use crate::report::Report;
 use crate::second::LIMIT;
@@ -49,20 +48,12 @@ fn names(seed: u64) -> impl Iterator<Item = Vec<u8>> {
 
 /// The cells of a name, if the library accepts it.
 fn read(name: &[u8]) -> Option<Vec<u32>> {
-    given(&library::MAILBOX.read, name, name.len())
+    given(name.len(), |output| library::MAILBOX.read.call(name, output))
 }
 
 /// The name that the library writes these cells as, if it does.
 fn write(cells: &[u32]) -> Option<Vec<u8>> {
-    given(&library::MAILBOX.write[0], cells, 5 * cells.len())
-}
-
-/// What an accepted call gives in this room.
-fn given<I, O: Element>(function: &Function<I, O>, input: &[I], room: usize) -> Option<Vec<O>> {
-    let mut output = filled(room);
-    let answer = function.call(input, &mut output);
-    output.truncate(answer.place);
-    (answer.number == 0).then_some(output)
+    given(5 * cells.len(), |output| library::MAILBOX.write[0].call(cells, output))
 }
 
 /// That every accepted name is what its cells are written as; the count is that of the accepted names.

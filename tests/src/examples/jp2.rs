@@ -26,6 +26,16 @@ pub fn readings() -> Vec<Group<Reading>> {
         Group { name: "codes", what: "single bytes and pairs that are easy to get wrong", examples: code_readings() },
         Group { name: "spelled", what: "texts that are written so", examples: spelled.collect() },
         Group { name: "rfc-1554", what: "what RFC 1554 says of escapes and bytes", examples: rfc_readings() },
+        Group { name: "one-way", what: "order 9 of document 02 holds one way only", examples: one_way() },
+    ]
+}
+
+/// A text that is accepted behind another, and not by itself.
+fn one_way() -> Vec<Reading> {
+    vec![
+        gives("the first leaves a set in G2", b"\x1B.A", &[]),
+        refuses("the second", b"\x1BNA", 6, 1),
+        gives("joined", b"\x1B.A\x1BNA", &[0x0064_0041]),
     ]
 }
 

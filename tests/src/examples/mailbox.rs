@@ -20,7 +20,17 @@ pub fn readings() -> Vec<Group<Reading>> {
         Group { name: "edge-cases", what: "names that are easy to get wrong", examples: edge_readings() },
         Group { name: "rfc-3501", what: "every example of RFC 3501, section 5.1.3", examples: rfc_readings() },
         Group { name: "not-utf7", what: "texts that UTF-7 reads otherwise", examples: not_utf7() },
+        Group {
+            name: "not-joined",
+            what: "a name that is accepted, and not when joined to itself",
+            examples: not_joined(),
+        },
     ]
+}
+
+/// Why order 9 of document 02 does not speak of names: a run would stand directly after a run.
+fn not_joined() -> Vec<Reading> {
+    vec![gives("a name", b"&AKM-", &[0xA3]), refuses("joined to itself", b"&AKM-&AKM-", 17, 6)]
 }
 
 pub fn steppings() -> Vec<Group<Stepping>> {

@@ -21,6 +21,7 @@ pub fn readings() -> Vec<Group<Reading>> {
         Group { name: "small-cases", what: "P1 to P8 of document 01", examples: small_readings() },
         Group { name: "edge-cases", what: "texts that are easy to get wrong", examples: edge_readings() },
         Group { name: "rfc-2152", what: "every example of RFC 2152", examples: rfc_readings() },
+        Group { name: "not-joined", what: "the counterexample of order 9 of document 02", examples: not_joined() },
     ]
 }
 
@@ -42,6 +43,15 @@ pub fn writings(style: Style) -> Vec<Group<Writing>> {
         group("small-cases", "P1 to P4 and the saved page of document 01", small_writings()),
         group("edge-cases", "cells that are easy to get wrong", edge_writings()),
         group("rfc-2152", "every example of RFC 2152", rfc_writings()),
+    ]
+}
+
+/// "record the counterexample "+AKM" and "-" without that"
+fn not_joined() -> Vec<Reading> {
+    vec![
+        gives("the first ends in a run", b"+AKM", &[0xA3]),
+        gives("the second", b"-", &[0x2D]),
+        gives("joined: the second ends the run", b"+AKM-", &[0xA3]),
     ]
 }
 

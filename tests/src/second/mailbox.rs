@@ -48,6 +48,15 @@ pub fn steps_from(name: &[u8], numbers: &[u64]) -> Steps {
     reading::steps(find, name, Cursor { at: at as usize, handed: handed as usize, before })
 }
 
+/// Whether a name begins with a run, and whether it ends with one.
+pub fn begins_in_run(name: &[u8]) -> bool {
+    matches!(cut(name, 0, None).first(), Some(Part::Run(_)))
+}
+
+pub fn ends_in_run(name: &[u8]) -> bool {
+    matches!(cut(name, 0, None).last(), Some(Part::Run(_)))
+}
+
 /// What of the name before a place still matters there.
 struct Before {
     /// Whether a run stands directly before what is open, or before the place.

@@ -61,6 +61,14 @@ pub fn steps_from(text: &[u8], numbers: &[u64]) -> Steps {
     reading::steps(find, text, Cursor { at: at as usize, handed: handed as usize, before })
 }
 
+/// Whether an accepted text ends outside a run: the last, if it has one, was ended by a byte.
+pub fn ends_outside(text: &[u8]) -> bool {
+    match cut(text, 0, Before::Outside).last() {
+        Some(Piece::Run(run)) => run.end() < text.len(),
+        _ => true,
+    }
+}
+
 /// What of the text before a place still matters there.
 enum Before {
     Outside,
