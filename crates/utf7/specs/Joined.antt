@@ -25,6 +25,6 @@ pub record LettersJoined : Type 0 where
       (first second : List ℕ) → Accepted utf7 first → EndsOutside first → Accepted utf7 second →
       ReadsAsBoth utf7 first second
   pub calls : (first second : List ℕ) → EndsOutside first → CallsAsBoth utf7 first second
-  -- a run may be ended by `-` or by a byte that is read as outside it
-  pub ended : EndsOutside (bytes "+AKM-") × EndsOutside (bytes "+AKM.")
+  -- and only then: behind a text that ends in a run `-` is no cell
+  pub only : (first : List ℕ) → Accepted utf7 first → ReadsAsBoth utf7 first (bytes "-") → EndsOutside first
   pub without-that : Counterexample
