@@ -1,6 +1,7 @@
 //! Saves that are killed, at each of their system calls and at any time; calls that fail or are interrupted. The file
 //! is there after each, old or new and whole, and the next save is done.
 
+use std::cell::Cell;
 use std::collections::BTreeSet;
 use std::fs::{self, File};
 use std::io;
@@ -214,7 +215,7 @@ impl Saves {
         Ok(calls.len())
     }
 
-    /// Where a call fails either the answer is told, and the file is new; or there is a complaint, and all is as it was.
+    /// Where a call fails, either the answer is told and the file is new, or there is a complaint and all is as it was.
     fn failed(&self, mode: Option<u32>) -> Result<usize, Trouble> {
         let calls = self.calls(mode)?;
         let mut count = 0;
@@ -222,12 +223,14 @@ impl Saves {
             for error in [ENOSPC, EACCES] {
                 let at = |problem| at_call(&format!("failing with {error}"), failing, calls[failing], problem);
                 let folder = self.folder(mode)?;
-                let to_streams = &std::cell::Cell::new(false);
+                // A call more or less, as for a random number, moves the others: what counts is the one that failed.
+                let (to_streams, unlinks) = (&Cell::new(false), &Cell::new(false));
                 let seen = self.traced(&folder, mode, |number, call| {
                     if number != failing {
                         return Act::Go;
                     }
                     to_streams.set(call.number == WRITE && call.arguments[0] < 3);
+                    unlinks.set(call.number == UNLINK);
                     Act::Fail(error)
                 });
                 let seen = seen.map_err(at)?;
@@ -240,7 +243,7 @@ impl Saves {
                     let complaint = ended.unwrap_or(&seen.errors);
                     let lines = complaint.split_inclusive(|&byte| byte == b'\n').count();
                     let complains = lines == 1 && complaint.starts_with(b"desk: ") && ended.is_some() == is_lost;
-                    if !told && !complains || lines > 1 || !left.is_empty() && calls[failing] != UNLINK {
+                    if !told && !complains || lines > 1 || !left.is_empty() && !unlinks.get() {
                         return Err(at(format!("it says {}, {left:?}", seen.errors.escape_ascii()).into()));
                     }
                 }
