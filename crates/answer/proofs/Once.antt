@@ -7,7 +7,7 @@ use lib.Dec.{eqb, lit<}
 use borrow.Author.Tests.{ne-eqb}
 use Rattle.answer.specs.Answer.{limit, Verdict, numberOf, inNumbers}
 use Rattle.answer.specs.declared.Refusal.{Refusal}
-use Rattle.answer.specs.declared.Refusal.the-variants.{HighByte, LoneSign, StrayByte, LeftOverBits, UnknownEscape, EmptyG2, CutShort, NotAscii, NoRoom, Unwritable, BeyondLength, HistoryFull, NothingLeft, Unsound, NotTheText, OverLimit, NeedlessShift}
+use Rattle.answer.specs.declared.Refusal.the-variants.{HighByte, LoneSign, StrayByte, LeftOverBits, UnknownEscape, EmptyG2, CutShort, NotAscii, NoRoom, Unwritable, BeyondLength, HistoryFull, NothingLeft, Unsound, NotTheText, OverLimit, NeedlessShift, BadPageFile}
 use Rattle.answer.specs.declared.Answer.{Answer}
 use Rattle.answer.specs.declared.Answer.the-variants.{Accepted, Refused}
 
@@ -26,7 +26,7 @@ named k =
     (cond (eqb k 10) Unwritable
     (cond (eqb k 11) BeyondLength
     (cond (eqb k 12) HistoryFull
-    (cond (eqb k 13) NothingLeft (cond (eqb k 14) Unsound (cond (eqb k 15) NotTheText (cond (eqb k 16) OverLimit NeedlessShift)))))))))))))))
+    (cond (eqb k 13) NothingLeft (cond (eqb k 14) Unsound (cond (eqb k 15) NotTheText (cond (eqb k 16) OverLimit (cond (eqb k 17) NeedlessShift BadPageFile))))))))))))))))
 
 named-number : (why : Refusal) → named (numberOf why) ≡ why
 unfolding named
@@ -47,6 +47,7 @@ named-number Unsound = refl
 named-number NotTheText = refl
 named-number OverLimit = refl
 named-number NeedlessShift = refl
+named-number BadPageFile = refl
 
 -- no refusal has the number 0
 pub number-pos : (why : Refusal) → 0 < numberOf why
@@ -67,6 +68,7 @@ number-pos Unsound = lit< tt
 number-pos NotTheText = lit< tt
 number-pos OverLimit = lit< tt
 number-pos NeedlessShift = lit< tt
+number-pos BadPageFile = lit< tt
 
 -- the answer of a number and a place
 pub answered : Verdict → Answer

@@ -6,7 +6,7 @@ ghost use Rattle.answer.specs.Answer.{limit, tooLong, inNumbers, numberO
 // "over 65,536": the most elements that a lent text, list, text buffer or history may have.
 pub const LIMIT: usize = 65536;
 
-// Why a call was refused, in the order of document 01's table, from number 1 on; the last is document 02's, order 1: needless shift.
+// Why a call was refused, in the order of document 01's table, from number 1 on; those from 17 on are document 02's, orders 1 and 6.
 pub enum Refusal {
     HighByte,
     LoneSign,
@@ -25,6 +25,7 @@ pub enum Refusal {
     NotTheText,
     OverLimit,
     NeedlessShift,
+    BadPageFile,
 }
 
 // Accepted with the count of elements, or refused with the place.
@@ -67,6 +68,7 @@ fn refusal_number(why: Refusal) -> u32
         Refusal::NotTheText => 15,
         Refusal::OverLimit => 16,
         Refusal::NeedlessShift => 17,
+        Refusal::BadPageFile => 18,
     }
 }
 
