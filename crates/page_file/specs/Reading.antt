@@ -1,0 +1,74 @@
+-- Document 02, order 6: reading the lines of a page file.
+use Prim.Native.Nat.{ℕ}
+use Prim.Native.String.{String}
+use mathlib.Core.List.{List}
+use Rattle.answer.specs.Bytes.{bytes}
+use Rattle.codec.specs.declared.Kind.{Kind}
+use Rattle.codec.specs.declared.Kind.the-variants.{Utf7Header, Utf7Body, Jp2}
+use Rattle.editor.specs.declared.Mark.{Mark}
+use Rattle.editor.specs.declared.Mark.the-variants.{None, At}
+use Rattle.parsing.specs.Parsing.{Parsed, found, failed, Parser, done, _>>=_, _>>_, either, literal, Whole, wholly}
+use Rattle.parsing.specs.Digits.{number, list, LF}
+use Rattle.page_file.specs.File.{Content, Form, form1}
+
+-- a key and '='
+abbrev pub keyed : String → Parser Unit
+keyed key = do
+  literal (bytes key)
+  literal (bytes "=")
+
+-- a line of which the value is parsed
+abbrev pub lineOf : {A : Type 0} → String → Parser A → Parser A
+lineOf key value = do
+  keyed key
+  v ← value
+  literal LF
+  done v
+
+-- a line of hex digits: at least and at most so many groups of k
+abbrev pub listOf : String → (k least most : ℕ) → Parser (List ℕ)
+listOf key k least most = do
+  keyed key
+  list k least most
+
+-- a name that stands for a value
+abbrev pub named : {A : Type 0} → String → A → Parser A
+named name a = do
+  literal (bytes name)
+  done a
+
+abbrev pub kindName : Parser Kind
+kindName = either (named "utf7h" Utf7Header) (either (named "utf7b" Utf7Body) (named "jp2" Jp2))
+
+module _ (form : Form) where
+  abbrev pub decimal : Parser ℕ
+  decimal = number 10 (form .width) (form .bound)
+
+  abbrev pub mark : Parser Mark
+  mark = either (named "none" None) (do
+    n ← decimal
+    done (At n))
+
+  -- what the ten lines keep
+  abbrev pub linesOf : Parser Content
+  linesOf = do
+    lineOf "form" (literal (bytes (form .name)))
+    kind ← lineOf "kind" kindName
+    opening ← lineOf "opening" decimal
+    length ← lineOf "length" decimal
+    used ← lineOf "used" decimal
+    past ← lineOf "done" decimal
+    saved ← lineOf "saved" mark
+    arrived ← listOf "arrived" 2 0 (form .bound)
+    text ← listOf "text" 8 length length
+    history ← listOf "history" 8 used used
+    done (record {
+      page = record { kind = kind; opening = opening; length = length; used = used; done = past; saved = saved };
+      arrived = arrived;
+      text = text;
+      history = history;
+    })
+
+-- what a file keeps, or the place of 18
+unfoldable pub parse : List ℕ → Whole Content
+parse file = wholly (linesOf form1 file 0)
