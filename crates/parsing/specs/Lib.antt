@@ -1,2 +1,3 @@
 pub mod Parsing
 pub mod Digits
+pub mod Cases
