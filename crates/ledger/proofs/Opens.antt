@@ -28,7 +28,7 @@ use Rattle.ledger.specs.Calls.{over, noPage, openRead, openOf}
 use Rattle.ledger.specs.Demand.{OpenRefused}
 use Rattle.ledger.proofs.Lying.{page-lays}
 
-or-parts : (a b : Bool) → (a || b) ≡ false → (a ≡ false) × (b ≡ false)
+pub or-parts : (a b : Bool) → (a || b) ≡ false → (a ≡ false) × (b ≡ false)
 or-parts true b e = absurd (false≢true (sym e))
 or-parts false b e = (refl, e)
 

@@ -1,4 +1,5 @@
 pub mod File
 pub mod Reading
 pub mod Calls
+pub mod Promises
 pub mod Cases
