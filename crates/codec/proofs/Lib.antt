@@ -4,3 +4,4 @@ pub mod Sizes
 pub mod Cases
 pub mod Faults
 pub mod Demand
+pub mod Bounds
