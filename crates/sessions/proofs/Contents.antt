@@ -1,0 +1,166 @@
+-- What is kept of a page that a ledger determines is in form, and the bytes opened on belong to it. Assumes nothing.
+use Prim.Native.Nat.{ℕ, _+_, _≤_, _<_, _^_}
+use mathlib.Core.Path.{_≡_, refl, sym, ap, _∙_, subst}
+use mathlib.Core.Bool.{Bool, true, false, _&&_, false≢true}
+use mathlib.Core.List.{List, [], _∷_, _++_, map, reverseAux, reverse, reverseAux-eq, cons≢nil}
+use mathlib.Core.Option.{Option, none, some}
+use native.Mathlib.Omega.{arith}
+use lib.ListN.{length, take}
+use lib.Dec.{eqb, lit<}
+use borrow.Author.Tests.{eqb-true}
+use Rattle.answer.specs.Answer.{limit}
+use Rattle.answer.specs.Lists.{Each}
+use Rattle.answer.proofs.Below.{both, cond-case}
+use Rattle.reading.specs.Reading.{Ending, accepted, fault}
+use Rattle.reading.specs.Matching.{sameCells, acceptedAs}
+use Rattle.codec.specs.declared.Kind.{Kind}
+use Rattle.codec.specs.Kinds.{readingIn, readsIn, readsAs}
+use Rattle.codec.proofs.Bounds.{Word, arrived-bytes}
+use Rattle.editor.specs.declared.Mark.{Mark}
+use Rattle.editor.specs.declared.Mark.the-variants.{None, At}
+use Rattle.editor.specs.Ledger.{Step, Ledger, textAfter}
+use Rattle.editor.specs.Records.{Entry, stepOf, markFits}
+use Rattle.editor.specs.Editor.{Editor}
+use Rattle.editor.proofs.Steps.{recordsOf, recordsBack, records-in-order, text-standing}
+use Rattle.editor.proofs.Ends.{entries}
+use Rattle.editor.proofs.Held.{Frame, textAt, editorOf, ledgerOf, Good, legal-of}
+use Rattle.editor.proofs.Promises.{Kept}
+use Rattle.ledger.specs.Words.{Parted, inWords, sizes}
+use Rattle.ledger.specs.Page.{State, records}
+use Rattle.ledger.specs.Layout.{page, editorFor}
+use Rattle.ledger.specs.declared.Page.{Page}
+use Rattle.ledger.proofs.Words.{words, take-pad, length-words, sizes-reverse}
+use Rattle.ledger.proofs.Marks.{weight-sizes}
+use Rattle.ledger.proofs.Lying.{pageOf, Lies, page-lays}
+use Rattle.page_file.specs.File.{Content, form1, markWithin, InForm}
+use Rattle.page_file.specs.Calls.{contentOf, belongs}
+use Rattle.page_file.proofs.Calls.{belongs-means}
+use Rattle.sessions.proofs.Cells.{Words, Adds, text-words, records-words, steps-words}
+use Rattle.sessions.proofs.Rooms.{ends-below}
+
+-- what reading as cells means
+same-means : (xs ys : List ℕ) → sameCells xs ys ≡ true → xs ≡ ys
+unfolding sameCells
+same-means [] [] = λ h. refl
+same-means [] (y ∷ ys) = λ h. absurd (false≢true h)
+same-means (x ∷ xs) [] = λ h. absurd (false≢true h)
+same-means (x ∷ xs) (y ∷ ys) =
+    cond-case (λ (b : Bool). b ≡ true → x ∷ xs ≡ y ∷ ys) (eqb x y)
+    (λ e h i. eqb-true x y e i ∷ same-means xs ys h i) (λ _ h. absurd (false≢true h))
+
+accepted-means :
+    (e : Ending) (read cells : List ℕ) → acceptedAs e read cells ≡ true → (e ≡ accepted) × (read ≡ cells)
+accepted-means accepted read cells h = (refl, same-means read cells h)
+accepted-means (fault k place) read cells h = absurd (false≢true h)
+
+pub reads-means :
+    (kind : Kind) (text cells : List ℕ) → readsAs kind text cells ≡ true →
+    (readingIn kind text .ending ≡ accepted) × (readingIn kind text .cells ≡ cells)
+unfolding readsIn
+reads-means kind text cells h = accepted-means (readingIn kind text .ending) (readingIn kind text .cells) cells h
+
+-- what is kept of the page in which an editor lies
+abbrev pub contentIn : ℕ → List ℕ → Editor → Content
+contentIn opening arrived e =
+    record {
+      page = pageOf opening 0 e .page;
+      arrived = arrived;
+      text = e .text;
+      history = words (entries e);
+    }
+
+pub content-is :
+    (arrived : List ℕ) {n : ℕ} {s : State} {e : Editor} → Lies n s e → contentOf s arrived ≡ contentIn n arrived e
+content-is arrived {n} {s} {e} l =
+    rw (l .state)
+    (λ i. record {
+      page = pageOf n 0 e .page;
+      arrived = arrived;
+      text = take-pad (e .room) (e .text) i;
+      history = take-pad (l .space) (words (entries e)) i;
+    })
+
+mark-within : (m : Mark) (es : List Entry) → markFits inWords m (map stepOf es) ≡ true → sizes es ≤ limit → markWithin form1 m
+mark-within None es h k = tt
+mark-within (At n) es h k = omega (arith, ends-below inWords (map stepOf es) n h, weight-sizes es)
+
+module _ {arrived : List ℕ} {s : State} {l : Ledger} (k : Kept page-lays arrived s l) where
+  abbrev o : Frame arrived
+  o = k .frame
+
+  abbrev here : Editor
+  here = editorOf o (k .back) (k .undone)
+
+  abbrev pub kept : Content
+  kept = contentIn (length (o .reading)) arrived here
+
+  pub kept-is : contentOf s arrived ≡ kept
+  kept-is = content-is arrived (k .lies)
+
+  limit-word : limit < 2 ^ 32
+  unfolding limit
+  limit-word = lit< tt
+
+  text-held : Words l → Each Word (here .text)
+  text-held h =
+      subst (Each Word) (text-standing (o .reading) (k .back))
+      (subst (λ (l : Ledger). Each Word (textAfter (l .reading) (l .standing))) (k .ledger)
+      (text-words (l .reading) (l .standing) (h .standing) (h .reading)))
+
+  words-held : Words l → Each Word (words (entries here))
+  words-held h =
+      let steps : Each Adds (reverse (k .back) ++ k .undone) =
+      subst (λ (l : Ledger). Each Adds (l .standing ++ l .undone)) (k .ledger) (steps-words h) in
+      let reading : Each Word (o .reading) = subst (λ (l : Ledger). Each Word (l .reading)) (k .ledger) (h .reading) in
+      rw (← records-in-order (o .reading) (k .back) (k .undone))
+      (records-words (o .room) (o .reading) (reverseAux (k .back) (k .undone))
+      (omega (arith, k .lies .small-text, limit-word)) (k .good .fits)
+      (rw (reverseAux-eq (k .back) (k .undone)) steps)
+      reading)
+
+  pub in-form : Words l → InForm form1 kept
+  in-form h =
+      let legal = k .lies .legal in
+      let counted : length (words (entries here)) ≡ sizes (entries here) = length-words (entries here) in
+      let parted : sizes (entries here) ≡ sizes (here .standing) + sizes (here .undone) =
+      sizes-reverse (here .standing) (here .undone) in
+      let few : length (words (entries here)) ≤ limit = omega (arith, k .lies .few, k .lies .small-history) in
+      record {
+        opening = omega (arith, legal .opens, k .lies .small-text);
+        size = omega (arith, legal .room, k .lies .small-text);
+        used = few;
+        done = omega arith;
+        saved = mark-within (o .mark) (entries here) (legal .marked) (omega arith);
+        few = k .good .few;
+        text = refl;
+        history = refl;
+        bytes = arrived-bytes (o .kind) arrived (reads-means (o .kind) arrived (o .reading) (k .good .reads) .0);
+        cells = text-held h;
+        words = words-held h;
+      }
+
+  -- no 15 for the bytes opened on
+  nothing-text : (back : List Step) → recordsBack (o .reading) back ≡ [] → textAt o back ≡ o .reading
+  nothing-text [] e = refl
+  nothing-text (x ∷ back) e = absurd (cons≢nil e)
+
+  pub belongs-here : belongs kept (here .standing) ≡ true
+  belongs-here =
+      let r = reads-means (o .kind) arrived (o .reading) (k .good .reads) in
+      belongs-means kept (here .standing) .1
+      (r .0, ap length (r .1), (λ e. rw (nothing-text (k .back) e) (k .good .reads)))
+
+  -- the records that are found are the editor's
+  found-some : (x : Option Parted) → editorFor s x ≡ some here → (v : Parted) × (x ≡ some v) × (v .standing ≡ here .standing)
+  found-some none e =
+      let z : _≡_ {A = ℕ} 0 1 = cc in
+      absurd (omega arith)
+  found-some (some v) e =
+      let f = some-is _ _ e in
+      (v, refl, ap (λ (e : Editor). e .standing) f)
+    where
+      some-is : (a b : Editor) → some a ≡ some b → a ≡ b
+      some-is a b e = cc
+
+  pub found-here : (v : Parted) × (records s ≡ some v) × (v .standing ≡ here .standing)
+  found-here = found-some (records s) (page-lays .sees (k .lies))
