@@ -15,8 +15,10 @@ use Rattle.answer.specs.Output as output
 use Rattle.answer.specs.Output.{deliver}
 use Rattle.answer.proofs.Below.{both, cond-case}
 use Rattle.reading.specs.Reading.{Ending, accepted, fault}
+use Rattle.reading.specs.Matching.{sameCells, acceptedAs}
 use Rattle.codec.specs.declared.Kind.the-variants.{Utf7Header}
-use Rattle.codec.specs.Kinds.{readingIn, readsAs}
+use Rattle.codec.specs.declared.Kind.{Kind}
+use Rattle.codec.specs.Kinds.{readingIn, readsIn, readsAs}
 use Rattle.editor.specs.Layout.{taken}
 use Rattle.editor.specs.Demand.{Unchanged}
 use Rattle.editor.proofs.Steps.{and-true}
@@ -37,6 +39,27 @@ pub files : Files
 files =
     record { reads-back = file-reads; right = parse-right; one-place = only-there; one-file = one-spelling }
 
+-- what reading as cells means
+same-means : (xs ys : List ℕ) → sameCells xs ys ≡ true → xs ≡ ys
+unfolding sameCells
+same-means [] [] = λ h. refl
+same-means [] (y ∷ ys) = λ h. absurd (false≢true h)
+same-means (x ∷ xs) [] = λ h. absurd (false≢true h)
+same-means (x ∷ xs) (y ∷ ys) =
+    cond-case (λ (b : Bool). b ≡ true → x ∷ xs ≡ y ∷ ys) (eqb x y)
+    (λ e h i. eqb-true x y e i ∷ same-means xs ys h i) (λ _ h. absurd (false≢true h))
+
+accepted-means :
+    (e : Ending) (read cells : List ℕ) → acceptedAs e read cells ≡ true → (e ≡ accepted) × (read ≡ cells)
+accepted-means accepted read cells h = (refl, same-means read cells h)
+accepted-means (fault k place) read cells h = absurd (false≢true h)
+
+pub reads-means :
+    (kind : Kind) (text cells : List ℕ) → readsAs kind text cells ≡ true →
+    (readingIn kind text .ending ≡ accepted) × (readingIn kind text .cells ≡ cells)
+unfolding readsIn
+reads-means kind text cells h = accepted-means (readingIn kind text .ending) (readingIn kind text .cells) cells h
+
 -- what 15 is not given for
 count-is : (n : ℕ) (e : Ending) (cells : List ℕ) → countIs n e cells ≡ true → (e ≡ accepted) × (length cells ≡ n)
 count-is n accepted cells h = (refl, eqb-true (length cells) n h)
@@ -44,6 +67,10 @@ count-is n (fault k place) cells h = absurd (false≢true h)
 
 is-count : (n : ℕ) (e : Ending) (cells : List ℕ) → e ≡ accepted → length cells ≡ n → countIs n e cells ≡ true
 is-count n e cells h k = rw h (eq-eqb (length cells) n k)
+
+and-false : (a : Bool) → (a && false) ≡ false
+and-false true = refl
+and-false false = refl
 
 module _ (c : Content) where
   text-is : (standing : List Entry) → textIs c standing ≡ true → standing ≡ [] → readsAs (c .page .kind) (c .arrived) (c .text) ≡ true
@@ -63,6 +90,18 @@ module _ (c : Content) where
     (n .0, n .1, text-is standing (b .1))),
     (λ (e, n, t). and-true _ _ (is-count (c .page .opening) _ _ e n) (is-text standing t)),
   )
+
+  -- with nothing standing, bytes that read as the text read as opening cells, where it is as long as it was
+  pub belongs-nothing :
+      length (c .text) ≡ c .page .opening → belongs c [] ≡ readsAs (c .page .kind) (c .arrived) (c .text)
+  unfolding belongs
+  belongs-nothing same = by-reading (readsAs (c .page .kind) (c .arrived) (c .text)) refl
+    where
+      by-reading : (t : Bool) → readsAs (c .page .kind) (c .arrived) (c .text) ≡ t → belongs c [] ≡ t
+      by-reading true e =
+          let r = reads-means (c .page .kind) (c .arrived) (c .text) e in
+          belongs-means [] .1 (r .0, ap length (r .1) ∙ same, (λ _. e))
+      by-reading false e = rw e (and-false (counted (c .page .opening) (readingIn (c .page .kind) (c .arrived))))
 
 -- keeping fills an output with the file, or leaves it
 abbrev Leaves : List ℕ → output.Outcome → Type 0

@@ -1,20 +1,14 @@
 -- What is kept of a page that a ledger determines is in form, and the bytes opened on belong to it. Assumes nothing.
 use Prim.Native.Nat.{ℕ, _+_, _≤_, _<_, _^_}
 use mathlib.Core.Path.{_≡_, refl, sym, ap, _∙_, subst}
-use mathlib.Core.Bool.{Bool, true, false, _&&_, false≢true}
+use mathlib.Core.Bool.{true}
 use mathlib.Core.List.{List, [], _∷_, _++_, map, reverseAux, reverse, reverseAux-eq, cons≢nil}
 use mathlib.Core.Option.{Option, none, some}
 use native.Mathlib.Omega.{arith}
-use lib.ListN.{length, take}
-use lib.Dec.{eqb, lit<}
-use borrow.Author.Tests.{eqb-true}
+use lib.ListN.{length}
+use lib.Dec.{lit<}
 use Rattle.answer.specs.Answer.{limit}
 use Rattle.answer.specs.Lists.{Each}
-use Rattle.answer.proofs.Below.{both, cond-case}
-use Rattle.reading.specs.Reading.{Ending, accepted, fault}
-use Rattle.reading.specs.Matching.{sameCells, acceptedAs}
-use Rattle.codec.specs.declared.Kind.{Kind}
-use Rattle.codec.specs.Kinds.{readingIn, readsIn, readsAs}
 use Rattle.codec.proofs.Bounds.{Word, arrived-bytes}
 use Rattle.editor.specs.declared.Mark.{Mark}
 use Rattle.editor.specs.declared.Mark.the-variants.{None, At}
@@ -34,30 +28,9 @@ use Rattle.ledger.proofs.Marks.{weight-sizes}
 use Rattle.ledger.proofs.Lying.{pageOf, Lies, page-lays}
 use Rattle.page_file.specs.File.{Content, form1, markWithin, InForm}
 use Rattle.page_file.specs.Calls.{contentOf, belongs}
-use Rattle.page_file.proofs.Calls.{belongs-means}
+use Rattle.page_file.proofs.Calls.{reads-means, belongs-means}
 use Rattle.sessions.proofs.Cells.{Words, Adds, text-words, records-words, steps-words}
 use Rattle.sessions.proofs.Rooms.{ends-below}
-
--- what reading as cells means
-same-means : (xs ys : List ℕ) → sameCells xs ys ≡ true → xs ≡ ys
-unfolding sameCells
-same-means [] [] = λ h. refl
-same-means [] (y ∷ ys) = λ h. absurd (false≢true h)
-same-means (x ∷ xs) [] = λ h. absurd (false≢true h)
-same-means (x ∷ xs) (y ∷ ys) =
-    cond-case (λ (b : Bool). b ≡ true → x ∷ xs ≡ y ∷ ys) (eqb x y)
-    (λ e h i. eqb-true x y e i ∷ same-means xs ys h i) (λ _ h. absurd (false≢true h))
-
-accepted-means :
-    (e : Ending) (read cells : List ℕ) → acceptedAs e read cells ≡ true → (e ≡ accepted) × (read ≡ cells)
-accepted-means accepted read cells h = (refl, same-means read cells h)
-accepted-means (fault k place) read cells h = absurd (false≢true h)
-
-pub reads-means :
-    (kind : Kind) (text cells : List ℕ) → readsAs kind text cells ≡ true →
-    (readingIn kind text .ending ≡ accepted) × (readingIn kind text .cells ≡ cells)
-unfolding readsIn
-reads-means kind text cells h = accepted-means (readingIn kind text .ending) (readingIn kind text .cells) cells h
 
 -- what is kept of the page in which an editor lies
 abbrev pub contentIn : ℕ → List ℕ → Editor → Content

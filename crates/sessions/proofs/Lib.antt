@@ -4,3 +4,4 @@ pub mod Contents
 pub mod Restores
 pub mod Sessions
 pub mod Demand
+pub mod Cases
