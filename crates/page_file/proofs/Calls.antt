@@ -85,9 +85,9 @@ module _ (c : Content) where
   unfolding belongs
   belongs-means standing = (
     (λ h.
-    let b = both (counted (c .page .opening) (readingIn (c .page .kind) (c .arrived))) (textIs c standing) h in
-    let n = count-is (c .page .opening) _ _ (b .0) in
-    (n .0, n .1, text-is standing (b .1))),
+        let b = both (counted (c .page .opening) (readingIn (c .page .kind) (c .arrived))) (textIs c standing) h in
+        let n = count-is (c .page .opening) _ _ (b .0) in
+        (n .0, n .1, text-is standing (b .1))),
     (λ (e, n, t). and-true _ _ (is-count (c .page .opening) _ _ e n) (is-text standing t)),
   )
 

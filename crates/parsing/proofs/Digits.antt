@@ -11,7 +11,7 @@ use lib.Dec.{ltb, leb, eqb, lit<, lit≤}
 use borrow.Author.Tests.{ltb-true, ltb-false, leb-true, eqb-true, lt-ltb, le-leb, le-ltb}
 use Rattle.answer.specs.Lists.{Each}
 use Rattle.answer.proofs.Below.{both, cond-case, allBelow, below}
-use Rattle.parsing.specs.Parsing.{Parsed, found, failed, Parser, onParsed, done, _>>=_, _>>_, either, literal, Begins, FirstFault}
+use Rattle.parsing.specs.Parsing.{Parsed, found, failed, Parser, onParsed, done, _>>=_, _>>_, either, literal, Language, Begins, FirstFault}
 use Rattle.parsing.specs.Digits.{figures, digit, placeIn, valueOf, digits, groups, digitWhere, numberFrom, number, LF, withMore, lineEnd, list}
 use Rattle.parsing.proofs.Laws.{Judged, Parses, parses-as, Then, parses-then, Or, Apart, parses-either, parses-done, Is, parses-literal}
 
@@ -123,10 +123,10 @@ parses-end =
 
 module _ (k : ℕ) (digital : 0 < k) where
   -- one number in front of others
-  abbrev More : (List ℕ → List ℕ → Type 0) → List ℕ → List ℕ → Type 0
+  abbrev More : Language (List ℕ) → List ℕ → List ℕ → Type 0
   More L xs w = (y : ℕ) × (ys : List ℕ) × (u : List ℕ) × (y < 16 ^ k) × L ys u × (xs ≡ y ∷ ys) × (w ≡ digits 16 k y ++ u)
 
-  parses-more : {m : Parser (List ℕ)} {L : List ℕ → List ℕ → Type 0} → Parses m L → Parses (withMore k m) (More L)
+  parses-more : {m : Parser (List ℕ)} {L : Language (List ℕ)} → Parses m L → Parses (withMore k m) (More L)
   parses-more p =
       let pos : 1 ≤ 16 ^ k = one-le-pow k 16 (lit< tt) in
       parses-as

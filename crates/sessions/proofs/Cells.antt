@@ -56,9 +56,17 @@ records-words room text (x ∷ rest) few f h k =
     let added : Word (length (x .added)) = omega (arith, after, fits-first room (stepped x text) rest (f .2)) in
     let cells : Each Word (removed ++ x .added) =
     each-append Word removed (x .added)
-    (each-take Word (drop (x .place) text) (x .count) (each-drop Word text (x .place) k)) (h .0) in
-    (place, (count, (added, each-append Word (removed ++ x .added) (words (recordsOf (stepped x text) rest)) cells
-    (records-words room (stepped x text) rest few (f .2) (h .1) (stepped-words x text (h .0) k)))))
+    (each-take Word (drop (x .place) text) (x .count) (each-drop Word text (x .place) k)) (h .0) in (
+      place,
+      (
+        count,
+        (
+          added,
+          each-append Word (removed ++ x .added) (words (recordsOf (stepped x text) rest)) cells
+              (records-words room (stepped x text) rest few (f .2) (h .1) (stepped-words x text (h .0) k)),
+        ),
+      ),
+    )
 
 -- a ledger that read and added 32-bit numbers
 pub record Words (l : Ledger) : Type 0 where

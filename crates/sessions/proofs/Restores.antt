@@ -140,9 +140,10 @@ module _ {bytes : List ℕ} {s : State} {l : Ledger} (k : Kept page-lays bytes s
           let h : length all ≤ length history = rw c at (a .history-room) in
           let sound : Sound there (a .parted) =
           subst (Whole (Sound there)) (rw c at (a .sound)) (records-sound there) in
-          rw (a .outcome, c)
-          (kept-there (good-there t (a .parted) sound) h (a .text-few) (a .history-few),
-          take-pad (length arrived) bytes)
+          rw (a .outcome, c) (
+            kept-there (good-there t (a .parted) sound) h (a .text-few) (a .history-few),
+            take-pad (length arrived) bytes,
+          )
 
       pub restore-accepted :
           RoomFor s bytes arrived text history →
