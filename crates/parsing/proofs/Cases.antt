@@ -9,4 +9,4 @@ pub hold : AllHold
 unfolding literal valueOf digits groups digitWhere numberFrom list
 hold = refl and refl and refl and refl and refl and refl and refl and refl and refl and refl and refl and refl and refl
     and refl and refl and refl and refl and refl and refl and refl and refl and refl and refl and refl and refl and refl
-    and refl and refl and tt
+    and refl and refl and refl and refl and tt

@@ -5,24 +5,28 @@ use mathlib.Core.Path.{_≡_}
 use mathlib.Core.List.{List, [], _∷_}
 use Rattle.answer.specs.Bytes.{bytes}
 use Rattle.answer.specs.Lists.{Each}
-use Rattle.parsing.specs.Parsing.{Parsed, found, failed, either, literal}
+use Rattle.parsing.specs.Parsing.{Parsed, found, failed, either, literal, broken, wholly}
 use Rattle.parsing.specs.Digits.{digits, groups, number, list}
 
 pub data Case : Type 0 where
   -- a number by so many digits of a base; numbers by so many hex digits each
   spells : (base width n : ℕ) → String → Case
   joins : (width : ℕ) → List ℕ → String → Case
-  -- a number of five digits, at most 65,536; a list of pairs of hex digits, at least and at most so many; one of two words
+  -- a number of five digits, at most 65,536; a list of pairs of hex digits, at least and at most so many; one of two
+  -- words; a word and nothing behind it
   counts : String → Parsed ℕ → Case
   lists : (least most : ℕ) → String → Parsed (List ℕ) → Case
   chooses : String → String → String → ℕ → Case
+  ends : String → String → ℕ → Case
 
 abbrev pub Holds : Case → Type 0
 Holds (spells base width n text) = digits base width n ≡ bytes text
 Holds (joins width ns text) = groups width ns ≡ bytes text
 Holds (counts text result) = number 10 5 65536 (bytes text) 0 ≡ result
 Holds (lists least most text result) = list 2 least most (bytes text) 0 ≡ result
-Holds (chooses one other text place) = either (literal (bytes one)) (literal (bytes other)) (bytes text) 0 ≡ failed place
+Holds (chooses one other text place) =
+    either (literal (bytes one)) (literal (bytes other)) (bytes text) 0 ≡ failed place
+Holds (ends word text place) = wholly (literal (bytes word) (bytes text) 0) ≡ broken place
 
 abbrev pub cases : List Case
 cases =
@@ -59,6 +63,8 @@ cases =
     -- the further of two failures, whichever it is
     ∷ chooses "utf7b" "jp2" "utf8" 3
     ∷ chooses "jp2" "utf7b" "utf8" 3
+    ∷ ends "jp2" "jp2␊" 3
+    ∷ ends "jp2" "jp" 2
     ∷ []
 
 abbrev pub AllHold : Type 0
