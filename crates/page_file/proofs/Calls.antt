@@ -1,5 +1,5 @@
--- Keeping and reading page files: 16 first, what 15 asks, refusals change nothing, and a file that is read is kept again
--- as the same bytes. Assumes nothing.
+-- Keeping and reading page files: 16 first, what 15 asks, refusals change nothing, and a file that is read is kept
+-- again as the same bytes. Assumes nothing.
 use Prim.Native.Nat.{ℕ, _≤_}
 use mathlib.Core.Path.{_≡_, refl, sym, ap, _∙_}
 use mathlib.Core.Bool.{Bool, true, false, _&&_, _||_, false≢true}
@@ -73,11 +73,15 @@ and-false true = refl
 and-false false = refl
 
 module _ (c : Content) where
-  text-is : (standing : List Entry) → textIs c standing ≡ true → standing ≡ [] → readsAs (c .page .kind) (c .arrived) (c .text) ≡ true
+  text-is :
+      (standing : List Entry) → textIs c standing ≡ true → standing ≡ [] →
+      readsAs (c .page .kind) (c .arrived) (c .text) ≡ true
   text-is [] h e = h
   text-is (x ∷ back) h e = absurd (cons≢nil e)
 
-  is-text : (standing : List Entry) → (standing ≡ [] → readsAs (c .page .kind) (c .arrived) (c .text) ≡ true) → textIs c standing ≡ true
+  is-text :
+      (standing : List Entry) → (standing ≡ [] → readsAs (c .page .kind) (c .arrived) (c .text) ≡ true) →
+      textIs c standing ≡ true
   is-text [] h = h refl
   is-text (x ∷ back) h = refl
 
@@ -219,7 +223,9 @@ module _ (arrived text history file : List ℕ) where
       parsed-finds (ltb-false limit (length text) (p .0)) (ltb-false limit (length history) (p .1)) (parse file) refl)
 
   module _ (out : List ℕ) where
-    again : {o : Outcome} → Accepts arrived text history file o → keepOf (o .state) (take (o .verdict .place) (o .output)) out ≡ deliver file out
+    again :
+        {o : Outcome} → Accepts arrived text history file o →
+        keepOf (o .state) (take (o .verdict .place) (o .output)) out ≡ deliver file out
     unfolding keepOf keepParted
     again a =
         let c : Content = a .content in

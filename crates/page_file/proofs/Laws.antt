@@ -18,7 +18,8 @@ use Rattle.codec.specs.declared.Kind.{Kind}
 use Rattle.codec.specs.declared.Kind.the-variants.{Utf7Header, Utf7Body, Jp2}
 use Rattle.editor.specs.declared.Mark.{Mark}
 use Rattle.editor.specs.declared.Mark.the-variants.{None, At}
-use Rattle.parsing.specs.Parsing.{Parser, literal, done, _>>=_, Language, FirstFault, Whole, whole, broken, wholly, Right}
+use Rattle.parsing.specs.Parsing.{Parser, literal, done, _>>=_, Language, FirstFault, Whole, whole, broken, wholly}
+use Rattle.parsing.specs.Parsing.{Right}
 use Rattle.parsing.specs.Digits.{digit, digits, groups, LF}
 use Rattle.parsing.proofs.Laws.{Parses, parses-as, Then, parses-then, Or, Apart, parses-either, parses-done, Is}
 use Rattle.parsing.proofs.Laws.{parses-literal, first-once, whole-reads, whole-right}
@@ -202,7 +203,8 @@ module _ (form : Form) (some-digits : 0 < form .width) (enough : form .bound < 1
   within : (n m : ℕ) (xs : List ℕ) → m ≡ n → Sized m xs → Within 8 n n xs
   within n m xs e (a, c) = (omega arith, omega arith, c)
 
-  parses-form : Parses (lineOf "form" (literal (bytes (form .name)))) (Spelled Any (λ _. line "form" (bytes (form .name))))
+  parses-form :
+      Parses (lineOf "form" (literal (bytes (form .name)))) (Spelled Any (λ _. line "form" (bytes (form .name))))
   parses-form =
       parses-line "form" (parses-as (parses-literal (bytes (form .name))) (λ _ _ e. (tt, e)) (λ _ _ e. e .1))
 
@@ -224,11 +226,13 @@ module _ (form : Form) (some-digits : 0 < form .width) (enough : form .bound < 1
         history = history;
       }))
       (λ c w.
-      ((((((((((Unit {0} × (tt {0} ≡ tt {0})) × (c .page .kind ≡ kind)) × (c .page .opening ≡ opening)) × (c .page .length ≡ size))
+      ((((((((((Unit {0} × (tt {0} ≡ tt {0})) × (c .page .kind ≡ kind)) × (c .page .opening ≡ opening))
+      × (c .page .length ≡ size))
       × (c .page .used ≡ used)) × (c .page .done ≡ past)) × (c .page .saved ≡ saved)) × (c .arrived ≡ arrived))
       × (c .text ≡ text)) × (c .history ≡ history)) × Unit {0} × (w ≡ []))
   parses-all kind opening size used past saved arrived text history =
-      parses-as (parses-done _) (λ c w (e, j). (rw e ((((((((((tt, refl), refl), refl), refl), refl), refl), refl), refl), refl), refl), tt, j))
+      parses-as (parses-done _)
+      (λ c w (e, j). (rw e ((((((((((tt, refl), refl), refl), refl), refl), refl), refl), refl), refl), refl), tt, j))
       (λ c w (((((((((((_, _), k), o), l), u), d), m), a), t), h), _, j). (
         (λ i. record {
           page = record { kind = k i; opening = o i; length = l i; used = u i; done = d i; saved = m i };
@@ -328,7 +332,8 @@ spelled file c e = subst (Right IsFile file) e (parse-right file)
 pub faulty : (file : List ℕ) (place : ℕ) → parse file ≡ broken place → FirstFault IsFile file place
 faulty file place e = subst (Right IsFile file) e (parse-right file) .0
 
-pub only-there : (file : List ℕ) (place other : ℕ) → parse file ≡ broken place → FirstFault IsFile file other → other ≡ place
+pub only-there :
+    (file : List ℕ) (place other : ℕ) → parse file ≡ broken place → FirstFault IsFile file other → other ≡ place
 only-there file place other e f = first-once IsFile file other place f (faulty file place e)
 
 -- "One page with its arrived bytes has one file."

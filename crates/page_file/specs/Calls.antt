@@ -44,7 +44,8 @@ belongs c standing = counted (c .page .opening) (readingIn (c .page .kind) (c .a
 -- keeping changes neither page nor buffers: it answers, and fills an output with the file
 unfoldable pub keepParted : Content → List ℕ → Option Parted → output.Outcome
 keepParted c out none = output.refusing (numbered 14 0) out
-keepParted c out (some v) = cond (belongs c (v .standing)) (deliver (fileOf c) out) (output.refusing (numbered 15 0) out)
+keepParted c out (some v) =
+    cond (belongs c (v .standing)) (deliver (fileOf c) out) (output.refusing (numbered 15 0) out)
 
 -- "Keeping refuses with 16, 14, this same 15, then 9."
 unfoldable pub keepOf : State → List ℕ → List ℕ → output.Outcome

@@ -235,7 +235,12 @@ readings =
     9 4 4 15 0
     -- 15 with nothing standing: the text
     ∷ refuses
-    (start ∷ "opening=00004␊length=00004␊used=00000␊done=00000␊saved=00000␊" ∷ arrivedLine ∷ editedLine ∷ "history=␊" ∷ [])
+    (start
+    ∷ "opening=00004␊length=00004␊used=00000␊done=00000␊saved=00000␊"
+    ∷ arrivedLine
+    ∷ editedLine
+    ∷ "history=␊"
+    ∷ [])
     9 4 0 15 0
     ∷ []
 

@@ -35,7 +35,8 @@ stepped-words x text h k =
     (each-take Word text (x .place) k)
     (each-append Word (x .added) (drop (x .place + x .count) text) h (each-drop Word text (x .place + x .count) k))
 
-pub text-words : (text : List ℕ) (steps : List Step) → Each Adds steps → Each Word text → Each Word (textAfter text steps)
+pub text-words :
+    (text : List ℕ) (steps : List Step) → Each Adds steps → Each Word text → Each Word (textAfter text steps)
 unfolding textAfter
 text-words text [] h k = k
 text-words text (x ∷ rest) h k = text-words (stepped x text) rest (h .1) (stepped-words x text (h .0) k)
@@ -48,7 +49,8 @@ pub records-words :
 records-words room text [] few f h k = tt
 records-words room text (x ∷ rest) few f h k =
     let removed : List ℕ = take (x .count) (drop (x .place) text) in
-    let after : length (stepped x text) ≡ length (take (x .place) text) + (length (x .added) + length (drop (x .place + x .count) text)) =
+    let rest-of : List ℕ = drop (x .place + x .count) text in
+    let after : length (stepped x text) ≡ length (take (x .place) text) + (length (x .added) + length rest-of) =
     length-append (take (x .place) text) (x .added ++ drop (x .place + x .count) text)
     ∙ rw (length-append (x .added) (drop (x .place + x .count) text)) in
     let place : Word (x .place) = omega (arith, f .0, f .1) in

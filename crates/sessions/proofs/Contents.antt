@@ -53,7 +53,8 @@ content-is arrived {n} {s} {e} l =
       history = take-pad (l .space) (words (entries e)) i;
     })
 
-mark-within : (m : Mark) (es : List Entry) → markFits inWords m (map stepOf es) ≡ true → sizes es ≤ limit → markWithin form1 m
+mark-within :
+    (m : Mark) (es : List Entry) → markFits inWords m (map stepOf es) ≡ true → sizes es ≤ limit → markWithin form1 m
 mark-within None es h k = tt
 mark-within (At n) es h k = omega (arith, ends-below inWords (map stepOf es) n h, weight-sizes es)
 
@@ -124,7 +125,8 @@ module _ {arrived : List ℕ} {s : State} {l : Ledger} (k : Kept page-lays arriv
       (r .0, ap length (r .1), (λ e. rw (nothing-text (k .back) e) (k .good .reads)))
 
   -- the records that are found are the editor's
-  found-some : (x : Option Parted) → editorFor s x ≡ some here → (v : Parted) × (x ≡ some v) × (v .standing ≡ here .standing)
+  found-some :
+      (x : Option Parted) → editorFor s x ≡ some here → (v : Parted) × (x ≡ some v) × (v .standing ≡ here .standing)
   found-some none e =
       let z : _≡_ {A = ℕ} 0 1 = cc in
       absurd (omega arith)

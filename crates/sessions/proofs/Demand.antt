@@ -13,7 +13,10 @@ use Rattle.sessions.proofs.Sessions.{Holds, Together, together}
 pub demand3 : Demand3
 demand3 kind bytes text history ok actions =
     let first : Holds bytes _ _ =
-    record { kept = begun kind bytes text history ok; words = record { reading = cells-read kind bytes; standing = tt; undone = tt } } in
+    record {
+      kept = begun kind bytes text history ok;
+      words = record { reading = cells-read kind bytes; standing = tt; undone = tt };
+    } in
     let t = together bytes (record { now = first; same-bytes = refl; shelf = tt }) actions in
     record {
       promised = promised page-lays (t .now .kept);

@@ -152,7 +152,8 @@ module _ {bytes : List ℕ} {s : State} {l : Ledger} (k : Kept page-lays bytes s
       restore-accepted room =
           let legal = k .lies .legal in
           let wide : length (s .text) ≡ k .frame .room =
-          ap (λ (s : State). length (s .text)) (k .lies .state) ∙ length-pad (k .frame .room) (kept k .text) (legal .room) in
+          ap (λ (s : State). length (s .text)) (k .lies .state)
+          ∙ length-pad (k .frame .room) (kept k .text) (legal .room) in
           let space : length (s .history) ≡ k .lies .space =
           ap (λ (s : State). length (s .history)) (k .lies .state) ∙ length-pad (k .lies .space) all (k .lies .few) in
           let more : k .frame .room ≤ length text = omega (arith, room .for-text .0) in
@@ -166,7 +167,8 @@ module _ {bytes : List ℕ} {s : State} {l : Ledger} (k : Kept page-lays bytes s
           let few : length all ≤ length history = omega (arith, k .lies .few, room .for-history .0) in
           let k' : Kept page-lays bytes there l = kept-there good few (room .for-text .1) (room .for-history .1) in
           let v = found-here k' in
-          subst (λ (c : Content). readOf arrived text history (fileOf c) ≡ given arrived text history c) (sym (kept-is k))
+          subst (λ (c : Content). readOf arrived text history (fileOf c) ≡ given arrived text history c)
+          (sym (kept-is k))
           (rw (
             le-ltb limit (length arrived) (room .for-arrived .1),
             le-ltb limit (length text) (room .for-text .1),

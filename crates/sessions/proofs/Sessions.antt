@@ -89,7 +89,8 @@ module _ (bytes : List ℕ) where
           shelf = t .shelf;
         }
 
-    after-keep : (out : List ℕ) {o : output.Outcome} → Fills out (fileFor (r .state) bytes) o → After (keep out) (onKeep r o)
+    after-keep :
+        (out : List ℕ) {o : output.Outcome} → Fills out (fileFor (r .state) bytes) o → After (keep out) (onKeep r o)
     unfolding told
     after-keep out (leaves v n) = rw n (record { now = t .now; same-bytes = t .same-bytes; shelf = t .shelf })
     after-keep out fills =
@@ -148,7 +149,8 @@ module _ (bytes : List ℕ) where
     next (restore n arrived text history) = after-read n arrived text history
 
   pub together :
-      {r : Session} {b : Books} → Together r b → (actions : List Action) → Together (after r actions) (heard b r actions)
+      {r :
+      Session} {b : Books} → Together r b → (actions : List Action) → Together (after r actions) (heard b r actions)
   together t [] = t
   together t (a ∷ actions) = together (next t a) actions
 
