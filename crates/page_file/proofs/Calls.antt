@@ -32,12 +32,8 @@ use Rattle.page_file.specs.File.{Content, form1, InForm, fileOf, IsFile}
 use Rattle.page_file.specs.Reading.{parse}
 use Rattle.page_file.specs.Calls.{contentOf, countIs, counted, textIs, belongs, keepParted, keepOf, unread}
 use Rattle.page_file.specs.Calls.{stateFrom, given, readParted, readFitting, readParsed, readOf}
-use Rattle.page_file.specs.Promises.{Files, Calls, SameAgain, Belongs}
+use Rattle.page_file.specs.Promises.{SameAgain, Belongs}
 use Rattle.page_file.proofs.Laws.{file-reads, parse-right, spelled, only-there, one-spelling}
-
-pub files : Files
-files =
-    record { reads-back = file-reads; right = parse-right; one-place = only-there; one-file = one-spelling }
 
 -- what reading as cells means
 same-means : (xs ys : List ℕ) → sameCells xs ys ≡ true → xs ≡ ys
@@ -122,7 +118,7 @@ parted-leaves c out none = λ _. refl
 parted-leaves c out (some v) =
     cond-case (Leaves out) (belongs c (v .standing)) (λ _. deliver-leaves (fileOf c) out) (λ _ _. refl)
 
-keep-leaves : (s : State) (arrived out : List ℕ) → Leaves out (keepOf s arrived out)
+pub keep-leaves : (s : State) (arrived out : List ℕ) → Leaves out (keepOf s arrived out)
 unfolding keepOf
 keep-leaves s arrived out =
     cond-case (Leaves out) (over arrived || (over (s .text) || over (s .history))) (λ _ _. refl)
@@ -150,7 +146,7 @@ module _ (arrived text history : List ℕ) where
       (λ _. cond-case Stays (ltb (length history) (length (c .history))) (λ _. stays _)
       (λ _. parted-stays c (records (stateFrom arrived text history c)))))
 
-  read-stays : (file : List ℕ) → Stays (readOf arrived text history file)
+  pub read-stays : (file : List ℕ) → Stays (readOf arrived text history file)
   unfolding readOf
   read-stays file =
       cond-case Stays (over arrived || (over text || over history)) (λ _. stays _) (λ _. parsed-stays (parse file))
@@ -250,17 +246,5 @@ module _ (arrived text history file : List ℕ) where
           ← is .1,
         )
 
-same-again : SameAgain
+pub same-again : SameAgain
 same-again arrived text history file out ok = again arrived text history file out (accepts arrived text history file ok)
-
-pub calls : Calls
-unfolding keepOf readOf
-calls =
-    record {
-      keep-long = λ s arrived out long. rw long;
-      read-long = λ arrived text history file long. rw long;
-      fifteen = belongs-means;
-      keep-refused = keep-leaves;
-      read-refused = read-stays;
-      same-again = same-again;
-    }

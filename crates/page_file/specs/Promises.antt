@@ -1,12 +1,13 @@
 -- Document 02, order 6: what is promised of page files, and of keeping and reading them, for every input.
-use Prim.Native.Nat.{ℕ, _≤_}
+use Prim.Native.Nat.{ℕ, _≤_, _<_, _^_}
 use mathlib.Core.Path.{_≡_}
 use mathlib.Core.Logic.{_↔_}
 use mathlib.Core.Bool.{true, false, _||_}
 use mathlib.Core.List.{List, []}
 use lib.ListN.{length, take}
 use lib.Dec.{eqb}
-use Rattle.answer.specs.Answer.{tooLong}
+use Rattle.answer.specs.Answer.{numbered, limit, tooLong}
+use Rattle.answer.specs.Lists.{Each}
 use Rattle.answer.specs.Output as output
 use Rattle.answer.specs.Output.{deliver}
 use Rattle.reading.specs.Reading.{accepted}
@@ -14,7 +15,7 @@ use Rattle.codec.specs.declared.Kind.the-variants.{Utf7Header}
 use Rattle.codec.specs.Kinds.{readingIn, readsAs}
 use Rattle.editor.specs.Layout.{taken}
 use Rattle.editor.specs.Demand.{Unchanged}
-use Rattle.ledger.specs.Words.{Entry}
+use Rattle.ledger.specs.Words.{Entry, pad}
 use Rattle.ledger.specs.Page.{State, stateOf}
 use Rattle.ledger.specs.Calls.{over, noPage}
 use Rattle.parsing.specs.Parsing.{whole, broken, FirstFault, Right}
@@ -43,6 +44,22 @@ SameAgain =
     (take (readOf arrived text history file .verdict .place) (readOf arrived text history file .output)) out
     ≡ deliver file out
 
+-- elements as a byte, a cell and a word hold them
+pub record Typed (s : State) (arrived : List ℕ) : Type 0 where
+  pub bytes : Each (λ b. b < 2 ^ 8) arrived
+  pub cells : Each (λ v. v < 2 ^ 32) (s .text)
+  pub words : Each (λ v. v < 2 ^ 32) (s .history)
+
+-- what is kept of any page, sound as it must be, is read in buffers of the same lengths, and that very page, text and
+-- history are back
+abbrev pub ReadsAgain : Type 0
+ReadsAgain =
+    (s : State) (bytes out : List ℕ) → Typed s bytes → eqb (keepOf s bytes out .verdict .number) 0 ≡ true →
+    (arrived text history : List ℕ) → length bytes ≤ length arrived → length arrived ≤ limit →
+    length text ≡ length (s .text) → length history ≡ length (s .history) →
+    readOf arrived text history (take (keepOf s bytes out .verdict .place) (keepOf s bytes out .out))
+    ≡ record { verdict = numbered 0 (length bytes); state = s; output = pad (length arrived) bytes }
+
 -- "the arrived bytes [..] read as *opening* cells [and], with nothing standing, as the text"
 abbrev pub Belongs : Content → List Entry → Type 0
 Belongs c standing =
@@ -68,3 +85,4 @@ pub record Calls : Type 0 where
       (arrived text history file : List ℕ) → taken (readOf arrived text history file) ≡ false →
       Unchanged (stateOf (noPage Utf7Header) text history) arrived (readOf arrived text history file)
   pub same-again : SameAgain
+  pub reads-again : ReadsAgain

@@ -1,8 +1,8 @@
 -- What is kept of a page that a ledger determines is in form, and the bytes opened on belong to it. Assumes nothing.
 use Prim.Native.Nat.{ℕ, _+_, _≤_, _<_, _^_}
-use mathlib.Core.Path.{_≡_, refl, sym, ap, _∙_, subst}
+use mathlib.Core.Path.{_≡_, refl, ap, subst}
 use mathlib.Core.Bool.{true}
-use mathlib.Core.List.{List, [], _∷_, _++_, map, reverseAux, reverse, reverseAux-eq, cons≢nil}
+use mathlib.Core.List.{List, [], _∷_, _++_, reverseAux, reverse, reverseAux-eq, cons≢nil}
 use mathlib.Core.Option.{Option, none, some}
 use native.Mathlib.Omega.{arith}
 use lib.ListN.{length}
@@ -10,27 +10,22 @@ use lib.Dec.{lit<}
 use Rattle.answer.specs.Answer.{limit}
 use Rattle.answer.specs.Lists.{Each}
 use Rattle.codec.proofs.Bounds.{Word, arrived-bytes}
-use Rattle.editor.specs.declared.Mark.{Mark}
-use Rattle.editor.specs.declared.Mark.the-variants.{None, At}
 use Rattle.editor.specs.Ledger.{Step, Ledger, textAfter}
-use Rattle.editor.specs.Records.{Entry, stepOf, markFits}
 use Rattle.editor.specs.Editor.{Editor}
 use Rattle.editor.proofs.Steps.{recordsOf, recordsBack, records-in-order, text-standing}
 use Rattle.editor.proofs.Ends.{entries}
 use Rattle.editor.proofs.Held.{Frame, textAt, editorOf, ledgerOf, Good, legal-of}
 use Rattle.editor.proofs.Promises.{Kept}
-use Rattle.ledger.specs.Words.{Parted, inWords, sizes}
+use Rattle.ledger.specs.Words.{Parted, sizes}
 use Rattle.ledger.specs.Page.{State, records}
-use Rattle.ledger.specs.Layout.{page, editorFor}
-use Rattle.ledger.specs.declared.Page.{Page}
+use Rattle.ledger.specs.Layout.{editorFor}
 use Rattle.ledger.proofs.Words.{words, take-pad, length-words, sizes-reverse}
-use Rattle.ledger.proofs.Marks.{weight-sizes}
 use Rattle.ledger.proofs.Lying.{pageOf, Lies, page-lays}
-use Rattle.page_file.specs.File.{Content, form1, markWithin, InForm}
+use Rattle.page_file.specs.File.{Content, form1, InForm}
 use Rattle.page_file.specs.Calls.{contentOf, belongs}
 use Rattle.page_file.proofs.Calls.{reads-means, belongs-means}
+use Rattle.page_file.proofs.Again.{mark-within}
 use Rattle.sessions.proofs.Cells.{Words, Adds, text-words, records-words, steps-words}
-use Rattle.sessions.proofs.Rooms.{ends-below}
 
 -- what is kept of the page in which an editor lies
 abbrev pub contentIn : ℕ → List ℕ → Editor → Content
@@ -52,11 +47,6 @@ content-is arrived {n} {s} {e} l =
       text = take-pad (e .room) (e .text) i;
       history = take-pad (l .space) (words (entries e)) i;
     })
-
-mark-within :
-    (m : Mark) (es : List Entry) → markFits inWords m (map stepOf es) ≡ true → sizes es ≤ limit → markWithin form1 m
-mark-within None es h k = tt
-mark-within (At n) es h k = omega (arith, ends-below inWords (map stepOf es) n h, weight-sizes es)
 
 module _ {arrived : List ℕ} {s : State} {l : Ledger} (k : Kept page-lays arrived s l) where
   abbrev o : Frame arrived

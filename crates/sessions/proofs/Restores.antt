@@ -2,16 +2,13 @@
 -- that the ledger determines in the lent buffers, and the bytes opened on. Assumes nothing.
 use Prim.Native.Nat.{ℕ, _≤_}
 use mathlib.Core.Path.{_≡_, refl, sym, ap, _∙_, subst}
-use mathlib.Core.Bool.{Bool, true, _&&_, _||_}
+use mathlib.Core.Bool.{true}
 use mathlib.Core.List.{List, reverseAux}
-use mathlib.Core.Option.{Option, some}
 use native.Mathlib.Omega.{arith}
-use lib.ListN.{length, take, drop}
-use lib.Dec.{leb}
-use borrow.Author.Tests.{leb-true, le-ltb}
+use lib.ListN.{length, take}
+use borrow.Author.Tests.{le-ltb}
 use Rattle.answer.specs.Answer.{limit}
 use Rattle.answer.specs.Output.{deliver}
-use Rattle.answer.proofs.Below.{both}
 use Rattle.editor.specs.Ledger.{Step, Ledger}
 use Rattle.editor.specs.Records.{lengthsFit}
 use Rattle.editor.specs.Layout.{taken}
@@ -19,8 +16,8 @@ use Rattle.editor.proofs.Steps.{recordsOf, records-in-order}
 use Rattle.editor.proofs.Ends.{entries}
 use Rattle.editor.proofs.Held.{Frame, editorOf, Good, legal-of}
 use Rattle.editor.proofs.Promises.{Kept}
-use Rattle.ledger.specs.Words.{Parted, inWords, zeros}
-use Rattle.ledger.specs.Page.{State, framed, records}
+use Rattle.ledger.specs.Words.{Parted, inWords}
+use Rattle.ledger.specs.Page.{State}
 use Rattle.ledger.proofs.Words.{Whole, words, take-pad, length-pad}
 use Rattle.ledger.proofs.Sound.{Sound, records-sound}
 use Rattle.ledger.proofs.Lying.{pageOf, page-lays}
@@ -31,6 +28,7 @@ use Rattle.page_file.specs.Calls.{contentOf, belongs, keepParted, keepOf, state
 use Rattle.page_file.specs.Calls.{readParsed, readOf}
 use Rattle.page_file.proofs.Laws.{file-reads}
 use Rattle.page_file.proofs.Calls.{Accepts, accepts}
+use Rattle.page_file.proofs.Again.{frame-of}
 use Rattle.sessions.specs.Demand.{RoomFor, fileFor}
 use Rattle.sessions.proofs.Cells.{Words}
 use Rattle.sessions.proofs.Rooms.{same-words, refits, fits-more}
@@ -39,17 +37,6 @@ use Rattle.sessions.proofs.Contents.{kept, kept-is, in-form, belongs-he
 -- the same frame in another text buffer
 abbrev inRoom : {arrived : List ℕ} → Frame arrived → ℕ → Frame arrived
 inRoom o room = record { kind = o .kind; reading = o .reading; room = room; mark = o .mark }
-
-first-test : (a b c d e : Bool) → (a && b && c && d && e) ≡ true → a ≡ true
-first-test a b c d e t = both a b (both (a && b) c (both (a && b && c) d (both (a && b && c && d) e t .0) .0) .0) .0
-
-opening-fits : (s : State) → framed s ≡ true → s .page .opening ≤ length (s .text)
-unfolding framed
-opening-fits s f =
-    leb-true (s .page .opening) (length (s .text))
-    (first-test (leb (s .page .opening) (length (s .text))) (leb (s .page .length) (length (s .text)))
-    (leb (s .page .used) (length (s .history))) (zeros (drop (s .page .length) (s .text)))
-    (zeros (drop (s .page .used) (s .history))) f)
 
 module _ {bytes : List ℕ} {s : State} {l : Ledger} (k : Kept page-lays bytes s l) where
   abbrev steps : List Step
@@ -107,7 +94,7 @@ module _ {bytes : List ℕ} {s : State} {l : Ledger} (k : Kept page-lays bytes s
         let same : reverseAux (v .standing) (v .undone) ≡ recordsOf (k .frame .reading) steps =
         same-words _ _ (h .tiles ∙ take-pad (length history) all)
         ∙ sym (records-in-order (k .frame .reading) (k .back) (k .undone)) in
-        let opens : length (k .frame .reading) ≤ length (there .text) = opening-fits there (h .frame) in
+        let opens : length (k .frame .reading) ≤ length (there .text) = frame-of there (h .frame) .opening in
         record {
           fits =
               refits (k .frame .room) (length text) (k .frame .reading) steps (k .good .fits) (omega arith)

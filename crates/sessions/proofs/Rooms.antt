@@ -1,16 +1,16 @@
--- Steps in another text buffer, records by their words, and a mark's bound. Assumes nothing.
-use Prim.Native.Nat.{ℕ, _+_, _-_, _≤_}
+-- Steps in another text buffer, and records by their words. Assumes nothing.
+use Prim.Native.Nat.{ℕ, _+_, _≤_}
 use mathlib.Core.Path.{_≡_, sym, ap, subst}
-use mathlib.Core.Bool.{Bool, true, false, _&&_, _||_}
+use mathlib.Core.Bool.{Bool, true, _&&_}
 use mathlib.Core.List.{List, [], _∷_}
 use mathlib.Core.Option.{some}
 use native.Mathlib.Omega.{arith}
 use lib.ListN.{length, length-append, length-take, length-drop}
-use lib.Dec.{leb, eqb}
-use borrow.Author.Tests.{leb-true, eqb-true}
+use lib.Dec.{leb}
+use borrow.Author.Tests.{leb-true}
 use Rattle.answer.proofs.Below.{both}
-use Rattle.editor.specs.Ledger.{Step, weightOf}
-use Rattle.editor.specs.Records.{Entry, lengthAfter, lengthsFit, endsAt}
+use Rattle.editor.specs.Ledger.{Step}
+use Rattle.editor.specs.Records.{Entry, lengthAfter, lengthsFit}
 use Rattle.editor.proofs.Steps.{stepped, recordOf, recordsOf, Fits}
 use Rattle.ledger.specs.Words.{recordsIn}
 use Rattle.ledger.proofs.Words.{words, records-words}
@@ -51,17 +51,3 @@ fits-more room other h text [] f = omega arith
 fits-more room other h text (x ∷ rest) f =
     let here = f .0 in
     (omega arith, f .1, fits-more room other h (stepped x text) rest (f .2))
-
--- an end among steps is not beyond all of them
-or-case : {P : Type 0} (a b : Bool) → (a || b) ≡ true → (a ≡ true → P) → (b ≡ true → P) → P
-or-case true b h f g = f h
-or-case false b h f g = g h
-
-pub ends-below : (weigh : Step → ℕ) (steps : List Step) (n : ℕ) → endsAt weigh steps n ≡ true → n ≤ weightOf weigh steps
-unfolding endsAt
-ends-below weigh [] n h = omega (arith, eqb-true n 0 h)
-ends-below weigh (x ∷ rest) n h =
-    or-case (eqb n 0) (leb (weigh x) n && endsAt weigh rest (n - weigh x)) h (λ t. omega (arith, eqb-true n 0 t))
-    (λ t.
-    let q = both (leb (weigh x) n) (endsAt weigh rest (n - weigh x)) t in
-    omega (arith, leb-true (weigh x) n (q .0), ends-below weigh rest (n - weigh x) (q .1)))
