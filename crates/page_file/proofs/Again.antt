@@ -12,8 +12,7 @@ use lib.Dec.{ltb, leb, eqb}
 use borrow.Author.Tests.{leb-true, ltb-false, eqb-true, le-ltb}
 use Rattle.answer.specs.Answer.{numbered, limit}
 use Rattle.answer.specs.Output as output
-use Rattle.answer.specs.Output.{deliver, filled}
-use Rattle.answer.specs.Lists.{Each}
+use Rattle.answer.specs.Output.{deliver}
 use Rattle.answer.proofs.Below.{both, cond-case, each-take}
 use Rattle.editor.specs.declared.Mark.{Mark}
 use Rattle.editor.specs.declared.Mark.the-variants.{None, At}
@@ -24,11 +23,9 @@ use Rattle.ledger.specs.Page.{State, stateOf, framed, records}
 use Rattle.ledger.specs.Calls.{over}
 use Rattle.ledger.proofs.Words.{Whole, words, length-words, sizes-reverse}
 use Rattle.ledger.proofs.Marks.{weight-sizes}
-use Rattle.ledger.proofs.Sound.{Sound, sound-records, records-sound}
+use Rattle.ledger.proofs.Sound.{Sound, records-sound}
 use Rattle.ledger.proofs.Opens.{or-parts}
-use Rattle.parsing.specs.Parsing.{whole}
-use Rattle.page_file.specs.File.{Content, form1, markWithin, InForm, fileOf}
-use Rattle.page_file.specs.Reading.{parse}
+use Rattle.page_file.specs.File.{form1, markWithin, InForm, fileOf}
 use Rattle.page_file.specs.Calls.{contentOf, belongs, keepParted, keepOf, stateFrom, readParted, readFitting}
 use Rattle.page_file.specs.Calls.{readParsed, readOf}
 use Rattle.page_file.specs.Promises.{Files, Calls, Typed, ReadsAgain}

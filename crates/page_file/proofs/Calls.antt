@@ -6,11 +6,10 @@ use mathlib.Core.Bool.{Bool, true, false, _&&_, _||_, false≢true}
 use mathlib.Core.List.{List, [], _∷_, cons≢nil}
 use mathlib.Core.Option.{Option, none, some}
 use mathlib.Core.Logic.{_↔_}
-use native.Mathlib.Omega.{arith}
 use lib.ListN.{length, take}
 use lib.Dec.{ltb, eqb}
 use borrow.Author.Tests.{ltb-false, le-ltb, eqb-true, eq-eqb}
-use Rattle.answer.specs.Answer.{Verdict, numbered, limit, tooLong}
+use Rattle.answer.specs.Answer.{Verdict, limit}
 use Rattle.answer.specs.Output as output
 use Rattle.answer.specs.Output.{deliver}
 use Rattle.answer.proofs.Below.{both, cond-case}
@@ -28,12 +27,12 @@ use Rattle.ledger.specs.Calls.{over, noPage}
 use Rattle.ledger.proofs.Words.{take-pad, length-pad}
 use Rattle.ledger.proofs.Opens.{or-parts}
 use Rattle.parsing.specs.Parsing.{Whole, whole, broken}
-use Rattle.page_file.specs.File.{Content, form1, InForm, fileOf, IsFile}
+use Rattle.page_file.specs.File.{Content, fileOf, IsFile}
 use Rattle.page_file.specs.Reading.{parse}
 use Rattle.page_file.specs.Calls.{contentOf, countIs, counted, textIs, belongs, keepParted, keepOf, unread}
 use Rattle.page_file.specs.Calls.{stateFrom, given, readParted, readFitting, readParsed, readOf}
 use Rattle.page_file.specs.Promises.{SameAgain, Belongs}
-use Rattle.page_file.proofs.Laws.{file-reads, parse-right, spelled, only-there, one-spelling}
+use Rattle.page_file.proofs.Laws.{spelled}
 
 -- what reading as cells means
 same-means : (xs ys : List ℕ) → sameCells xs ys ≡ true → xs ≡ ys

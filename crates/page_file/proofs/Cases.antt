@@ -1,11 +1,8 @@
 -- The cases hold of the definitions that the promises cite, by computing them. Assumes nothing.
-use Prim.Native.Nat.{ℕ}
-use mathlib.Core.Path.{_≡_, refl}
-use mathlib.Core.Bool.{true, false}
+use mathlib.Core.Path.{refl}
 use Rattle.answer.specs.Answer.{limit}
 use Rattle.answer.specs.Output.{deliver}
 use Rattle.answer.proofs.Below.{_and_}
-use Rattle.codec.specs.declared.Kind.the-variants.{Utf7Body}
 use Rattle.codec.proofs.Worked.{letter-reads, letter-reads-as, letter-reads-other}
 use Rattle.editor.specs.Records.{reached, lengthsFit, endsAt}
 use Rattle.ledger.specs.Words.{recordsIn, partAt, zeros}

@@ -1,10 +1,10 @@
 -- The page file: what is kept reads back, a file is the one file of what it keeps, and 18's place is that of the first
 -- byte no page file can have there. Assumes nothing.
-use Prim.Native.Nat.{ℕ, zero, suc, _+_, _*_, _^_, _/_, _%_, _<_, _≤_}
+use Prim.Native.Nat.{ℕ, zero, suc, _^_, _/_, _%_, _<_, _≤_}
 use Prim.Native.String.{String}
 use mathlib.Core.Path.{_≡_, refl, sym, ap, _∙_, subst}
-use mathlib.Core.List.{List, [], _∷_, _++_, append-assoc, append-nil}
-use mathlib.Core.Logic.{_⊎_, inl, inr}
+use mathlib.Core.List.{List, [], _++_, append-assoc, append-nil}
+use mathlib.Core.Logic.{inl, inr}
 use native.Mathlib.Omega.{arith}
 use native.Mathlib.Nat.{mod-lt}
 use lib.ListN.{length, getD, List·getD-append}
@@ -18,13 +18,13 @@ use Rattle.codec.specs.declared.Kind.{Kind}
 use Rattle.codec.specs.declared.Kind.the-variants.{Utf7Header, Utf7Body, Jp2}
 use Rattle.editor.specs.declared.Mark.{Mark}
 use Rattle.editor.specs.declared.Mark.the-variants.{None, At}
-use Rattle.parsing.specs.Parsing.{Parser, literal, done, _>>=_, Language, FirstFault, Whole, whole, broken, wholly}
+use Rattle.parsing.specs.Parsing.{Parser, literal, done, _>>=_, Language, FirstFault, whole, broken}
 use Rattle.parsing.specs.Parsing.{Right}
 use Rattle.parsing.specs.Digits.{digit, digits, groups, LF}
 use Rattle.parsing.proofs.Laws.{Parses, parses-as, Then, parses-then, Or, Apart, parses-either, parses-done, Is}
 use Rattle.parsing.proofs.Laws.{parses-literal, first-once, whole-reads, whole-right}
 use Rattle.parsing.proofs.Digits.{parses-number, parses-list}
-use Rattle.page_file.specs.File.{Content, Form, form1, nameOf, line, joined, markOf, markWithin, fileIn, InForm}
+use Rattle.page_file.specs.File.{Content, Form, form1, nameOf, line, markOf, markWithin, fileIn, InForm}
 use Rattle.page_file.specs.File.{fileOf, IsFile}
 use Rattle.page_file.specs.File as file
 use Rattle.page_file.specs.Reading.{keyed, lineOf, listOf, named, kindName, decimal, mark, linesOf, parse}

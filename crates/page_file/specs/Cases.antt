@@ -13,9 +13,9 @@ use Rattle.codec.specs.declared.Kind.the-variants.{Utf7Header, Utf7Body, Jp2}
 use Rattle.editor.specs.declared.Mark.{Mark}
 use Rattle.editor.specs.declared.Mark.the-variants.{None, At}
 use Rattle.ledger.specs.declared.Page.{Page}
-use Rattle.ledger.specs.Page.{State, stateOf, Outcome}
+use Rattle.ledger.specs.Page.{State, stateOf}
 use Rattle.parsing.specs.Parsing.{whole, broken}
-use Rattle.page_file.specs.File.{Content, fileOf, joined}
+use Rattle.page_file.specs.File.{Content, fileOf}
 use Rattle.page_file.specs.Reading.{parse}
 use Rattle.page_file.specs.Calls.{keepOf, readOf}
 

@@ -7,7 +7,7 @@ use Rattle.codec.specs.declared.Kind.{Kind}
 use Rattle.codec.specs.declared.Kind.the-variants.{Utf7Header, Utf7Body, Jp2}
 use Rattle.editor.specs.declared.Mark.{Mark}
 use Rattle.editor.specs.declared.Mark.the-variants.{None, At}
-use Rattle.parsing.specs.Parsing.{Parsed, found, failed, Parser, done, _>>=_, _>>_, either, literal, Whole, wholly}
+use Rattle.parsing.specs.Parsing.{Parser, done, _>>=_, _>>_, either, literal, Whole, wholly}
 use Rattle.parsing.specs.Digits.{number, list, LF}
 use Rattle.page_file.specs.File.{Content, Form, form1}
 

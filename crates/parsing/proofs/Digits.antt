@@ -1,24 +1,24 @@
 -- Numbers by digits, and lists of them, are parsed. Assumes nothing.
 use Prim.Native.Nat.{ℕ, zero, suc, _+_, _-_, _*_, _/_, _%_, _^_, _<_, _≤_}
-use mathlib.Core.Bool.{Bool, true, false, cond, _&&_, false≢true}
-use mathlib.Core.Path.{_≡_, refl, sym, ap, _∙_, subst}
+use mathlib.Core.Bool.{Bool, true, false, _&&_, false≢true}
+use mathlib.Core.Path.{_≡_, refl, sym, ap, _∙_}
 use mathlib.Core.List.{List, [], _∷_, _++_, append-assoc, append-nil}
-use mathlib.Core.Logic.{_⊎_, inl, inr}
+use mathlib.Core.Logic.{inl, inr}
 use native.Mathlib.Omega.{arith}
-use native.Mathlib.Nat.{add-zero, zero-add, pow-suc, pow-zero, div-one, div-div-eq-div-mul, div-mul-le-self}
+use native.Mathlib.Nat.{add-zero, pow-suc, pow-zero, div-one, div-div-eq-div-mul, div-mul-le-self}
 use native.Mathlib.Nat.{div-add-mod', mod-lt, mul-add-div-right, div-eq-of-lt, mul-add-mod-self-right, mod-eq-of-lt}
 use native.Mathlib.Nat.{mul-one, zero-mul, mul-assoc, mul-comm, one-le-pow}
-use lib.ListN.{length, getD, take, drop, replicate}
+use lib.ListN.{length, getD}
 use lib.Dec.{ltb, leb, eqb, lit<, lit≤}
-use borrow.Author.Tests.{ltb-true, ltb-false, leb-true, eqb-true, lt-ltb, le-leb, le-ltb}
+use borrow.Author.Tests.{ltb-true, leb-true, eqb-true, lt-ltb, le-leb}
 use Rattle.answer.specs.Lists.{Each}
 use Rattle.answer.proofs.Below.{both, cond-case, allBelow, below}
-use Rattle.parsing.specs.Parsing.{Parsed, found, failed, Parser, onParsed, done, _>>=_, _>>_, either, literal}
-use Rattle.parsing.specs.Parsing.{Language, Begins, FirstFault}
+use Rattle.parsing.specs.Parsing.{found, Parser}
+use Rattle.parsing.specs.Parsing.{Language}
 use Rattle.parsing.specs.Digits.{figures, digit, placeIn, valueOf, digits, groups, digitWhere, numberFrom, number}
 use Rattle.parsing.specs.Digits.{LF, withMore, lineEnd, list}
-use Rattle.parsing.proofs.Laws.{Judged, Parses, parses-as, Then, parses-then, Or, Apart, parses-either}
-use Rattle.parsing.proofs.Laws.{parses-done, Is, parses-literal}
+use Rattle.parsing.proofs.Laws.{Judged, Parses, parses-as, Then, parses-then, Or, parses-either}
+use Rattle.parsing.proofs.Laws.{parses-done, parses-literal}
 
 pub value-digit : (d : ℕ) → d < 16 → valueOf (digit d) ≡ d
 unfolding valueOf allBelow

@@ -5,7 +5,7 @@ use mathlib.Core.List.{List, [], _∷_, _++_}
 use lib.ListN.{getD}
 use lib.Dec.{ltb, leb, eqb}
 use Rattle.answer.specs.Bytes.{bytes}
-use Rattle.parsing.specs.Parsing.{Parsed, found, failed, Parser, done, _>>=_, _>>_, either, literal}
+use Rattle.parsing.specs.Parsing.{found, failed, Parser, done, _>>=_, _>>_, either, literal}
 
 -- "decimal digits", "capital hex digits", in the order of their values
 abbrev pub figures : List ℕ

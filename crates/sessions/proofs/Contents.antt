@@ -12,9 +12,9 @@ use Rattle.answer.specs.Lists.{Each}
 use Rattle.codec.proofs.Bounds.{Word, arrived-bytes}
 use Rattle.editor.specs.Ledger.{Step, Ledger, textAfter}
 use Rattle.editor.specs.Editor.{Editor}
-use Rattle.editor.proofs.Steps.{recordsOf, recordsBack, records-in-order, text-standing}
+use Rattle.editor.proofs.Steps.{recordsBack, records-in-order, text-standing}
 use Rattle.editor.proofs.Ends.{entries}
-use Rattle.editor.proofs.Held.{Frame, textAt, editorOf, ledgerOf, Good, legal-of}
+use Rattle.editor.proofs.Held.{Frame, textAt, editorOf}
 use Rattle.editor.proofs.Promises.{Kept}
 use Rattle.ledger.specs.Words.{Parted, sizes}
 use Rattle.ledger.specs.Page.{State, records}

@@ -1,14 +1,12 @@
 -- Demands 2 and 3 across page files. Assumes nothing.
 use mathlib.Core.Path.{refl}
-use mathlib.Core.List.{List}
-use mathlib.Core.Bool.{true}
 use Rattle.codec.proofs.Bounds.{cells-read}
 use Rattle.editor.proofs.Promises.{promised}
 use Rattle.ledger.proofs.Lying.{page-lays}
 use Rattle.ledger.proofs.Opens.{begun}
 use Rattle.sessions.specs.Demand.{Demand3}
 use Rattle.sessions.proofs.Restores.{keep-accepted, restore-accepted}
-use Rattle.sessions.proofs.Sessions.{Holds, Together, together}
+use Rattle.sessions.proofs.Sessions.{Holds, together}
 
 pub demand3 : Demand3
 demand3 kind bytes text history ok actions =

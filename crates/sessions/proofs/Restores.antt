@@ -10,7 +10,6 @@ use borrow.Author.Tests.{le-ltb}
 use Rattle.answer.specs.Answer.{limit}
 use Rattle.answer.specs.Output.{deliver}
 use Rattle.editor.specs.Ledger.{Step, Ledger}
-use Rattle.editor.specs.Records.{lengthsFit}
 use Rattle.editor.specs.Layout.{taken}
 use Rattle.editor.proofs.Steps.{recordsOf, records-in-order}
 use Rattle.editor.proofs.Ends.{entries}
@@ -20,14 +19,14 @@ use Rattle.ledger.specs.Words.{Parted, inWords}
 use Rattle.ledger.specs.Page.{State}
 use Rattle.ledger.proofs.Words.{Whole, words, take-pad, length-pad}
 use Rattle.ledger.proofs.Sound.{Sound, records-sound}
-use Rattle.ledger.proofs.Lying.{pageOf, page-lays}
+use Rattle.ledger.proofs.Lying.{page-lays}
 use Rattle.parsing.specs.Parsing as parsing
-use Rattle.page_file.specs.File.{Content, form1, InForm, fileOf}
+use Rattle.page_file.specs.File.{Content, fileOf}
 use Rattle.page_file.specs.Reading.{parse}
-use Rattle.page_file.specs.Calls.{contentOf, belongs, keepParted, keepOf, stateFrom, given, readParted, readFitting}
+use Rattle.page_file.specs.Calls.{contentOf, keepParted, keepOf, stateFrom, given, readParted, readFitting}
 use Rattle.page_file.specs.Calls.{readParsed, readOf}
 use Rattle.page_file.proofs.Laws.{file-reads}
-use Rattle.page_file.proofs.Calls.{Accepts, accepts}
+use Rattle.page_file.proofs.Calls.{accepts}
 use Rattle.page_file.proofs.Again.{frame-of}
 use Rattle.sessions.specs.Demand.{RoomFor, fileFor}
 use Rattle.sessions.proofs.Cells.{Words}

@@ -1,14 +1,13 @@
 -- Across keepings and readings of what was kept, the session's page is the one that the books' ledger determines.
 -- Assumes nothing.
 use Prim.Native.Nat.{ℕ, zero, suc}
-use mathlib.Core.Path.{_≡_, refl, sym, ap, _∙_, subst}
+use mathlib.Core.Path.{_≡_, refl, sym, subst}
 use mathlib.Core.Bool.{Bool, true, false, cond, _||_, false≢true}
-use mathlib.Core.List.{List, [], _∷_, _++_, map}
+use mathlib.Core.List.{List, [], _∷_, _++_}
 use lib.ListN.{length, take, drop, getD}
 use lib.Seq.{take-append-seam}
-use lib.Dec.{ltb, eqb}
 use Rattle.answer.specs.Output as output
-use Rattle.answer.specs.Output.{filled, deliver}
+use Rattle.answer.specs.Output.{filled}
 use Rattle.answer.proofs.Below.{cond-case}
 use Rattle.editor.specs.Ledger.{Ledger, Call, fed}
 use Rattle.editor.specs.Layout.{taken}
@@ -23,8 +22,8 @@ use Rattle.ledger.proofs.Lying.{page-lays}
 use Rattle.parsing.specs.Parsing.{literal}
 use Rattle.page_file.specs.Reading.{parse}
 use Rattle.page_file.specs.Calls.{keepOf, readParsed, readOf}
-use Rattle.sessions.specs.Books.{Action, call, keep, restore, Books, opening, told}
-use Rattle.sessions.specs.Sessions.{Session, begins, Done, onCall, onKeep, onRead, act, after, heard}
+use Rattle.sessions.specs.Books.{Action, call, keep, restore, Books, told}
+use Rattle.sessions.specs.Sessions.{Session, Done, onCall, onKeep, onRead, act, after, heard}
 use Rattle.sessions.specs.Demand.{fileFor, CallsAlone}
 use Rattle.sessions.proofs.Cells.{Words, fed-words}
 use Rattle.sessions.proofs.Restores.{keep-accepted, restore-kept}
