@@ -273,8 +273,8 @@ module _ (form : Form) (some-digits : 0 < form .width) (enough : form .bound < 1
           done = d;
           saved = m;
           few = n;
-          text = t;
-          history = h;
+          text = omega arith;
+          history = omega arith;
           bytes = b;
           cells = tc;
           words = hc;
@@ -299,7 +299,7 @@ module _ (form : Form) (some-digits : 0 < form .width) (enough : form .bound < 1
                       f .saved,
                       (
                         (omega arith, f .few, f .bytes),
-                        ((f .text, f .cells), ((f .history, f .words), tt)),
+                        ((omega (arith, f .text), f .cells), ((omega (arith, f .history), f .words), tt)),
                       ),
                     ),
                   ),

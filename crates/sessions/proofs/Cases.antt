@@ -8,8 +8,10 @@ use Rattle.answer.specs.Cases.{leaving}
 use Rattle.editor.specs.Ledger.{Ledger, undo, acceptedCall}
 use Rattle.ledger.specs.Words.{inWords}
 use Rattle.ledger.specs.Page.{State, Outcome}
+use Rattle.ledger.specs.Calls.{outcomeOf}
+use Rattle.page_file.specs.Calls.{keepOf, readOf}
 use Rattle.sessions.specs.Books.{call, keep, restore, Books, told}
-use Rattle.sessions.specs.Sessions.{Session, onCall, onKeep, onRead}
+use Rattle.sessions.specs.Sessions.{Session, onCall, onKeep, onRead, act}
 
 abbrev answering : ℕ → ℕ → State → List ℕ → Outcome
 answering number place s out = record { verdict = numbered number place; state = s; output = out }
@@ -35,6 +37,21 @@ module _ (r : Session) (s : State) where
 
   pub sessions : Kept
   sessions = record { kept = refl; not-kept = refl; read = refl; not-read = refl; called = refl }
+
+-- the actions: keeping is lent the bytes in hand, reading the file that is named
+module _ (s : State) (bytes one other : List ℕ) where
+  abbrev holding : Session
+  holding = record { state = s; arrived = bytes; files = one ∷ other ∷ [] }
+
+  pub record Acts : Type 0 where
+    pub keeps : (out : List ℕ) → act holding (keep out) ≡ onKeep holding (keepOf s bytes out)
+    pub reads :
+        (arrived text history : List ℕ) →
+        act holding (restore 1 arrived text history) ≡ onRead holding (readOf arrived text history other)
+    pub calls : act holding (call undo) ≡ onCall holding (outcomeOf s undo)
+
+  pub acts : Acts
+  acts = record { keeps = λ _. refl; reads = λ _ _ _. refl; calls = refl }
 
 module _ (now first second : Ledger) where
   pub record Told : Type 0 where
