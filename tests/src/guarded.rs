@@ -21,8 +21,8 @@ const OWN_PAGES: c_int = 0x22;
 /// The length of a guard: a multiple of the page size of every machine.
 const GUARD: usize = 65_536;
 
-/// Bytes between the guards: the longest writing of as many cells as can be lent, and more.
-const CAPACITY: usize = 8 * 65_536;
+/// Bytes between the guards: the longest page file, with as many arrived bytes, cells and words as can be, and more.
+const CAPACITY: usize = 20 * 65_536;
 
 /// The guard that lent memory touches.
 #[derive(Clone, Copy, PartialEq, Eq)]

@@ -1,8 +1,9 @@
 //! A list of calls in the making. What is chosen next depends on the state that the second program says is reached.
 
-use super::{Change, List, Move, Sort};
+use super::{Change, List, Move, Reading, Sort};
 use crate::rng::Rng;
 use crate::second::page::{self, mark_of, Page, State};
+use crate::second::page_file::{self, Content};
 use crate::second::{Call, Kind};
 use crate::texts::{self, Source};
 
@@ -14,15 +15,17 @@ pub struct Draft {
     /// The kind that cells and bytes are chosen for.
     kind: Kind,
     /// The bytes that are most often lent as arrived.
-    arrived: Vec<u8>,
+    pub arrived: Vec<u8>,
+    /// The files that it was kept in, each with the state that it was then.
+    kept: Vec<(Vec<u8>, State)>,
 }
 
 /// The sorts of calls that are made on what was opened.
-const SORTS: [Sort; 4] = [Sort::Replace, Sort::Undo, Sort::Redo, Sort::Save];
+const SORTS: [Sort; 5] = [Sort::Replace, Sort::Undo, Sort::Redo, Sort::Save, Sort::Keep];
 
 impl Draft {
     pub fn new(start: State, kind: Kind, arrived: Vec<u8>) -> Draft {
-        Draft { state: start.clone(), list: List { start, moves: Vec::new() }, kind, arrived }
+        Draft { state: start.clone(), list: List { start, moves: Vec::new() }, kind, arrived, kept: Vec::new() }
     }
 
     /// Opens the arrived bytes.
@@ -45,6 +48,15 @@ impl Draft {
     fn add_some(&mut self, rng: &mut Rng, sort: Sort, most: usize) {
         for _ in 0..rng.between(1, most) {
             self.add_call(self.call(rng, sort));
+        }
+    }
+
+    /// Adds calls, a keeping, or a reading of what was kept before.
+    pub fn add_actions(&mut self, rng: &mut Rng) {
+        match rng.below(8) {
+            0..=1 => self.add_call(self.keep(rng)),
+            2..=3 if !self.kept.is_empty() => self.add_reading(rng),
+            _ => self.add_calls(rng),
         }
     }
 
@@ -75,11 +87,14 @@ impl Draft {
             Sort::Undo => Call::Undo,
             Sort::Redo => Call::Redo,
             Sort::Save => self.save(rng),
+            Sort::Keep => self.keep(rng),
         }
     }
 
     fn add_call(&mut self, call: Call) {
-        self.state = page::left(&self.state, &call, &vec![0; call.room()]).state;
+        let left = page::left(&self.state, &call, &vec![0; call.room()]);
+        self.kept.extend(left.file(&call).map(|file| (file, left.state.clone())));
+        self.state = left.state;
         self.list.moves.push(Move::Call(call));
     }
 
@@ -146,13 +161,58 @@ impl Draft {
     fn save(&self, rng: &mut Rng) -> Call {
         let arrived = self.lent_bytes(rng);
         let needed = page::save(&self.state, &arrived).map_or(arrived.len(), |saved| saved.len());
-        let room = match rng.below(8) {
-            0..=3 => needed,
-            4 => needed.saturating_sub(1),
-            5 => rng.below(needed + 1),
-            _ => needed + rng.between(1, 20),
+        Call::Save { arrived, room: room(rng, needed) }
+    }
+
+    /// A keeping, most often with the bytes that were opened; on pages made by hand often with others that are read as
+    /// as many cells.
+    fn keep(&self, rng: &mut Rng) -> Call {
+        let arrived = match rng.below(8) {
+            0..=4 => self.arrived.clone(),
+            5 if self.state.page.opening <= 1_000 => vec![b'a'; self.state.page.opening],
+            _ => self.lent_bytes(rng),
         };
-        Call::Save { arrived, room }
+        let needed = page_file::keep(&self.state, &arrived).map_or(200, |file| file.len());
+        Call::Keep { arrived, room: room(rng, needed) }
+    }
+
+    /// Adds a reading into buffers as long as those that were kept, longer ones, or ones that just hold the lists or do
+    /// not.
+    fn add_reading(&mut self, rng: &mut Rng) {
+        let before = rng.below(self.kept.len());
+        let (file, state) = &self.kept[self.kept.len() - 1 - before];
+        let Content { arrived, text, history, .. } = page_file::content(file).expect("a page file");
+        let mut length = |list: usize, kept: usize| match rng.below(12) {
+            0 => list.saturating_sub(1),
+            1..=2 => list,
+            3..=7 => kept,
+            _ => kept + rng.below(12),
+        };
+        let (cells, words) = (length(text.len(), state.text.len()), length(history.len(), state.history.len()));
+        let reading = Reading { before, arrived: length(arrived.len(), arrived.len()), cells, words };
+        let (buffers, room) = reading.buffers();
+        let left = page_file::left(file, &buffers, &room);
+        if left.answer.number == 0 {
+            self.state = left.state;
+            self.arrived = arrived;
+        }
+        self.list.moves.push(Move::Read(reading));
+    }
+
+    /// A file of the page as it is, sound or not, with bytes that may not belong to it; where the page says that it has
+    /// a little more than it has, the rest is zeros.
+    pub fn file(&self, rng: &mut Rng) -> Vec<u8> {
+        let State { page, text, history } = &self.state;
+        let list = |list: &[u32], length: usize| {
+            let rest = length.saturating_sub(list.len());
+            [&list[..length.min(list.len())], &vec![0; if rest < 20 { rest } else { 0 }]].concat()
+        };
+        let arrived = match self.keep(rng) {
+            Call::Keep { arrived, .. } => arrived,
+            _ => Vec::new(),
+        };
+        let page = Page { kind: page.kind % 3, ..*page };
+        Content { page, arrived, text: list(text, page.length), history: list(history, page.used) }.file()
     }
 
     /// Bytes to lend as arrived: those that were opened, others that read as the text, or others still.
@@ -206,6 +266,16 @@ impl Draft {
             // Numbers that come to little, or to the old one, if they are cut off at 32 bits or added to.
             _ => rng.pick(&[usize::MAX, usize::MAX - little, 1 << 32, number.wrapping_add(1 << 32)]),
         }
+    }
+}
+
+/// Room for so many bytes, or a little less or more.
+fn room(rng: &mut Rng, needed: usize) -> usize {
+    match rng.below(8) {
+        0..=3 => needed,
+        4 => needed.saturating_sub(1),
+        5 => rng.below(needed + 1),
+        _ => needed + rng.between(1, 20),
     }
 }
 

@@ -81,8 +81,10 @@ fn many_records(kind: Kind) -> impl Iterator<Item = List> {
 fn on_zeros(kind: Kind, page: Page, cells: usize, words: usize) -> List {
     let replace = |length| Call::Replace { place: 1, count: 0, cells: vec![u32::MAX; length] };
     let save = |length| Call::Save { arrived: vec![BYTE; length], room: 2 };
+    let keep = |length, room| Call::Keep { arrived: vec![BYTE; length], room };
     let moves = [Call::Undo, Call::Redo, replace(1), replace(LIMIT), replace(LIMIT + 1), save(1), save(LIMIT + 1)];
     let append = Call::Replace { place: 0, count: 0, cells: vec![cell(kind)] };
     let start = State { page, text: vec![0; cells], history: vec![0; words] };
-    calls(start, moves.into_iter().chain([append, save(0), save(LIMIT + 1)]))
+    let keepings = [keep(0, 200), keep(1, 0), keep(LIMIT, 200), keep(LIMIT + 1, 200)];
+    calls(start, keepings.clone().into_iter().chain(moves).chain([append, save(0), save(LIMIT + 1)]).chain(keepings))
 }

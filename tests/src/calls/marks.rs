@@ -49,7 +49,7 @@ mod tests {
                     let marked = State { page: Page { saved: *saved, ..state.page }, ..state.clone() };
                     return (state, *saved, ask(&marked).answer.number);
                 }
-                Move::Change(_) => panic!("another change"),
+                Move::Change(_) | Move::Read(_) => panic!("another change"),
             }
         }
         panic!("no mark");

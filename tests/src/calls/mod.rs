@@ -1,6 +1,7 @@
-//! Lists of calls to try the page on.
+//! Lists of calls to try the page on, and page files.
 
 mod draft;
+pub mod files;
 pub mod limit;
 mod made;
 pub mod marks;
@@ -14,7 +15,8 @@ use crate::second::page::{Page, State};
 use crate::second::{Call, Kind};
 use crate::trial::{quote, show, without, Input};
 
-/// A page with its buffers, the calls that are made on it, and changes that are made to it between the calls.
+/// A page with its buffers, the calls that are made on it, changes that are made to it between the calls, and readings
+/// of the files that it was kept in.
 #[derive(Clone)]
 pub struct List {
     pub start: State,
@@ -25,6 +27,7 @@ pub struct List {
 pub enum Move {
     Call(Call),
     Change(Change),
+    Read(Reading),
 }
 
 /// What a call is made for.
@@ -35,6 +38,7 @@ pub enum Sort {
     Undo,
     Redo,
     Save,
+    Keep,
 }
 
 /// A change that no call makes.
@@ -64,6 +68,28 @@ impl Change {
             Change::Cell(index, cell) => state.text[index] = cell,
             Change::Word(index, word) => state.history[index] = word,
         }
+    }
+}
+
+/// A reading of one of the files that were kept before: the last one, or so many before it. It is lent new buffers of
+/// these lengths. Accepted, the list goes on with what was read, and else as if nothing was.
+#[derive(Clone, Copy)]
+pub struct Reading {
+    pub before: usize,
+    pub arrived: usize,
+    pub cells: usize,
+    pub words: usize,
+}
+
+impl Reading {
+    /// The file among those kept, if there is one.
+    pub fn file<'a, F>(&self, kept: &'a [F]) -> Option<&'a F> {
+        kept.iter().rev().nth(self.before.checked_rem(kept.len())?)
+    }
+
+    /// The buffers that it is lent.
+    pub fn buffers(&self) -> (State, Vec<u8>) {
+        (blank(self.cells, self.words), filled(self.arrived))
     }
 }
 
@@ -126,6 +152,7 @@ impl Display for Move {
         match self {
             Move::Call(call) => write!(f, "{call}"),
             Move::Change(change) => write!(f, "(changed by hand: {change})"),
+            Move::Read(reading) => write!(f, "{reading}"),
         }
     }
 }
@@ -138,7 +165,15 @@ impl Display for Call {
             Call::Undo => write!(f, "undo"),
             Call::Redo => write!(f, "redo"),
             Call::Save { arrived, room } => write!(f, "save, lent {} and room for {room}", quote(arrived)),
+            Call::Keep { arrived, room } => write!(f, "keep, lent {} and room for {room}", quote(arrived)),
         }
+    }
+}
+
+impl Display for Reading {
+    fn fmt(&self, f: &mut Formatter) -> fmt::Result {
+        let Reading { before, arrived, cells, words } = self;
+        write!(f, "read the file kept last but {before}, lent {arrived} bytes, {cells} cells and {words} words")
     }
 }
 

@@ -28,6 +28,25 @@ pub fn opened(seed: u64, kind: Kind, size: Size, count: usize) -> impl Iterator<
     })
 }
 
+/// So many lists of calls, keepings and readings after an accepted open.
+pub fn kept(seed: u64, kind: Kind, size: Size, count: usize) -> impl Iterator<Item = List> {
+    seeded(seed, format!("kept {} {}", kind.name(), size.cells), count, move |rng| {
+        let mut draft = open(rng, kind, size);
+        for _ in 0..rng.between(1, size.turns) {
+            draft.add_actions(rng);
+        }
+        // Another text is opened, and then a file of the first is read.
+        if rng.one_in(8) {
+            draft.arrived = fitting(rng, kind, draft.state.text.len());
+            draft.add_open();
+            for _ in 0..rng.between(1, size.turns) {
+                draft.add_actions(rng);
+            }
+        }
+        draft
+    })
+}
+
 /// So many lists in which calls are made on a page that was opened, edited, and then changed by hand.
 pub fn changed(seed: u64, kind: Kind, count: usize) -> impl Iterator<Item = List> {
     seeded(seed, format!("changed {}", kind.name()), count, move |rng| {
@@ -78,7 +97,7 @@ pub fn pages(seed: u64, count: usize) -> impl Iterator<Item = List> {
     })
 }
 
-fn some_page(rng: &mut Rng, kind: Kind) -> Draft {
+pub(super) fn some_page(rng: &mut Rng, kind: Kind) -> Draft {
     let mut draft = match rng.below(4) {
         0..=1 => edited(rng, kind),
         2 => made::draft(rng, kind),
@@ -129,7 +148,7 @@ mod tests {
     use super::*;
     use crate::calls::Move;
     use crate::second::page::{ask, left, sound, Page};
-    use crate::second::Call;
+    use crate::second::{page_file, Call};
 
     #[test]
     fn lists_start_with_an_accepted_open() {
@@ -174,6 +193,40 @@ mod tests {
             pages.push(state.page);
         }
         pages
+    }
+
+    #[test]
+    fn files_are_read_again_and_again() {
+        for kind in Kind::ALL {
+            let mut counts = [0; 5];
+            for list in kept(1, kind, SMALL, 500) {
+                let (mut state, mut files) = (list.start.clone(), Vec::new());
+                for item in &list.moves {
+                    match item {
+                        Move::Call(call) => {
+                            let left = left(&state, call, &vec![0; call.room()]);
+                            files.extend(left.file(call));
+                            state = left.state;
+                        }
+                        Move::Read(reading) => {
+                            let (buffers, arrived) = reading.buffers();
+                            let file = reading.file(&files).expect("a file");
+                            let read = page_file::left(file, &buffers, &arrived);
+                            let accepted = read.answer.number == 0;
+                            // The last file, an earlier one, one that leads to another page, and refusals.
+                            counts[0] += usize::from(accepted && reading.before == 0);
+                            counts[1] += usize::from(accepted && reading.before > 0);
+                            counts[2] += usize::from(accepted && read.state.page != state.page);
+                            counts[3] += usize::from(read.answer.number == 9);
+                            counts[4] += usize::from(read.answer.number == 14);
+                            state = if accepted { read.state } else { state };
+                        }
+                        Move::Change(_) => panic!("a change"),
+                    }
+                }
+            }
+            assert!(counts.iter().all(|&count| count >= 5), "{counts:?}");
+        }
     }
 
     #[test]

@@ -9,6 +9,7 @@ mod joining;
 mod lister;
 mod memory;
 mod page;
+mod page_file;
 mod peers;
 mod reading;
 mod spelling;
@@ -40,6 +41,7 @@ pub fn parts(settings: Settings) -> Vec<Part> {
     parts.extend(of_format(formats::mailbox, &library::MAILBOX, icu::MAILBOX, seed));
     parts.push(Part::new("mailbox-spelling", move |report| spelling::run(report, seed)));
     parts.extend(page::parts(seed));
+    parts.extend(page_file::parts(seed));
     parts.extend(memory::parts(settings));
     parts.extend(desk::parts(seed));
     parts.push(Part::aside("peers", move |report| peers::run(report, seed)));

@@ -4,6 +4,7 @@ pub mod desk;
 pub mod jp2;
 pub mod mailbox;
 pub mod page;
+pub mod page_file;
 pub mod utf7;
 
 use std::fmt::{self, Display, Formatter, UpperHex};

@@ -124,6 +124,11 @@ fn worked() -> [Course; 2] {
     ]
 }
 
+/// The worked page of document 01 when its one cell is replaced.
+pub fn worked_page() -> State {
+    body([4, 4, 5, 5], Some(0), &[0x41, 0x3D, 0x391, 0x2E, 0], &[1, 1, 1, 0x2262, 0x3D, 0])
+}
+
 /// A body page on "abc" that is saved and goes on.
 fn marks() -> Course {
     let turns = kept_marks().into_iter().chain(dropped_mark()).collect();
@@ -295,7 +300,8 @@ fn question(name: &'static str, state: State, number: u32, place: usize, unchang
 /// Calls on pages made by hand, sound and not.
 pub fn judged() -> Vec<Judged> {
     let not_sound = NOT_SOUND.iter().flat_map(|&(name, changes)| {
-        let calls = [Call::Undo, Call::Redo, replace(0, 0, &[]), save(P2, 9)];
+        let keep = Call::Keep { arrived: P2.to_vec(), room: 400 };
+        let calls = [Call::Undo, Call::Redo, replace(0, 0, &[]), save(P2, 9), keep];
         calls.map(|call| judge(name, with(changes), call, 14, 0))
     });
     not_sound.chain(sound_pages()).chain(replacements()).collect()

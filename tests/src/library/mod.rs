@@ -1,6 +1,7 @@
 //! The C interface of libqalithonda.a, in safe functions on slices.
 
 pub mod page;
+pub mod page_file;
 pub mod steps;
 
 use crate::second::Answer;

@@ -1,11 +1,12 @@
 //! The calls on a page.
 
+use super::page_file::{self, KEEP};
 use super::RawAnswer;
 use crate::second::page::{mark_of, Page};
 use crate::second::{Answer, Call, Kind};
 
 #[repr(C)]
-struct RawPage {
+pub struct RawPage {
     kind: u32,
     opening: usize,
     length: usize,
@@ -30,7 +31,7 @@ impl From<RawPage> for Page {
 }
 
 #[repr(C)]
-struct RawEdited {
+pub struct RawEdited {
     answer: RawAnswer,
     page: RawPage,
 }
@@ -122,6 +123,7 @@ pub fn name(call: &Call) -> &'static str {
         Call::Undo => UNDO,
         Call::Redo => REDO,
         Call::Save { .. } => SAVE,
+        Call::Keep { .. } => KEEP,
     }
 }
 
@@ -147,10 +149,12 @@ pub fn make(call: &Call, page: Page, text: &mut [u32], history: &mut [u32], outp
         Call::Undo => undo(page, text, history),
         Call::Redo => redo(page, text, history),
         Call::Save { arrived, .. } => save(page, text, history, arrived, output),
+        // It gives no page back: the caller goes on with its own.
+        Call::Keep { arrived, .. } => (page_file::keep(page, text, history, arrived, output), page),
     }
 }
 
-fn given(edited: RawEdited) -> (Answer, Page) {
+pub(super) fn given(edited: RawEdited) -> (Answer, Page) {
     (edited.answer.into(), edited.page.into())
 }
 

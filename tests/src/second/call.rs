@@ -11,13 +11,14 @@ pub enum Call {
     Undo,
     Redo,
     Save { arrived: Vec<u8>, room: usize },
+    Keep { arrived: Vec<u8>, room: usize },
 }
 
 impl Call {
     /// The length of the output lent to it.
     pub fn room(&self) -> usize {
         match self {
-            Call::Save { room, .. } => *room,
+            Call::Save { room, .. } | Call::Keep { room, .. } => *room,
             _ => 0,
         }
     }

@@ -1,6 +1,8 @@
 //! The ledger, after the section "The page" of document 01, with the mark of order 5 of document 02. "It takes nothing
 //! from the page, the text buffer or the history."
 
+use super::page::Page;
+use super::page_file::Content;
 use super::{Call, Elements, Kind};
 
 /// "A step is a place, a count removed and the cells added."
@@ -9,6 +11,15 @@ pub struct Step {
     pub place: usize,
     pub count: usize,
     pub cells: Vec<u32>,
+}
+
+impl Step {
+    /// The text with this step done.
+    fn done_on(&self, text: &[u32]) -> Vec<u32> {
+        let before = text.iter().take(self.place);
+        let after = text.iter().skip(self.place.saturating_add(self.count));
+        before.chain(&self.cells).chain(after).copied().collect()
+    }
 }
 
 /// "It holds the reading of those bytes and two lists of steps, standing and undone." Order 5: the mark is "the one
@@ -57,7 +68,7 @@ impl Ledger {
             Call::Redo if !self.undone.is_empty() => self.standing.push(self.undone.remove(0)),
             // "an accepted save sets it to the words done"
             Call::Save { .. } => self.saved = Some(done),
-            Call::Redo | Call::Open { .. } => {}
+            Call::Redo | Call::Open { .. } | Call::Keep { .. } => {}
         }
     }
 
@@ -74,11 +85,24 @@ impl Ledger {
     /// "The ledger's text begins as the reading. Each standing step in order turns it into the cells before its place,
     /// the cells added, and the cells from place plus count on."
     pub fn text(&self) -> Vec<u32> {
-        self.standing.iter().fold(self.reading.clone(), |text, step| {
-            let before = text.iter().take(step.place);
-            let after = text.iter().skip(step.place.saturating_add(step.count));
-            before.chain(&step.cells).chain(after).copied().collect()
-        })
+        self.standing.iter().fold(self.reading.clone(), |text, step| step.done_on(&text))
+    }
+
+    /// What order 6 keeps of a page that has these steps: the removed cells of each are those of the text before it.
+    pub fn content(&self, arrived: &[u8]) -> Content {
+        let mut reached = self.reading.clone();
+        let mut history = Vec::new();
+        for step in self.standing.iter().chain(&self.undone) {
+            let counts = [step.place, step.count, step.cells.len()].map(|number| number as u32);
+            history.extend(counts);
+            history.extend(reached.iter().skip(step.place).take(step.count));
+            history.extend(&step.cells);
+            reached = step.done_on(&reached);
+        }
+        let (text, saved) = (self.text(), self.saved);
+        let (kind, opening, used) = (self.kind.number(), self.reading.len(), history.len());
+        let page = Page { kind, opening, length: text.len(), used, done: self.words_done(), saved };
+        Content { page, arrived: arrived.to_vec(), text, history }
     }
 
     /// "the writing of the ledger's text in the page's kind"

@@ -4,7 +4,7 @@
 
 use std::fmt::{self, Display, Formatter};
 
-use super::{outcome, refuse, within_limit, Answer, Call, Elements, Kind};
+use super::{outcome, page_file, refuse, within_limit, Answer, Call, Elements, Kind};
 
 /// "A page has a kind (..), an opening length, a length, words used and words done." The kind is a number, which may be
 /// that of no kind. Order 5: "The page gains a saved mark: the words done at the last accepted save, or none."
@@ -51,6 +51,16 @@ pub struct Left {
     pub output: Vec<u8>,
 }
 
+impl Left {
+    /// The file that it gives, if this call is a keeping and was accepted.
+    pub fn file(&self, call: &Call) -> Option<Vec<u8>> {
+        match call {
+            Call::Keep { .. } if self.answer.number == 0 => self.output.get(..self.answer.place).map(<[u8]>::to_vec),
+            _ => None,
+        }
+    }
+}
+
 /// What the question gives.
 #[derive(Clone, Copy, Debug, PartialEq, Eq)]
 pub struct Asked {
@@ -80,6 +90,10 @@ pub fn left(state: &State, call: &Call, output: &[u8]) -> Left {
             let mark = if saved.answer.number == 0 { Some(state.page.done) } else { state.page.saved };
             let state = State { page: Page { saved: mark, ..state.page }, ..state.clone() };
             Left { answer: saved.answer, state, output: saved.output }
+        }
+        Call::Keep { arrived, .. } => {
+            let kept = outcome(&page_file::keep(state, arrived), output);
+            Left { answer: kept.answer, state: state.clone(), output: kept.output }
         }
     }
 }
@@ -144,8 +158,8 @@ fn records(mut words: &[u32]) -> Option<Vec<Record>> {
 
 /// What a sound page says: "those before *done* stand, the others can be redone."
 pub struct Sound {
-    kind: Kind,
-    text: Vec<u32>,
+    pub kind: Kind,
+    pub text: Vec<u32>,
     pub standing: Vec<Record>,
     pub undone: Vec<Record>,
 }
@@ -203,7 +217,7 @@ fn accepted_page(state: &State, list: usize) -> Result<Sound, Answer> {
     sound(state).ok_or(Answer { number: 14, place: 0 })
 }
 
-fn all_within_limit(state: &State, list: usize) -> Result<(), Answer> {
+pub(super) fn all_within_limit(state: &State, list: usize) -> Result<(), Answer> {
     [list, state.text.len(), state.history.len()].into_iter().try_for_each(within_limit)
 }
 

@@ -1,13 +1,17 @@
 //! The calls on a page.
 
 use super::{name, on_both_sides, WHAT};
+use crate::calls::files::{self, Filed};
 use crate::calls::{limit, seeded, List, Move, Sort};
 use crate::checks::page::expect_statuses;
 use crate::guarded::{Guarded, Side};
 use crate::lent::filled;
 use crate::library::page as library;
+use crate::library::page_file::{self, KEEP, READ};
 use crate::report::{Report, Statuses};
+use crate::rng::Rng;
 use crate::second::page::{Left, State};
+use crate::second::page_file::FileLeft;
 use crate::second::{Answer, Call, Kind};
 use crate::settings::Settings;
 use crate::trial::try_all;
@@ -19,6 +23,7 @@ struct Memory {
     cells: Guarded,
     arrived: Guarded,
     output: Guarded,
+    file: Guarded,
 }
 
 pub fn run(report: &mut Report, settings: Settings) {
@@ -30,6 +35,7 @@ pub fn run(report: &mut Report, settings: Settings) {
         (library::UNDO, Sort::Undo),
         (library::REDO, Sort::Redo),
         (library::SAVE, Sort::Save),
+        (KEEP, Sort::Keep),
     ];
     for (function, sort) in opens.into_iter().chain(others) {
         report.check(&name(function), WHAT, |statuses| {
@@ -46,12 +52,29 @@ pub fn run(report: &mut Report, settings: Settings) {
         });
         expect_statuses(report, kind);
     }
+    run_files(report, &mut memory, settings);
+}
+
+/// Readings of page files.
+fn run_files(report: &mut Report, memory: &mut Memory, Settings { seed, rounds }: Settings) {
+    let mut rng = Rng::new(seed, "files in guarded memory");
+    let seeded = (0..rounds).map(|_| {
+        let kind = rng.pick(&Kind::ALL);
+        files::one(&mut rng, kind)
+    });
+    report.check(&name(READ), WHAT, |statuses| try_all(seeded, |filed| memory.read(filed, statuses)));
+    let what = "files with as much as can be kept, and with more, in guarded memory";
+    report.check(&name("page-file-limit"), what, |statuses| {
+        let kinds = Kind::ALL.into_iter();
+        try_all(kinds.flat_map(files::at_limit), |filed| memory.read(filed, statuses))
+    });
+    report.expect_statuses(READ, &[0, 9, 14, 15, 16, 18]);
 }
 
 impl Memory {
     fn new() -> Memory {
-        let [text, history, cells, arrived, output] = std::array::from_fn(|_| Guarded::new());
-        Memory { text, history, cells, arrived, output }
+        let [text, history, cells, arrived, output, file] = std::array::from_fn(|_| Guarded::new());
+        Memory { text, history, cells, arrived, output, file }
     }
 
     /// Makes the calls of a list, and asks the question after each.
@@ -60,6 +83,8 @@ impl Memory {
         for (number, item) in (1..).zip(&list.moves) {
             match item {
                 Move::Change(change) => change.make(&mut state),
+                // These are tried one by one.
+                Move::Read(_) => {}
                 Move::Call(call) => {
                     let after = |difference| format!("after {number}, {difference}");
                     let left = on_both_sides(|side| self.make(&state, call, side)).map_err(after)?;
@@ -82,9 +107,27 @@ impl Memory {
         Ok(())
     }
 
+    /// Reads a page file, which is lent to be read.
+    fn read(&mut self, filed: &Filed, statuses: &mut Statuses) -> Result<(), String> {
+        let Memory { text, history, arrived, file, .. } = self;
+        let (State { text: cells, history: words, .. }, bytes) = filed.buffers();
+        let left = on_both_sides(|side| {
+            let (answer, page) = page_file::read(
+                file.lend_to_read(&filed.file, side),
+                arrived.lend(&bytes, side),
+                text.lend(&cells, side),
+                history.lend(&words, side),
+            );
+            let (text, history) = (text.contents(cells.len(), side), history.contents(words.len(), side));
+            FileLeft { answer, state: State { page, text, history }, arrived: arrived.contents(bytes.len(), side) }
+        })?;
+        statuses.count(READ, left.answer.number);
+        Ok(())
+    }
+
     /// Makes a call: what it has no business to write to is lent to be read.
     fn make(&mut self, state: &State, call: &Call, side: Side) -> Left {
-        let Memory { text, history, cells, arrived, output } = self;
+        let Memory { text, history, cells, arrived, output, .. } = self;
         let State { page, text: all_cells, history: words } = state;
         let (answer, page) = match call {
             Call::Open { kind, arrived: bytes } => {
@@ -102,6 +145,12 @@ impl Memory {
                 let output = output.lend(&filled(*room), side);
                 let (text, history) = (text.lend_to_read(all_cells, side), history.lend_to_read(words, side));
                 library::save(*page, text, history, bytes, output)
+            }
+            Call::Keep { arrived: bytes, room } => {
+                let bytes = arrived.lend_to_read(bytes, side);
+                let output = output.lend(&filled(*room), side);
+                let (text, history) = (text.lend_to_read(all_cells, side), history.lend_to_read(words, side));
+                (page_file::keep(*page, text, history, bytes, output), *page)
             }
         };
         let state =

@@ -1,54 +1,104 @@
-//! Demand 3 of document 01, by the ledger, with the mark and the question of order 5 of document 02: what holds after
-//! each call of a list, and after the list.
+//! Demand 3 of document 01, by the ledger, with the mark and the question of order 5 of document 02 and the page files
+//! of order 6: what holds after each call of a list, each reading of a file that was kept, and after the list.
 
 use super::Program;
-use crate::calls::{List, Move};
+use crate::calls::{blank, List, Move, Reading};
+use crate::lent::filled;
 use crate::second::ledger::{Ledger, Step};
 use crate::second::page::{self, Asked, Left, Record, State};
 use crate::second::{Answer, Call, Kind};
 use crate::trial::show;
 
 /// What was opened: the bytes that arrived, and the ledger of the calls since.
+#[derive(Clone)]
 struct Opened {
     arrived: Vec<u8>,
     ledger: Ledger,
 }
 
+/// A file that was kept: the state at that keeping, and what was opened, where it was lent the very bytes of that.
+#[derive(Clone)]
+struct Kept {
+    file: Vec<u8>,
+    state: State,
+    opened: Option<Opened>,
+}
+
+/// Where a list has led on a program.
+struct Course<'a> {
+    program: &'a Program<'a>,
+    state: State,
+    opened: Option<Opened>,
+    kept: Vec<Kept>,
+}
+
 /// Makes the calls of a list on a program, and asks after each whether what demand 3 says holds of it.
 pub fn follow(list: &List, program: &Program) -> Result<(), String> {
-    let mut state = list.start.clone();
-    let mut opened = None;
+    let mut course = Course { program, state: list.start.clone(), opened: None, kept: Vec::new() };
     for (number, item) in (1..).zip(&list.moves) {
+        let after = |difference| format!("after {number}, {difference}");
         match item {
             // The ledger hears nothing of it: demand 3 does not speak of what follows.
             Move::Change(change) => {
-                change.make(&mut state);
-                opened = None;
+                change.make(&mut course.state);
+                course.opened = None;
             }
-            Move::Call(call) => {
-                let after = |difference| format!("after {number}, {difference}");
-                state = follow_call(&mut opened, &state, call, program).map_err(after)?;
-            }
+            Move::Call(call) => course.call(call).map_err(after)?,
+            Move::Read(reading) => course.read(reading).map_err(after)?,
         }
     }
     let at_the_bottom = |difference| format!("after the list, undone until it is refused, {difference}");
+    let Course { opened, state, .. } = course;
     opened.map_or(Ok(()), |opened| opened.holds_at_the_bottom(state, program).map_err(at_the_bottom))
 }
 
-/// Makes a call, and asks what holds of its answer and of the state that it leaves.
-fn follow_call(opened: &mut Option<Opened>, state: &State, call: &Call, program: &Program) -> Result<State, String> {
-    let left = (program.make)(state, call)?;
-    let accepted = left.answer.number == 0;
-    if let Call::Open { kind, arrived } = call {
-        *opened = if accepted { Some(Opened::new(*kind, arrived)?) } else { None };
-    } else if let Some(opened) = opened {
-        opened.holds_of(call, &left)?;
-        opened.ledger.hear(call, accepted);
+impl Course<'_> {
+    /// Makes a call, and asks what holds of its answer and of the state that it leaves.
+    fn call(&mut self, call: &Call) -> Result<(), String> {
+        let left = (self.program.make)(&self.state, call)?;
+        let accepted = left.answer.number == 0;
+        if let Call::Open { kind, arrived } = call {
+            self.opened = if accepted { Some(Opened::new(*kind, arrived)?) } else { None };
+        } else if let Some(opened) = &mut self.opened {
+            opened.holds_of(call, &left)?;
+            opened.ledger.hear(call, accepted);
+        }
+        if let Some(opened) = &self.opened {
+            opened.holds(&left.state, self.program)?;
+        }
+        if let (Some(file), Call::Keep { arrived, .. }) = (left.file(call), call) {
+            // "where keeping is lent the very bytes the page was opened on"
+            let opened = self.opened.clone().filter(|opened| opened.arrived == *arrived);
+            self.kept.push(Kept { file, state: left.state.clone(), opened });
+        }
+        self.state = left.state;
+        Ok(())
     }
-    if let Some(opened) = opened {
-        opened.holds(&left.state, program)?;
+
+    /// Reads a file that was kept: "the ledger goes on as it was at that keeping." It is refused only where a buffer is
+    /// shorter than it was then, and the list goes on as before.
+    fn read(&mut self, reading: &Reading) -> Result<(), String> {
+        let Some(Kept { file, state, opened }) = reading.file(&self.kept).cloned() else { return Ok(()) };
+        let (buffers, room) = reading.buffers();
+        let left = (self.program.read)(&file, &buffers, &room)?;
+        let is_roomy = buffers.text.len() >= state.text.len() && buffers.history.len() >= state.history.len();
+        match &opened {
+            Some(opened) if left.answer.number != 0 && is_roomy && room.len() >= opened.arrived.len() => {
+                return Err(format!("a file that was kept is refused: {}", left.answer));
+            }
+            Some(opened) if left.answer.number == 0 => {
+                if left.arrived.get(..left.answer.place) != Some(&opened.arrived) {
+                    return Err(format!("it arrived as \"{}\"", left.arrived.escape_ascii()));
+                }
+                opened.holds(&left.state, self.program)?;
+            }
+            _ => {}
+        }
+        if left.answer.number == 0 {
+            (self.state, self.opened) = (left.state, opened);
+        }
+        Ok(())
     }
-    Ok(left.state)
 }
 
 impl Opened {
@@ -62,9 +112,28 @@ impl Opened {
         self.records_agree(state)?;
         text_is(&self.ledger.text(), state)?;
         self.mark_is_kept(state, program)?;
+        self.can_be_kept(state, program)?;
         for call in [Call::Undo, Call::Redo, self.save()] {
             let of_call = |difference| format!("{call} would be wrong: {difference}");
             (program.make)(state, &call).and_then(|left| self.holds_of(&call, &left)).map_err(of_call)?;
+        }
+        Ok(())
+    }
+
+    /// Lent the opened bytes, keeping refuses only for room; the file is the ledger's, and read into buffers as long as
+    /// these it gives back the page, its buffers and the bytes.
+    fn can_be_kept(&self, state: &State, program: &Program) -> Result<(), String> {
+        let file = self.ledger.content(&self.arrived).file();
+        let keep = |room| (program.make)(state, &Call::Keep { arrived: self.arrived.clone(), room });
+        let kept = keep(file.len())?;
+        if kept.answer.number != 0 || kept.output != file || kept.state != *state {
+            return Err(format!("it is kept with {} as \"{}\"", kept.answer, kept.output.escape_ascii()));
+        }
+        number_is(9, &keep(file.len() - 1)?)?;
+        let buffers = blank(state.text.len(), state.history.len());
+        let left = (program.read)(&file, &buffers, &filled(self.arrived.len()))?;
+        if left.answer.number != 0 || left.state != *state || left.arrived != self.arrived {
+            return Err(format!("its file is read with {}, and the page has {}", left.answer, left.state.page));
         }
         Ok(())
     }
@@ -172,22 +241,40 @@ mod tests {
     use crate::calls::seeded;
     use crate::checks::page::second;
     use crate::second::page::Page;
+    use crate::second::page_file::{self, FileLeft};
 
     /// Whether demand 3 holds of a program on seeded lists.
     fn holds_of_program(program: &Program) -> bool {
-        let lists = |kind| seeded::opened(1, kind, seeded::SMALL, 100);
+        let lists = |kind| seeded::opened(1, kind, seeded::SMALL, 100).chain(seeded::kept(1, kind, seeded::SMALL, 50));
         Kind::ALL.into_iter().flat_map(lists).all(|list| follow(&list, program).is_ok())
+    }
+
+    fn read(file: &[u8], buffers: &State, arrived: &[u8]) -> Result<FileLeft, String> {
+        Ok(page_file::left(file, buffers, arrived))
     }
 
     /// Whether it holds of one that answers the question as the second program does.
     fn holds(make: impl Fn(&State, &Call) -> Result<Left, String>) -> bool {
-        holds_of_program(&Program { make: &make, ask: &|state| Ok(page::ask(state)) })
+        holds_of_program(&Program { make: &make, ask: &|state| Ok(page::ask(state)), read: &read })
     }
 
     /// Whether it holds of one that makes the calls as the second program does, and answers the question by this rule.
     fn holds_of_answer(is_unchanged: impl Fn(&Page) -> bool) -> bool {
         let ask = |state: &State| Ok(Asked { unchanged: is_unchanged(&state.page), ..page::ask(state) });
-        holds_of_program(&Program { make: &|state, call| Ok(second(state, call)), ask: &ask })
+        holds_of_program(&Program { make: &|state, call| Ok(second(state, call)), ask: &ask, read: &read })
+    }
+
+    /// Whether it holds of one that makes the calls as the second program does, and leaves this of a reading instead.
+    fn holds_of_reading(change: fn(&mut FileLeft)) -> bool {
+        let read = |file: &[u8], buffers: &State, arrived: &[u8]| {
+            let mut left = page_file::left(file, buffers, arrived);
+            if left.answer.number == 0 {
+                change(&mut left);
+            }
+            Ok(left)
+        };
+        let make = |state: &State, call: &Call| Ok(second(state, call));
+        holds_of_program(&Program { make: &make, ask: &|state| Ok(page::ask(state)), read: &read })
     }
 
     fn accept(state: State) -> Result<Left, String> {
@@ -328,6 +415,54 @@ mod tests {
             |page| page.done == 0,
         ];
         assert!(others.into_iter().all(|other| !holds_of_answer(other)));
+    }
+
+    #[test]
+    fn a_reading_gives_back_what_was_kept() {
+        assert!(holds_of_reading(|_| {}));
+        let others: [fn(&mut FileLeft); 6] = [
+            |left| left.answer = Answer { number: 18, place: 0 },
+            |left| left.state.page.saved = None,
+            |left| left.state.page.saved = Some(left.state.page.done),
+            |left| left.state.page.done = left.state.page.used,
+            |left| left.state.history[..left.state.page.used].fill(0),
+            |left| left.arrived.reverse(),
+        ];
+        assert!(others.into_iter().all(|other| !holds_of_reading(other)));
+    }
+
+    #[test]
+    fn a_file_has_all_steps_and_the_mark() {
+        let others: [fn(&mut State); 4] = [
+            |state| state.page.saved = None,
+            |state| state.page.saved = Some(state.page.done),
+            |state| {
+                state.history[state.page.done..].fill(0);
+                state.page.used = state.page.done;
+            },
+            |state| state.page.opening = state.page.length,
+        ];
+        for other in others {
+            assert!(!holds(|state, call| {
+                let left = second(state, call);
+                if left.file(call).is_none() {
+                    return Ok(left);
+                }
+                let mut kept = state.clone();
+                other(&mut kept);
+                Ok(Left { state: state.clone(), ..second(&kept, call) })
+            }));
+        }
+    }
+
+    #[test]
+    fn keeping_refuses_only_for_room() {
+        assert!(!holds(|state, call| match second(state, call) {
+            left if left.file(call).is_some() && state.page.used > state.page.done => {
+                Ok(Left { answer: Answer { number: 15, place: 0 }, ..left })
+            }
+            left => Ok(left),
+        }));
     }
 
     #[test]

@@ -1,17 +1,20 @@
 //! The library's page: its calls compared with the papers, with the second program and with the ledger.
 
-mod demand3;
+pub mod demand3;
 
 use super::call::rooms;
-use crate::calls::{limit, marks, opening, seeded, List, Move};
+use super::page_file as files;
+use crate::calls::{limit, marks, opening, seeded, List, Move, Reading};
 use crate::examples::page::{courses, judged, questions, Course, Judged, Question, Turn};
 use crate::formats;
 use crate::lent::{filled, Lent};
 use crate::library::page as library;
+use crate::library::page_file::KEEP;
 use crate::parts::Part;
 use crate::report::{Report, Statuses};
 use crate::rng::Rng;
 use crate::second::page::{self, Asked, Left, State};
+use crate::second::page_file::{self, FileLeft};
 use crate::second::{Answer, Call, Kind};
 use crate::trial::{same, try_all, try_examples};
 
@@ -79,16 +82,19 @@ pub fn expect_statuses(report: &mut Report, kind: Kind) {
     report.expect_statuses(library::REDO, &[0, 13, 14, 16]);
     report.expect_statuses(library::SAVE, &[0, 9, 10, 14, 15, 16]);
     report.expect_statuses(library::UNCHANGED, &[0, 14, 16]);
+    report.expect_statuses(KEEP, &[0, 9, 14, 15, 16]);
 }
 
-/// A program that keeps a page: how a call is made on it, and how it is asked the question.
-struct Program<'a> {
+/// A program that keeps a page: how a call is made on it, how it is asked the question, and how it reads a file into
+/// buffers.
+pub struct Program<'a> {
     make: &'a dyn Fn(&State, &Call) -> Result<Left, String>,
     ask: &'a dyn Fn(&State) -> Result<Asked, String>,
+    read: &'a dyn Fn(&[u8], &State, &[u8]) -> Result<FileLeft, String>,
 }
 
 /// The library.
-const BUILT: Program = Program { make: &built, ask: &built_asked };
+pub const BUILT: Program = Program { make: &built, ask: &built_asked, read: &files::built };
 
 /// What the second program leaves, lent this state.
 fn second(state: &State, call: &Call) -> Left {
@@ -96,7 +102,7 @@ fn second(state: &State, call: &Call) -> Left {
 }
 
 /// What the library leaves, lent this state; or what it did to the memory beside that.
-fn built(state: &State, call: &Call) -> Result<Left, String> {
+pub fn built(state: &State, call: &Call) -> Result<Left, String> {
     let (mut text, mut history) = (Lent::new(&state.text), Lent::new(&state.history));
     let mut output = Lent::new(&filled(call.room()));
     let (answer, page) = library::make(call, state.page, text.contents(), history.contents(), output.contents());
@@ -122,8 +128,9 @@ fn built_asked(state: &State) -> Result<Asked, String> {
 
 /// Makes the calls of a list, and compares what each leaves with what the second program leaves. After each, and after
 /// each change, the question is asked.
-fn follow(list: &List, statuses: &mut Statuses) -> Result<(), String> {
+pub fn follow(list: &List, statuses: &mut Statuses) -> Result<(), String> {
     let mut state = list.start.clone();
+    let mut kept = Vec::new();
     compare_asked(&state, &page::ask(&state), statuses).map_err(|difference| format!("at first, {difference}"))?;
     for (number, item) in (1..).zip(&list.moves) {
         let after = |difference| format!("after {number}, {difference}");
@@ -132,12 +139,28 @@ fn follow(list: &List, statuses: &mut Statuses) -> Result<(), String> {
             Move::Call(call) => {
                 let expected = second(&state, call);
                 compare(&state, call, &expected, statuses).map_err(after)?;
+                kept.extend(expected.file(call));
                 state = expected.state;
+            }
+            Move::Read(reading) => {
+                if let Some(read) = follow_reading(reading, &kept, statuses).map_err(after)? {
+                    state = read;
+                }
             }
         }
         compare_asked(&state, &page::ask(&state), statuses).map_err(after)?;
     }
     Ok(())
+}
+
+/// Reads one of the files that were kept, and compares what is left with what the second program leaves. Where it is
+/// accepted, the list goes on with that.
+fn follow_reading(reading: &Reading, kept: &[Vec<u8>], statuses: &mut Statuses) -> Result<Option<State>, String> {
+    let Some(file) = reading.file(kept) else { return Ok(None) };
+    let (buffers, arrived) = reading.buffers();
+    let expected = page_file::left(file, &buffers, &arrived);
+    files::compare_left(file, &buffers, &arrived, &expected, statuses)?;
+    Ok((expected.answer.number == 0).then_some(expected.state))
 }
 
 /// Makes the calls of an example, and compares what each leaves with what the paper says.
@@ -155,8 +178,11 @@ fn follow_course(course: &Course, statuses: &mut Statuses) -> Result<(), String>
 
 /// Compares the answer of a call with that of the example, and all that it leaves with what the second program leaves.
 fn compare_judged(example: &Judged, statuses: &mut Statuses) -> Result<(), String> {
-    let Judged { state, call, answer, .. } = example;
-    compare(state, call, &Left { answer: *answer, ..second(state, call) }, statuses)
+    compare_answered(&example.state, &example.call, example.answer, statuses)
+}
+
+pub fn compare_answered(state: &State, call: &Call, answer: Answer, statuses: &mut Statuses) -> Result<(), String> {
+    compare(state, call, &Left { answer, ..second(state, call) }, statuses)
 }
 
 /// Makes a call on the library, and compares what it leaves with what it is to leave.
