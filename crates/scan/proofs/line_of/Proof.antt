@@ -1,0 +1,104 @@
+use Prim.Native.Nat.{ℕ, _+_, _-_, _*_, _/_, _%_, _<_}
+use mathlib.Core.Path.{_≡_, ap, sym, _∙_}
+use mathlib.Core.Logic.{_⊎_, inl, inr}
+use native.Mathlib.Omega.{arith}
+use lib.ListN.{length}
+use Rattle.scan.proofs.Hexes.{Scanned, scan-fails, scan-found, list-past}
+use borrow.Author.Needs.{needs}
+use Rattle.scan.proofs.line_of.Statement.{statement}
+use Rattle.scan.proofs.line_of.Tie as tie
+
+scanned :
+    (c : tie.After-digits-end) → let a = c .before .before .before .before .args in
+    Scanned (a .s .now) (a .k) (a .least) (a .most) (a .from) (c .before .up-to .result) (c .digits-end .result)
+scanned c =
+    let u = c .before .up-to .ensures in
+    let d = c .digits-end .ensures in
+    record {
+      digital = omega arith;
+      need = omega arith;
+      from-end = d .0;
+      end-to = d .1;
+      to-end = u .1;
+      capped = u .3;
+      cap = u .2;
+      digits = d .2;
+      stop = d .3;
+    }
+
+not-found-requires : tie.Need-not-found-requires
+not-found-requires c κs = search needs
+
+returns : tie.Need-returns
+returns c = rw (c .not-found .ensures) (list-past (c .before .before .before .args .s .now) (c .before .before .before .args .k) (c .before .before .before .args .least) (c .before .before .before .args .most) (c .before .before .before .args .from) (omega arith) (omega arith))
+
+up-to-requires : tie.Need-up-to-requires
+up-to-requires c κs = search needs
+
+digits-end-requires : tie.Need-digits-end-requires
+digits-end-requires c κs = search needs
+
+not-found-requires-2 : tie.Need-not-found-requires-2
+not-found-requires-2 c κs = search needs
+
+returns-2 : tie.Need-returns-2
+returns-2 c = rw (c .not-found2 .ensures) (scan-fails (scanned (c .before .before)) (λ l _. absurd (omega arith)))
+
+shared-slice-read-if3 : tie.Need-shared-slice-read-if3
+shared-slice-read-if3 c = search needs
+
+not-found-requires-3 : tie.Need-not-found-requires-3
+not-found-requires-3 c κs = search needs
+
+returns-3 : tie.Need-returns-3
+returns-3 c = rw (c .not-found3 .ensures) (scan-fails (scanned (c .before .before .before .before)) (λ _ e. absurd (c .before .if3 .taken e)))
+
+sub-size : tie.Need-sub-size
+sub-size c = search needs
+
+rem-if4 : tie.Need-rem-if4
+rem-if4 c = search needs
+
+not-found-requires-4 : tie.Need-not-found-requires-4
+not-found-requires-4 c κs = search needs
+
+returns-4 : tie.Need-returns-4
+returns-4 c = rw (c .not-found4 .ensures) (scan-fails (scanned (c .before .before .before .before .before)) (λ _ _. inl (omega (arith, c .before .if4 .taken))))
+
+div-n : tie.Need-div-n
+div-n c = search needs
+
+not-found-requires-5 : tie.Need-not-found-requires-5
+not-found-requires-5 c κs = search needs
+
+returns-5 : tie.Need-returns-5
+returns-5 c = rw (c .not-found5 .ensures) (scan-fails (scanned (c .before .before .before .before .before .before)) (λ _ _. inr (c .before .if5 .taken)))
+
+add-t10 : tie.Need-add-t10
+add-t10 c = search needs
+
+returns-6 : tie.Need-returns-6
+returns-6 c = scan-found (scanned (c .before .before .before .before .before)) (omega arith) (c .before .before .if3 .left) (omega (arith, c .before .if4 .left)) (omega arith)
+
+pub line-of-spec : {M : Type 1} → statement M
+line-of-spec =
+    tie.close
+    (tie.spec
+    not-found-requires
+    returns
+    up-to-requires
+    digits-end-requires
+    not-found-requires-2
+    returns-2
+    shared-slice-read-if3
+    not-found-requires-3
+    returns-3
+    sub-size
+    rem-if4
+    not-found-requires-4
+    returns-4
+    div-n
+    not-found-requires-5
+    returns-5
+    add-t10
+    returns-6)

@@ -1,0 +1,57 @@
+use Prim.Native.Nat.{_+_, _-_, _≤_}
+use mathlib.Core.Path.{_≡_}
+use native.Mathlib.Omega.{arith}
+use borrow.Author.Tests.{not-false}
+use Rattle.answer.specs.Ahead.{Ahead}
+use Rattle.scan.specs.Inner.{IsDigit}
+use Rattle.scan.proofs.Words.{digits-none, digits-block}
+use borrow.Author.Needs.{needs}
+use Rattle.scan.proofs.past_digits.Statement.{statement}
+use Rattle.scan.proofs.past_digits.Tie as tie
+
+abbrev Inv-loop : tie.InvT-loop
+Inv-loop s from to at₀ at = (from ≤ at) × (at ≤ to) × Ahead IsDigit s from (at - from)
+
+abbrev μ-loop : tie.MeasureT-loop
+μ-loop s from to at₀ at = to - at
+
+loop-holds : tie.Need-loop-holds Inv-loop μ-loop
+loop-holds c =
+    let e : c .before .args .from - c .before .args .from ≡ 0 = omega arith in
+    (omega arith, omega arith, rw e (digits-none (c .before .args .s .now) (c .before .args .from)))
+
+sub-loop : tie.Need-sub-loop Inv-loop μ-loop
+sub-loop c = search needs
+
+all-digits-requires : tie.Need-all-digits-requires Inv-loop μ-loop
+all-digits-requires c κs = search needs
+
+returns : tie.Need-returns Inv-loop μ-loop
+returns c = search needs
+
+add-at : tie.Need-add-at Inv-loop μ-loop
+add-at c = search needs
+
+loop-less : tie.Need-loop-less Inv-loop μ-loop
+loop-less c = search needs
+
+loop-again : tie.Need-loop-again Inv-loop μ-loop
+loop-again c = (omega arith, omega arith, digits-block (c .before .before .before .before .before .args .s .now) (c .before .before .before .before .before .args .from) (c .before .before .before .loop .at) 32 (c .before .before .before .loop .inv .0) (c .before .before .before .loop .inv .2) (c .before .all-digits .ensures (not-false _ (c .if1 .left))))
+
+returns-2 : tie.Need-returns-2 Inv-loop μ-loop
+returns-2 c = search needs
+
+pub past-digits-spec : {M : Type 1} → statement M
+past-digits-spec =
+    tie.close
+    (tie.spec
+    Inv-loop
+    μ-loop
+    loop-holds
+    sub-loop
+    all-digits-requires
+    returns
+    add-at
+    loop-less
+    loop-again
+    returns-2)
