@@ -343,6 +343,11 @@ module _ {s : List ℕ} {k least most from to end : ℕ} (p : Scanned s k least 
       (list-found s k (p .digital) (size / k) least most from h few-groups (f, omega arith, rw y e)
       ∙ ap (λ (n : ℕ). found (hexesAt s from k (size / k)) (drop (n + 1) s) (n + 1)) y)
 
+  pub scan-spans :
+      end < length s → size % k ≡ 0 → least ≤ size / k →
+      (least ≤ size / k) × (size / k ≤ most) × (end + 1 ≡ from + size / k * k + 1) × (end + 1 ≤ length s)
+  scan-spans l z h = (h, few-groups, omega (arith, parts), omega arith)
+
 -- past the end of a text
 none-there : (k least most from : ℕ) → list (suc k) least most [] from ≡ failed from
 unfolding list literal numberFrom digitWhere

@@ -8,7 +8,7 @@ ghost use Rattle.answer.specs.Answer.{limit};
 ghost use Rattle.answer.specs.Ahead.{Ahead};
 ghost use Rattle.parsing.specs.Parsing.{literal};
 ghost use Rattle.parsing.specs.Digits.{valueOf, number, list};
-ghost use Rattle.scan.specs.Found.{foundIn, passedIn, numbersIn};
+ghost use Rattle.scan.specs.Found.{foundIn, passedIn, numbersIn, Spans};
 ghost use Rattle.scan.specs.Inner.{IsDigit};
 
 // A value and the place behind it; or, where it is not found, the place of the first byte that cannot stand there.
@@ -182,7 +182,8 @@ fn up_to(end: usize, from: usize, n: usize, k: usize) -> usize
 // To the end of the line, at least and at most so many numbers of k hex digits: how many there are.
 fn line_of(s: &[u8], from: usize, k: usize, least: usize, most: usize) -> Found
     requires { ⌜ (0 < k) × (least ≤ most) ⌝ }
-    ensures { λ r. ⌜ numbersIn k from (now (s .entry)) r ≡ list k least most (drop from (now (s .entry))) from ⌝ }
+    ensures { λ r. ⌜ (numbersIn k from (now (s .entry)) r ≡ list k least most (drop from (now (s .entry))) from)
+        × Spans k least most from (now (s .entry)) r ⌝ }
 {
     if s.len() < from {
         return not_found(from);
@@ -212,14 +213,16 @@ fn line_of(s: &[u8], from: usize, k: usize, least: usize, most: usize) -> Found
 
 // A line of bytes, at most 65,536.
 pub fn bytes_line(s: &[u8], from: usize) -> Found
-    ensures { λ r. ⌜ numbersIn 2 from (now (s .entry)) r ≡ list 2 0 limit (drop from (now (s .entry))) from ⌝ }
+    ensures { λ r. ⌜ (numbersIn 2 from (now (s .entry)) r ≡ list 2 0 limit (drop from (now (s .entry))) from)
+        × Spans 2 0 limit from (now (s .entry)) r ⌝ }
 {
     line_of(s, from, 2, 0, answer::LIMIT)
 }
 
 // A line of so many words.
 pub fn words_line(s: &[u8], from: usize, n: usize) -> Found
-    ensures { λ r. ⌜ numbersIn 8 from (now (s .entry)) r ≡ list 8 n n (drop from (now (s .entry))) from ⌝ }
+    ensures { λ r. ⌜ (numbersIn 8 from (now (s .entry)) r ≡ list 8 n n (drop from (now (s .entry))) from)
+        × Spans 8 n n from (now (s .entry)) r ⌝ }
 {
     line_of(s, from, 8, n, n)
 }

@@ -1,9 +1,11 @@
 use Prim.Native.Nat.{ℕ, _+_, _-_, _*_, _/_, _%_, _<_}
 use mathlib.Core.Path.{_≡_, ap, sym, _∙_}
+use mathlib.Core.Bool.{true, false, false≢true}
 use mathlib.Core.Logic.{_⊎_, inl, inr}
 use native.Mathlib.Omega.{arith}
 use lib.ListN.{length}
-use Rattle.scan.proofs.Hexes.{Scanned, scan-fails, scan-found, list-past}
+use Rattle.scan.specs.declared.Found.{Found}
+use Rattle.scan.proofs.Hexes.{Scanned, scan-fails, scan-found, scan-spans, list-past}
 use borrow.Author.Needs.{needs}
 use Rattle.scan.proofs.line_of.Statement.{statement}
 use Rattle.scan.proofs.line_of.Tie as tie
@@ -26,11 +28,14 @@ scanned c =
       stop = d .3;
     }
 
+no-span : {X : Type 0} (r : Found) (at : ℕ) → r ≡ record { ok = false; value = 0; at = at } → r .ok ≡ true → X
+no-span r at e h = absurd (false≢true (sym (ap (λ (x : Found). x .ok) e) ∙ h))
+
 not-found-requires : tie.Need-not-found-requires
 not-found-requires c κs = search needs
 
 returns : tie.Need-returns
-returns c = rw (c .not-found .ensures) (list-past (c .before .before .before .args .s .now) (c .before .before .before .args .k) (c .before .before .before .args .least) (c .before .before .before .args .most) (c .before .before .before .args .from) (omega arith) (omega arith))
+returns c = (rw (c .not-found .ensures) (list-past (c .before .before .before .args .s .now) (c .before .before .before .args .k) (c .before .before .before .args .least) (c .before .before .before .args .most) (c .before .before .before .args .from) (omega arith) (omega arith)), no-span _ _ (c .not-found .ensures))
 
 up-to-requires : tie.Need-up-to-requires
 up-to-requires c κs = search needs
@@ -42,7 +47,7 @@ not-found-requires-2 : tie.Need-not-found-requires-2
 not-found-requires-2 c κs = search needs
 
 returns-2 : tie.Need-returns-2
-returns-2 c = rw (c .not-found2 .ensures) (scan-fails (scanned (c .before .before)) (λ l _. absurd (omega arith)))
+returns-2 c = (rw (c .not-found2 .ensures) (scan-fails (scanned (c .before .before)) (λ l _. absurd (omega arith))), no-span _ _ (c .not-found2 .ensures))
 
 shared-slice-read-if3 : tie.Need-shared-slice-read-if3
 shared-slice-read-if3 c = search needs
@@ -51,7 +56,7 @@ not-found-requires-3 : tie.Need-not-found-requires-3
 not-found-requires-3 c κs = search needs
 
 returns-3 : tie.Need-returns-3
-returns-3 c = rw (c .not-found3 .ensures) (scan-fails (scanned (c .before .before .before .before)) (λ _ e. absurd (c .before .if3 .taken e)))
+returns-3 c = (rw (c .not-found3 .ensures) (scan-fails (scanned (c .before .before .before .before)) (λ _ e. absurd (c .before .if3 .taken e))), no-span _ _ (c .not-found3 .ensures))
 
 sub-size : tie.Need-sub-size
 sub-size c = search needs
@@ -63,7 +68,7 @@ not-found-requires-4 : tie.Need-not-found-requires-4
 not-found-requires-4 c κs = search needs
 
 returns-4 : tie.Need-returns-4
-returns-4 c = rw (c .not-found4 .ensures) (scan-fails (scanned (c .before .before .before .before .before)) (λ _ _. inl (omega (arith, c .before .if4 .taken))))
+returns-4 c = (rw (c .not-found4 .ensures) (scan-fails (scanned (c .before .before .before .before .before)) (λ _ _. inl (omega (arith, c .before .if4 .taken)))), no-span _ _ (c .not-found4 .ensures))
 
 div-n : tie.Need-div-n
 div-n c = search needs
@@ -72,13 +77,13 @@ not-found-requires-5 : tie.Need-not-found-requires-5
 not-found-requires-5 c κs = search needs
 
 returns-5 : tie.Need-returns-5
-returns-5 c = rw (c .not-found5 .ensures) (scan-fails (scanned (c .before .before .before .before .before .before)) (λ _ _. inr (c .before .if5 .taken)))
+returns-5 c = (rw (c .not-found5 .ensures) (scan-fails (scanned (c .before .before .before .before .before .before)) (λ _ _. inr (c .before .if5 .taken))), no-span _ _ (c .not-found5 .ensures))
 
 add-t10 : tie.Need-add-t10
 add-t10 c = search needs
 
 returns-6 : tie.Need-returns-6
-returns-6 c = scan-found (scanned (c .before .before .before .before .before)) (omega arith) (c .before .before .if3 .left) (omega (arith, c .before .if4 .left)) (omega arith)
+returns-6 c = (scan-found (scanned (c .before .before .before .before .before)) (omega arith) (c .before .before .if3 .left) (omega (arith, c .before .if4 .left)) (omega arith), λ _. scan-spans (scanned (c .before .before .before .before .before)) (omega arith) (omega (arith, c .before .if4 .left)) (omega arith))
 
 pub line-of-spec : {M : Type 1} → statement M
 line-of-spec =
