@@ -3,3 +3,4 @@ pub mod Reading
 pub mod Calls
 pub mod Promises
 pub mod Cases
+pub mod Inner

@@ -14,7 +14,7 @@ ghost use Rattle.ledger.specs.Parts.{markWithin, cutIn, bounded};
 ghost use Rattle.records.specs.Walking.{walkIn, walkCut, walkFrom, unsound, judgedAs, judgeOf};
 
 // Where records one after another lead: the length reached, and the word where the last of them begins. Or they do not fit.
-enum Walk {
+pub enum Walk {
     Broken,
     Led(usize, usize),
 }
@@ -169,7 +169,7 @@ fn walk_records(
 }
 
 // The word at which the mark cuts those from one to another: its own if it is among them, else the first.
-fn cut_in(mark: Mark, from: usize, to: usize) -> usize
+pub fn cut_in(mark: Mark, from: usize, to: usize) -> usize
     ensures { λ r. ⌜ r ≡ cutIn mark from to ⌝ }
 {
     let Mark::At(n) = mark else {
@@ -205,7 +205,7 @@ fn walk_marked(
 }
 
 // Whether the mark is of the words used.
-fn mark_within(mark: Mark, used: usize) -> bool
+pub fn mark_within(mark: Mark, used: usize) -> bool
     ensures { λ r. ⌜ r ≡ markWithin used mark ⌝ }
 {
     let Mark::At(n) = mark else {

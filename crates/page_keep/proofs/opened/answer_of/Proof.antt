@@ -1,0 +1,48 @@
+use Rattle.codec.specs.Kinds.{formatOf, readingOf}
+use borrow.Author.Needs.{needs}
+use Rattle.page_keep.proofs.opened.answer_of.Statement.{statement}
+use Rattle.page_keep.proofs.opened.answer_of.Tie as tie
+
+enum-told : tie.Need-enum-told
+enum-told c = search needs
+
+utf7-answer-requires : tie.Need-utf7-answer-requires
+utf7-answer-requires c κs = search needs
+
+enum-told-2 : tie.Need-enum-told-2
+enum-told-2 c = search needs
+
+utf7-answer-requires-2 : tie.Need-utf7-answer-requires-2
+utf7-answer-requires-2 c κs = search needs
+
+enum-told-3 : tie.Need-enum-told-3
+enum-told-3 c = search needs
+
+jp2-answer-requires : tie.Need-jp2-answer-requires
+jp2-answer-requires c κs = search needs
+
+returns : tie.Need-returns
+unfolding formatOf readingOf
+returns c = rw (c .before .enum-told .given .1) (c .utf7-answer .ensures)
+
+returns-2 : tie.Need-returns-2
+unfolding formatOf readingOf
+returns-2 c = rw (c .before .enum-told2 .given .1) (c .utf7-answer2 .ensures)
+
+returns-3 : tie.Need-returns-3
+unfolding formatOf readingOf
+returns-3 c = rw (c .before .enum-told3 .given .1) (c .jp2-answer .ensures)
+
+pub answer-of-spec : {M : Type 1} → statement M
+answer-of-spec =
+    tie.close
+    (tie.spec
+    enum-told
+    utf7-answer-requires
+    enum-told-2
+    utf7-answer-requires-2
+    enum-told-3
+    jp2-answer-requires
+    returns
+    returns-2
+    returns-3)

@@ -1,0 +1,88 @@
+use Prim.Native.Nat.{_-_}
+use mathlib.Core.Path.{_∙_}
+use native.Mathlib.Omega.{arith}
+use lib.ListN.{length}
+use Rattle.reading.proofs.Laws.{Left, left-start, left-give, left-go, left-bad, left-end}
+use Rattle.utf7.specs.Rule.{utf7}
+use Rattle.utf7_read.specs.Cursor.{shiftOf}
+use Rattle.utf7_read.proofs.Moves.{byte-moved}
+use borrow.Author.Needs.{needs}
+use Rattle.page_keep.proofs.opened.utf7_answer.Statement.{statement}
+use Rattle.page_keep.proofs.opened.utf7_answer.Tie as tie
+
+abbrev Inv-loop : tie.InvT-loop
+Inv-loop text at₀ n₀ st₀ at n st = Left utf7 text at (shiftOf st) n
+
+abbrev μ-loop : tie.MeasureT-loop
+μ-loop text at₀ n₀ st₀ at n st = length text - at
+
+loop-holds : tie.Need-loop-holds Inv-loop μ-loop
+loop-holds c = left-start utf7 _
+
+shared-slice-read-byte-does : tie.Need-shared-slice-read-byte-does Inv-loop μ-loop
+shared-slice-read-byte-does c = search needs
+
+byte-does-requires : tie.Need-byte-does-requires Inv-loop μ-loop
+byte-does-requires c κs = search needs
+
+enum-known-state : tie.Need-enum-known-state Inv-loop μ-loop
+enum-known-state c = search needs
+
+add-n : tie.Need-add-n Inv-loop μ-loop
+add-n c = omega (arith, c .before .before .before .before .before .before .loop .inv .few)
+
+add-at : tie.Need-add-at Inv-loop μ-loop
+add-at c = search needs
+
+loop-less : tie.Need-loop-less Inv-loop μ-loop
+loop-less c = search needs
+
+loop-again : tie.Need-loop-again Inv-loop μ-loop
+loop-again c = left-give (c .before .before .before .before .before .before .loop .inv) (c .before .before .before .before .before .loop-test .taken) (byte-moved _ _ (c .before .before .before .byte-does .ensures) (c .before .state .given .1))
+
+enum-known-state-2 : tie.Need-enum-known-state-2 Inv-loop μ-loop
+enum-known-state-2 c = search needs
+
+add-at-2 : tie.Need-add-at-2 Inv-loop μ-loop
+add-at-2 c = search needs
+
+loop-less-2 : tie.Need-loop-less-2 Inv-loop μ-loop
+loop-less-2 c = search needs
+
+loop-again-2 : tie.Need-loop-again-2 Inv-loop μ-loop
+loop-again-2 c = left-go (c .before .before .before .before .before .before .loop .inv) (c .before .before .before .before .before .loop-test .taken) (byte-moved _ _ (c .before .before .before .byte-does .ensures) (c .before .state2 .given .1))
+
+enum-known-why : tie.Need-enum-known-why Inv-loop μ-loop
+enum-known-why c = search needs
+
+returns : tie.Need-returns Inv-loop μ-loop
+returns c = left-bad (c .before .before .before .before .before .before .loop .inv) (c .before .before .before .before .before .loop-test .taken) (byte-moved _ _ (c .before .before .before .byte-does .ensures) (c .before .why .given .1)) .1
+
+ends-in-requires : tie.Need-ends-in-requires Inv-loop μ-loop
+ends-in-requires c κs = search needs
+
+returns-2 : tie.Need-returns-2 Inv-loop μ-loop
+returns-2 c = c .ends-in .ensures ∙ left-end (c .before .before .loop .inv) (c .before .loop-test .left) .1
+
+pub utf7-answer-spec : {M : Type 1} → statement M
+utf7-answer-spec =
+    tie.close
+    (tie.spec
+    Inv-loop
+    μ-loop
+    loop-holds
+    shared-slice-read-byte-does
+    byte-does-requires
+    enum-known-state
+    add-n
+    add-at
+    loop-less
+    loop-again
+    enum-known-state-2
+    add-at-2
+    loop-less-2
+    loop-again-2
+    enum-known-why
+    returns
+    ends-in-requires
+    returns-2)

@@ -1,0 +1,50 @@
+use native.Mathlib.Omega.{arith}
+use Rattle.page_keep.proofs.Keeping.{number-size}
+use borrow.Author.Needs.{needs}
+use Rattle.page_keep.proofs.put_saved.Statement.{statement}
+use Rattle.page_keep.proofs.put_saved.Tie as tie
+
+enum-known-mark : tie.Need-enum-known-mark
+enum-known-mark c = search needs
+
+enum-told : tie.Need-enum-told
+enum-told c = search needs
+
+slice-aggregate-put-bytes : tie.Need-slice-aggregate-put-bytes
+slice-aggregate-put-bytes c = search needs
+
+put-bytes-requires : tie.Need-put-bytes-requires
+put-bytes-requires c κs = rw (c .before .before .enum-told .given .1) at (c .before .before .before .before .before .pre)
+
+same-length : tie.Need-same-length
+same-length c = search needs
+
+returns : tie.Need-returns
+returns c = rw (c .before .before .before .before .before .enum-told .given .1) (c .before .before .put-bytes .ensures)
+
+slice-aggregate-put-number : tie.Need-slice-aggregate-put-number
+slice-aggregate-put-number c = search needs
+
+put-number-requires : tie.Need-put-number-requires
+put-number-requires c κs = omega (arith, rw (c .before .before .before .mark .given .1) at (c .before .before .before .before .before .before .pre), number-size "saved" (c .before .before .before .mark .given .0 .0))
+
+same-length-2 : tie.Need-same-length-2
+same-length-2 c = search needs
+
+returns-2 : tie.Need-returns-2
+returns-2 c = rw (c .before .before .before .before .before .before .mark .given .1) (omega (arith, number-size "saved" (c .before .before .before .before .before .before .mark .given .0 .0)), c .before .before .put-number .ensures .1)
+
+pub put-saved-spec : {M : Type 1} → statement M
+put-saved-spec =
+    tie.close
+    (tie.spec
+    enum-known-mark
+    enum-told
+    slice-aggregate-put-bytes
+    put-bytes-requires
+    same-length
+    returns
+    slice-aggregate-put-number
+    put-number-requires
+    same-length-2
+    returns-2)

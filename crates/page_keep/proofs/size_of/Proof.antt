@@ -1,0 +1,55 @@
+use native.Mathlib.Omega.{arith}
+use Rattle.answer.proofs.Once.{limit-small}
+use Rattle.page_keep.proofs.Keeping.{file-size}
+use borrow.Author.Needs.{needs}
+use Rattle.page_keep.proofs.size_of.Statement.{statement}
+use Rattle.page_keep.proofs.size_of.Tie as tie
+
+name-size-requires : tie.Need-name-size-requires
+name-size-requires c κs = search needs
+
+mark-size-requires : tie.Need-mark-size-requires
+mark-size-requires c κs = search needs
+
+add-names : tie.Need-add-names
+add-names c = search needs
+
+add-result : tie.Need-add-result
+add-result c = search needs
+
+mul-result : tie.Need-mul-result
+mul-result c = search needs
+
+add-result-2 : tie.Need-add-result-2
+add-result-2 c = omega (arith, limit-small)
+
+mul-result-2 : tie.Need-mul-result-2
+mul-result-2 c = search needs
+
+add-result-3 : tie.Need-add-result-3
+add-result-3 c = omega (arith, limit-small)
+
+mul-result-3 : tie.Need-mul-result-3
+mul-result-3 c = search needs
+
+add-result-4 : tie.Need-add-result-4
+add-result-4 c = omega (arith, limit-small)
+
+returns : tie.Need-returns
+returns c = omega (arith, file-size (c .before .before .before .before .before .args .page) (c .before .before .before .before .before .args .cells .now) (c .before .before .before .before .before .args .words .now) (c .before .before .before .before .before .args .arrived .now))
+
+pub size-of-spec : {M : Type 1} → statement M
+size-of-spec =
+    tie.close
+    (tie.spec
+    name-size-requires
+    mark-size-requires
+    add-names
+    add-result
+    mul-result
+    add-result-2
+    mul-result-2
+    add-result-3
+    mul-result-3
+    add-result-4
+    returns)
