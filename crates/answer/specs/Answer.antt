@@ -1,7 +1,7 @@
 -- Document 01, "Numbers given back": the table's numbers and places, and the limit.
 use Prim.Native.Nat.{ℕ}
 use Rattle.answer.specs.declared.Refusal.{Refusal}
-use Rattle.answer.specs.declared.Refusal.the-variants.{HighByte, LoneSign, StrayByte, LeftOverBits, UnknownEscape, EmptyG2, CutShort, NotAscii, NoRoom, Unwritable, BeyondLength, HistoryFull, NothingLeft, Unsound, NotTheText, OverLimit, NeedlessShift, BadPageFile}
+use Rattle.answer.specs.declared.Refusal.the-variants.{HighByte, LoneSign, StrayByte, LeftOverBits, UnknownEscape, EmptyG2, CutShort, NotAscii, NoRoom, Unwritable, BeyondLength, HistoryFull, NothingLeft, Unsound, NotTheText, OverLimit, NeedlessShift, BadPageFile, NoGain}
 use Rattle.answer.specs.declared.Answer.{Answer}
 use Rattle.answer.specs.declared.Answer.the-variants.{Accepted, Refused}
 
@@ -39,6 +39,8 @@ numberOf OverLimit = 16
 numberOf NeedlessShift = 17
 -- document 02, order 6: bad page file
 numberOf BadPageFile = 18
+-- document 02, order 8: no gain
+numberOf NoGain = 19
 
 -- the number and the place of every answer: "0, accepted, the count of elements", and the refusals
 abbrev pub inNumbers : Answer → Verdict

@@ -6,7 +6,7 @@ ghost use Rattle.answer.specs.Answer.{limit, tooLong, inNumbers, numberO
 // "over 65,536": the most elements that a lent text, list, text buffer or history may have.
 pub const LIMIT: usize = 65536;
 
-// Why a call was refused, in the order of document 01's table, from number 1 on; those from 17 on are document 02's, orders 1 and 6.
+// Why a call was refused, in the order of document 01's table, from number 1 on; those from 17 on are document 02's, orders 1, 6 and 8.
 pub enum Refusal {
     HighByte,
     LoneSign,
@@ -26,6 +26,7 @@ pub enum Refusal {
     OverLimit,
     NeedlessShift,
     BadPageFile,
+    NoGain,
 }
 
 // Accepted with the count of elements, or refused with the place.
@@ -69,6 +70,7 @@ fn refusal_number(why: Refusal) -> u32
         Refusal::OverLimit => 16,
         Refusal::NeedlessShift => 17,
         Refusal::BadPageFile => 18,
+        Refusal::NoGain => 19,
     }
 }
 
