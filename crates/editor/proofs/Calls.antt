@@ -1,11 +1,11 @@
 -- Each call turns the editor that a ledger determines into the one that the ledger then determines. Assumes nothing.
 use Prim.Native.Nat.{ℕ, _+_, _≤_}
 use mathlib.Core.Path.{_≡_, refl, sym, ap, _∙_, subst, subst₂}
-use mathlib.Core.Bool.{Bool, true, false}
+use mathlib.Core.Bool.{Bool, true, false, _||_}
 use mathlib.Core.List.{List, [], _∷_, reverseAux, reverse, reverse-cons}
 use native.Mathlib.Omega.{arith}
 use lib.ListN.{length}
-use lib.Dec.{ltb, eqb}
+use lib.Dec.{ltb, leb, eqb}
 use borrow.Author.Tests.{ltb-false}
 use Rattle.answer.specs.Answer.{numbered}
 use Rattle.answer.specs.Output as output
@@ -14,18 +14,20 @@ use Rattle.codec.specs.Kinds.{firstUnwritable, readsAs, writingIn, writeIn}
 use Rattle.editor.specs.declared.Mark.{Mark}
 use Rattle.editor.specs.declared.Mark.the-variants.{At}
 use Rattle.editor.specs.Marks.{replacedMark}
-use Rattle.editor.specs.Ledger.{Step, Ledger, Call, replace, undo, redo, save, lastOf, beforeLast, acceptedCall}
-use Rattle.editor.specs.Ledger.{fed, textOf, weightOf, doneBy}
+use Rattle.editor.specs.Ledger.{Step, Ledger, Call, replace, undo, redo, save, squeeze, lastOf, beforeLast}
+use Rattle.editor.specs.Ledger.{acceptedCall, fed, textOf, weightOf, doneBy}
 use Rattle.editor.specs.Records.{Entry, applied, turned, markFits}
 use Rattle.editor.specs.Editor.{Editor, Space, Turn, moves, edited, savedAs, undoLast, redoNext, replaceFitting}
-use Rattle.editor.specs.Editor.{replaceAt, saveStanding, turnOf}
+use Rattle.editor.specs.Editor.{replaceAt, saveStanding, oldest, foldedTo, wordsIn, squeezeTo, squeezeOldest}
+use Rattle.editor.specs.Editor.{turnOf}
 use Rattle.editor.specs.Demand.{bytesFor}
 use Rattle.editor.proofs.Steps.{recordOf, recordsBack, recordsOf, Fits, fits-rest, fits-new, applied-stepped}
-use Rattle.editor.proofs.Steps.{text-standing}
-use Rattle.editor.proofs.Turned.{turned-back, removes-entry}
+use Rattle.editor.proofs.Steps.{text-standing, length-records, or-parts}
+use Rattle.editor.proofs.Turned.{stepped-back}
 use Rattle.editor.proofs.Marks.{saved-fits, replaced-fits}
 use Rattle.editor.proofs.Ends.{Fills, leaves, fills, deliver-fills, write-fills}
 use Rattle.editor.proofs.Held.{Frame, remarked, textAt, editorOf, ledgerOf, Good, Held, same, text-fits}
+use Rattle.editor.proofs.Squeezes.{folds-oldest}
 
 -- the last of steps in order, and those before it
 last-back : (back : List Step) (x : Step) (rest : List Step) → lastOf (reverseAux back (x ∷ rest)) ≡ lastOf (x ∷ rest)
@@ -105,8 +107,7 @@ module _ (weigh : Step → ℕ) {arrived : List ℕ} (o : Frame arrived) where
     unfolding undoLast
     undo-some =
         let text : applied (turned (recordOf (textAt o back) x)) (textAt o (x ∷ back)) ≡ textAt o back =
-        rw (← applied-stepped (textAt o back) x within)
-        (turned-back (removes-entry (textAt o back) (x .place) (x .count) (x .added) within)) in
+        stepped-back (textAt o back) x within in
         λ i. edited (editorOf o (x ∷ back) undone) (text i) (recordsBack (o .reading) back)
         (recordsOf (textAt o back) (x ∷ undone)) (o .mark) moves
 
@@ -227,22 +228,39 @@ module _ (weigh : Step → ℕ) {arrived : List ℕ} (o : Frame arrived) where
           let t = save-fills o space back undone lent out in
           subst (Next back undone (save lent out)) (sym (t .is)) (fills-next (t .fills))
 
-    next : (c : Call) → Next back undone c (turnOf space (editorOf o back undone) c)
+    squeeze-next :
+        (k : ℕ) (work : List ℕ) →
+        Next back undone (squeeze k work) (squeezeOldest weigh space (editorOf o back undone) k work)
+    unfolding squeezeOldest squeezeTo
+    squeeze-next k work =
+        let After : Turn → Type 0 = Next back undone (squeeze k work) in
+        let all : List Entry = recordsBack (o .reading) back in
+        let x : Entry = foldedTo (editorOf o back undone) k in
+        cond-case After (ltb k 2 || ltb (length all) k) (λ _. same weigh o back undone good)
+        (λ q. cond-case After (leb (wordsIn space (oldest k all)) (length (space .laid x)))
+        (λ _. same weigh o back undone good)
+        (λ _. cond-case After (ltb (length work) (length (space .laid x))) (λ _. same weigh o back undone good)
+        (λ _.
+        let standing : k ≤ length all = ltb-false (length all) k (or-parts (ltb k 2) (ltb (length all) k) q .1) in
+        folds-oldest weigh o undone space work back k (omega (arith, length-records (o .reading) back)) good)))
+
+    next : (c : Call) → Next back undone c (turnOf weigh space (editorOf o back undone) c)
     next (replace place count cells) = replace-next (record { place = place; count = count; added = cells })
     next undo = undo-next back undone good
     next redo = redo-next back undone good
     next (save lent out) = save-next lent out
+    next (squeeze k work) = squeeze-next k work
 
 -- so a call keeps an editor and its ledger together, where what is done is what the ledger counts
 pub held-turn :
     {weigh : Step → ℕ} {arrived : List ℕ} (space : Space) {e : Editor} {l : Ledger} → Held weigh arrived e l →
     space .done ≡ doneBy weigh l →
     (c : Call) →
-    Held weigh arrived (turnOf space e c .editor) (fed weigh l c (accepts (turnOf space e c)))
+    Held weigh arrived (turnOf weigh space e c .editor) (fed weigh l c (accepts (turnOf weigh space e c)))
 held-turn {weigh} {arrived} space h done c =
     subst₂
     (λ (e : Editor) (l : Ledger).
     space .done ≡ doneBy weigh l →
-    Held weigh arrived (turnOf space e c .editor) (fed weigh l c (accepts (turnOf space e c))))
+    Held weigh arrived (turnOf weigh space e c .editor) (fed weigh l c (accepts (turnOf weigh space e c))))
     (sym (h .editor)) (sym (h .ledger))
     (λ d. next weigh (h .frame) space (h .back) (h .undone) d (h .good) c) done

@@ -16,7 +16,7 @@ use Rattle.codec.proofs.Worked.{letter-reads-other, sign-writable, great-unwrit
 use Rattle.editor.specs.declared.Mark.{Mark}
 use Rattle.editor.specs.declared.Mark.the-variants.{None, At}
 use Rattle.editor.specs.Marks.{replacedMark, unchangedAt}
-use Rattle.editor.specs.Ledger.{replace, undo, redo, save}
+use Rattle.editor.specs.Ledger.{Step, replace, undo, redo, save}
 use Rattle.editor.specs.Records.{Entry}
 use Rattle.editor.specs.Editor.{Editor, Space, moves, records, edited, saving, undoLast, redoNext, replaceFitting}
 use Rattle.editor.specs.Editor.{replaceAt, saveStanding, turnOf}
@@ -26,9 +26,13 @@ abbrev editing : ℕ → List ℕ → List Entry → List Entry → Editor
 editing room text standing undone =
     record { kind = Utf7Body; room = room; text = text; standing = standing; undone = undone; saved = At 0 }
 
+-- every step counts for one
+abbrev counted : Step → ℕ
+counted s = 1
+
 -- a history in which a new record takes so many words of five, and five are done
 abbrev taking : ℕ → Space
-taking n = record { words = 5; needed = λ _. n; done = 5 }
+taking n = record { words = 5; needed = λ _. n; done = 5; laid = λ _. [] }
 
 -- one cell at 1 replaced by 003D, and nothing replaced by nothing there
 abbrev step : Entry
@@ -39,17 +43,17 @@ nothing = record { place = 1; removed = []; added = [] }
 
 pub record Ordered : Type 0 where
   -- "Replace: [..] 11, 10, 9, 12"
-  pub replace-11 : turnOf (taking 6) (editing 4 cellsRead [] []) (replace 5 0 cellsGreat) .verdict ≡ numbered 11 4
-  pub replace-10 : turnOf (taking 6) (editing 4 cellsRead [] []) (replace 0 0 cellsGreat) .verdict ≡ numbered 10 1
-  pub replace-9 : turnOf (taking 6) (editing 4 cellsRead [] []) (replace 0 0 (0x3D ∷ [])) .verdict ≡ numbered 9 5
-  pub replace-12 : turnOf (taking 6) (editing 5 cellsRead [] []) (replace 0 0 (0x3D ∷ [])) .verdict ≡ numbered 12 6
+  pub replace-11 : turnOf counted (taking 6) (editing 4 cellsRead [] []) (replace 5 0 cellsGreat) .verdict ≡ numbered 11 4
+  pub replace-10 : turnOf counted (taking 6) (editing 4 cellsRead [] []) (replace 0 0 cellsGreat) .verdict ≡ numbered 10 1
+  pub replace-9 : turnOf counted (taking 6) (editing 4 cellsRead [] []) (replace 0 0 (0x3D ∷ [])) .verdict ≡ numbered 9 5
+  pub replace-12 : turnOf counted (taking 6) (editing 5 cellsRead [] []) (replace 0 0 (0x3D ∷ [])) .verdict ≡ numbered 12 6
   -- "Undo, redo: [..] 13"
-  pub undo-13 : turnOf (taking 5) (editing 4 cellsRead [] (step ∷ [])) undo .verdict ≡ numbered 13 0
-  pub redo-13 : turnOf (taking 5) (editing 4 cellsEdited (step ∷ []) []) redo .verdict ≡ numbered 13 0
+  pub undo-13 : turnOf counted (taking 5) (editing 4 cellsRead [] (step ∷ [])) undo .verdict ≡ numbered 13 0
+  pub redo-13 : turnOf counted (taking 5) (editing 4 cellsEdited (step ∷ []) []) redo .verdict ≡ numbered 13 0
   -- "Save: [..] 15 where no step stands or 10 where one does, then 9"
-  pub save-15 : turnOf (taking 5) (editing 4 cellsEdited [] (step ∷ [])) (save letter []) .verdict ≡ numbered 15 0
-  pub save-10 : turnOf (taking 5) (editing 4 cellsGreat (step ∷ []) []) (save letter []) .verdict ≡ numbered 10 1
-  pub save-9 : turnOf (taking 5) (editing 4 cellsRead [] []) (save letter []) .verdict ≡ numbered 9 9
+  pub save-15 : turnOf counted (taking 5) (editing 4 cellsEdited [] (step ∷ [])) (save letter []) .verdict ≡ numbered 15 0
+  pub save-10 : turnOf counted (taking 5) (editing 4 cellsGreat (step ∷ []) []) (save letter []) .verdict ≡ numbered 10 1
+  pub save-9 : turnOf counted (taking 5) (editing 4 cellsRead [] []) (save letter []) .verdict ≡ numbered 9 9
 
 pub ordered : Ordered
 unfolding limit deliver undoLast redoNext replaceFitting replaceAt saveStanding
@@ -68,24 +72,24 @@ ordered =
 
 pub record Turned : Type 0 where
   pub replaces :
-      turnOf (taking 5) (editing 4 cellsRead [] (nothing ∷ [])) (replace 1 1 (0x3D ∷ []))
+      turnOf counted (taking 5) (editing 4 cellsRead [] (nothing ∷ [])) (replace 1 1 (0x3D ∷ []))
       ≡ edited (editing 4 cellsRead [] (nothing ∷ [])) cellsEdited (step ∷ []) [] (At 0) (records step)
   -- "Removing nothing and adding nothing is a step too."
   pub replaces-nothing :
-      turnOf (taking 3) (editing 4 cellsRead [] []) (replace 1 0 [])
+      turnOf counted (taking 3) (editing 4 cellsRead [] []) (replace 1 0 [])
       ≡ edited (editing 4 cellsRead [] []) cellsRead (nothing ∷ []) [] (At 0) (records nothing)
   pub undoes :
-      turnOf (taking 5) (editing 4 cellsEdited (step ∷ []) []) undo
+      turnOf counted (taking 5) (editing 4 cellsEdited (step ∷ []) []) undo
       ≡ edited (editing 4 cellsEdited (step ∷ []) []) cellsRead [] (step ∷ []) (At 0) moves
   pub redoes :
-      turnOf (taking 5) (editing 4 cellsRead [] (step ∷ [])) redo
+      turnOf counted (taking 5) (editing 4 cellsRead [] (step ∷ [])) redo
       ≡ edited (editing 4 cellsRead [] (step ∷ [])) cellsEdited (step ∷ []) [] (At 0) moves
   -- "the arrived bytes [..] as they are; otherwise the text written"
   pub saves-arrived :
-      turnOf (taking 5) (editing 4 cellsRead [] (step ∷ [])) (save letter letter)
+      turnOf counted (taking 5) (editing 4 cellsRead [] (step ∷ [])) (save letter letter)
       ≡ saving (taking 5) (editing 4 cellsRead [] (step ∷ [])) letter (numbered 0 9)
   pub saves-written :
-      turnOf (taking 5) (editing 4 cellsEdited (step ∷ []) []) (save letter letter)
+      turnOf counted (taking 5) (editing 4 cellsEdited (step ∷ []) []) (save letter letter)
       ≡ saving (taking 5) (editing 4 cellsEdited (step ∷ []) []) (written ++ 46 ∷ []) (numbered 0 8)
 
 pub turned : Turned

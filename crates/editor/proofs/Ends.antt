@@ -1,12 +1,12 @@
 -- How a turn of an editor can end; so a refusal changes nothing, in any layout, and 16 comes first. Assumes nothing.
-use Prim.Native.Nat.{ℕ, _+_, _≤_}
+use Prim.Native.Nat.{ℕ, _+_, _-_, _≤_, _<_}
 use mathlib.Core.Path.{_≡_, refl, sym, ap}
 use mathlib.Core.Bool.{Bool, true, false, _||_, false≢true}
-use mathlib.Core.List.{List, [], _∷_, reverseAux}
+use mathlib.Core.List.{List, [], _∷_, _++_, reverseAux}
 use mathlib.Core.Option.{Option, none, some}
-use lib.ListN.{length}
-use lib.Dec.{ltb, eqb}
-use borrow.Author.Tests.{ltb-false}
+use lib.ListN.{length, take-append-drop}
+use lib.Dec.{ltb, leb, eqb}
+use borrow.Author.Tests.{ltb-false, leb-false}
 use Rattle.answer.specs.Answer.{Verdict, numbered, limit, tooLong}
 use Rattle.answer.specs.Output as output
 use Rattle.answer.proofs.Below.{cond-case}
@@ -14,10 +14,11 @@ use Rattle.codec.specs.declared.Kind.{Kind}
 use Rattle.codec.specs.Kinds.{firstUnwritable, writingIn, readsAs, writeIn}
 use Rattle.codec.proofs.ByKind.{write-form}
 use Rattle.editor.specs.Marks.{replacedMark}
-use Rattle.editor.specs.Ledger.{Call, replace, undo, redo, save}
+use Rattle.editor.specs.Ledger.{Step, Call, replace, undo, redo, save, squeeze}
 use Rattle.editor.specs.Records.{Entry, applied, entryAt}
 use Rattle.editor.specs.Editor.{Editor, Space, Turn, refused, edited, saving, savedAs, undoLast, redoNext}
-use Rattle.editor.specs.Editor.{replaceFitting, replaceAt, saveStanding, turnOf, over, overlong, outputOf}
+use Rattle.editor.specs.Editor.{replaceFitting, replaceAt, saveStanding, oldest, later, foldedTo, wordsIn}
+use Rattle.editor.specs.Editor.{folding, squeezeTo, squeezeOldest, turnOf, over, overlong, outputOf}
 use Rattle.editor.specs.Editor as change
 use Rattle.editor.specs.Layout.{Outcome, refusing, taken, Layout, laid, callOn, outcomeOf, replyOf}
 use Rattle.editor.specs.Demand.{Unchanged, RefusedSame}
@@ -44,8 +45,9 @@ write-fills kind cells out =
     (λ _. cond-case (Fills out bytes) (ltb (firstUnwritable kind cells) (length cells)) (λ _. leaves _ refl)
     (λ _. deliver-fills out bytes)))
 
-module _ (space : Space) (e : Editor) where
-  -- a refusal; bytes given, and the mark set; the same records, parted elsewhere; a new record for which there is room
+module _ (weigh : Step → ℕ) (space : Space) (e : Editor) where
+  -- a refusal; bytes given, and the mark set; the same records, parted elsewhere; a new record for which there is room; one
+  -- record of fewer words for the oldest ones
   pub data Ends (out : List ℕ) : Turn → Type 0 where
     refuses : (v : Verdict) → Ends out (refused e out v)
     gives : (bytes : List ℕ) →
@@ -54,6 +56,8 @@ module _ (space : Space) (e : Editor) where
         Ends out (edited e text standing undone (e .saved) change.moves)
     records : (text : List ℕ) (x : Entry) → space .needed x ≤ space .words →
         Ends out (edited e text (x ∷ e .standing) [] (replacedMark (space .done) (e .saved)) (change.records x))
+    folds : (new old : List Entry) (x : Entry) → e .standing ≡ new ++ old → length (space .laid x) < wordsIn space old →
+        Ends out (folding weigh space e out new old x)
 
   undo-ends : (es : List Entry) → e .standing ≡ es → Ends [] (undoLast e es)
   unfolding undoLast
@@ -86,11 +90,24 @@ module _ (space : Space) (e : Editor) where
       (λ _. fills-ends (deliver-fills out arrived)) (λ _. refuses _)
   save-ends arrived out (x ∷ back) = fills-ends (write-fills (e .kind) (e .text) out)
 
-  pub turn-ends : (c : Call) → Ends (outputOf c) (turnOf space e c)
+  squeeze-ends : (k : ℕ) (work : List ℕ) → Ends work (squeezeOldest weigh space e k work)
+  unfolding squeezeOldest squeezeTo
+  squeeze-ends k work =
+      let old : List Entry = oldest k (e .standing) in
+      let x : Entry = foldedTo e k in
+      cond-case (Ends work) (ltb k 2 || ltb (length (e .standing)) k) (λ _. refuses _)
+      (λ _. cond-case (Ends work) (leb (wordsIn space old) (length (space .laid x))) (λ _. refuses _)
+      (λ t. cond-case (Ends work) (ltb (length work) (length (space .laid x))) (λ _. refuses _)
+      (λ _.
+      folds (later k (e .standing)) old x (sym (take-append-drop (length (e .standing) - k) (e .standing)))
+      (leb-false (wordsIn space old) (length (space .laid x)) t))))
+
+  pub turn-ends : (c : Call) → Ends (outputOf c) (turnOf weigh space e c)
   turn-ends (replace place count cells) = replace-ends place count cells
   turn-ends undo = undo-ends (e .standing) refl
   turn-ends redo = redo-ends (e .undone) refl
   turn-ends (save arrived out) = save-ends arrived out (e .standing)
+  turn-ends (squeeze k work) = squeeze-ends k work
 
 module _ {S : Type 0} (layout : Layout S) where
   module _ (s : S) (out : List ℕ) where
@@ -100,16 +117,17 @@ module _ {S : Type 0} (layout : Layout S) where
     refusal : (v : Verdict) → Stays (refusing s out v)
     refusal v _ = record { state = refl; output = refl }
 
-    ends-same : (space : Space) (e : Editor) (t : Turn) → Ends space e out t → Stays (laid layout s t)
+    ends-same : (space : Space) (e : Editor) (t : Turn) → Ends (layout .weigh) space e out t → Stays (laid layout s t)
     ends-same space e _ (refuses v) = refusal v
     ends-same space e _ (gives bytes) = λ q. absurd (false≢true (sym q))
     ends-same space e _ (moves text standing undone p) = λ q. absurd (false≢true (sym q))
     ends-same space e _ (records text x p) = λ q. absurd (false≢true (sym q))
+    ends-same space e _ (folds new old x p f) = λ q. absurd (false≢true (sym q))
 
   call-same : (s : S) (c : Call) (found : Option Editor) → Stays s (outputOf c) (callOn layout s c found)
   unfolding callOn
   call-same s c none = refusal s (outputOf c) _
-  call-same s c (some e) = ends-same s (outputOf c) (layout .spaceIn s) e _ (turn-ends (layout .spaceIn s) e c)
+  call-same s c (some e) = ends-same s (outputOf c) (layout .spaceIn s) e _ (turn-ends (layout .weigh) (layout .spaceIn s) e c)
 
   pub refused-same : RefusedSame layout
   unfolding outcomeOf

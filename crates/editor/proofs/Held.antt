@@ -8,7 +8,7 @@ use Rattle.answer.specs.Answer.{limit}
 use Rattle.codec.specs.declared.Kind.{Kind}
 use Rattle.codec.specs.Kinds.{readsAs}
 use Rattle.editor.specs.declared.Mark.{Mark}
-use Rattle.editor.specs.Ledger.{Step, Ledger, Call, replace, undo, redo, save, acceptedCall, fed}
+use Rattle.editor.specs.Ledger.{Step, Ledger, Call, replace, undo, redo, save, squeeze, acceptedCall, fed}
 use Rattle.editor.specs.Records.{stepOf, lengthsFit, reached, markFits}
 use Rattle.editor.specs.Editor.{Editor}
 use Rattle.editor.proofs.Ends.{entries}
@@ -126,3 +126,4 @@ reading-kept weigh l (replace place count cells) true = refl
 reading-kept weigh l undo true = refl
 reading-kept weigh l redo true = refl
 reading-kept weigh l (save arrived out) true = refl
+reading-kept weigh l (squeeze k work) true = refl

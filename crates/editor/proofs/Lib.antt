@@ -3,6 +3,7 @@ pub mod Steps
 pub mod Turned
 pub mod Ends
 pub mod Held
+pub mod Squeezes
 pub mod Calls
 pub mod Promises
 pub mod Cases

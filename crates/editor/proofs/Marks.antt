@@ -4,19 +4,19 @@ use mathlib.Core.Path.{_≡_, refl, sym, ap, _∙_}
 use mathlib.Core.Bool.{Bool, true, false, _&&_, _||_}
 use mathlib.Core.List.{List, [], _∷_, _++_, reverseAux, reverse, reverseAux-eq}
 use native.Mathlib.Omega.{arith}
-use native.Mathlib.Nat.{add-zero}
+use native.Mathlib.Nat.{add-zero, zero-add}
 use lib.Dec.{leb, ltb, eqb}
-use borrow.Author.Tests.{le-leb, leb-true, ltb-false}
+use borrow.Author.Tests.{le-leb, leb-true, ltb-false, eqb-true}
 use Rattle.answer.proofs.Below.{cond-case}
 use Rattle.editor.specs.declared.Mark.{Mark}
 use Rattle.editor.specs.declared.Mark.the-variants.{None, At}
-use Rattle.editor.specs.Marks.{replacedMark}
+use Rattle.editor.specs.Marks.{replacedMark, foldedMark}
 use Rattle.editor.specs.Ledger.{Step, weightOf}
 use Rattle.editor.specs.Records.{endsAt, markFits}
 
-or-right : (a b : Bool) → b ≡ true → (a || b) ≡ true
-or-right true b p = refl
-or-right false b p = p
+or-same : (t a b : Bool) → (t ≡ true → true ≡ b) → (t ≡ false → a ≡ b) → (t || a) ≡ b
+or-same true a b f g = f refl
+or-same false a b f g = g refl
 
 and-same : (t a b : Bool) → (t ≡ true → a ≡ b) → (t && a) ≡ (t && b)
 and-same true a b f = f refl
@@ -35,23 +35,28 @@ module _ (weigh : Step → ℕ) where
   ends-zero [] = refl
   ends-zero (x ∷ rest) = refl
 
-  -- an end among the later steps, and the one at their beginning
-  ends-past :
-      (back rest : List Step) (n : ℕ) → endsAt weigh rest n ≡ true →
-      endsAt weigh (reverseAux back rest) (weight back + n) ≡ true
+  -- past the first steps an end is one of the later ones
+  pub ends-beyond :
+      (first rest : List Step) (n : ℕ) → endsAt weigh (first ++ rest) (weight first + n) ≡ endsAt weigh rest n
   unfolding endsAt
-  ends-past [] rest n h =
-      let z : 0 + n ≡ n = omega arith in
-      rw z h
-  ends-past (x ∷ back) rest n h =
-      let m : weight back + weigh x + n ≡ weight back + (weigh x + n) = omega arith in
-      let left : weigh x + n - weigh x ≡ n = omega arith in
-      let next : (leb (weigh x) (weigh x + n) && endsAt weigh rest (weigh x + n - weigh x)) ≡ true =
-      rw (le-leb (weigh x) (weigh x + n) (omega arith), left) h in
-      rw m (ends-past back (x ∷ rest) (weigh x + n) (or-right (eqb (weigh x + n) 0) _ next))
+  ends-beyond [] rest n = rw zero-add
+  ends-beyond (x ∷ first) rest n =
+      let all : ℕ = weight first + weigh x + n in
+      let left : all - weigh x ≡ weight first + n = omega arith in
+      or-same (eqb all 0) _ _
+      (λ t.
+      let z : n ≡ 0 = omega (arith, eqb-true all 0 t) in
+      rw (z, ends-zero rest))
+      (λ _. rw (le-leb (weigh x) all (omega arith), left) (ends-beyond first rest n))
+
+  ends-past :
+      (back rest : List Step) (n : ℕ) → endsAt weigh (reverseAux back rest) (weight back + n) ≡ endsAt weigh rest n
+  ends-past back rest n =
+      let w : weight back ≡ weight (reverse back) = omega (arith, weight-reverse back []) in
+      rw (reverseAux-eq back rest, w) (ends-beyond (reverse back) rest n)
 
   pub ends-here : (back rest : List Step) → endsAt weigh (reverseAux back rest) (weight back) ≡ true
-  ends-here back rest = rw (← add-zero (weight back)) (ends-past back rest 0 (ends-zero rest))
+  ends-here back rest = rw (← add-zero (weight back)) (ends-past back rest 0 ∙ ends-zero rest)
 
   -- an end within the first steps, whatever follows
   pub within-first :
@@ -90,3 +95,18 @@ module _ (weigh : Step → ℕ) where
       (λ q.
       let below : n ≤ weight (reverse back) = ltb-false (weight (reverse back)) n q in
       sym (ends-within back rest new n (omega arith)) ∙ h)
+
+  -- a fold leaves a mark at 0, takes one at its end or later along, and drops the others
+  pub folded-fits :
+      (old rest : List Step) (x : Step) (m : Mark) → markFits weigh m (reverseAux old rest) ≡ true →
+      markFits weigh (foldedMark (weight old) (weigh x) m) (x ∷ rest) ≡ true
+  folded-fits old rest x None h = refl
+  folded-fits old rest x (At n) h =
+      let Fitting : Mark → Type 0 = λ m. markFits weigh m (x ∷ rest) ≡ true in
+      cond-case Fitting (eqb n 0) (λ _. ends-zero (x ∷ rest))
+      (λ _. cond-case Fitting (ltb n (weight old)) (λ _. refl)
+      (λ q.
+      let past : weight old ≤ n = ltb-false n (weight old) q in
+      let here : weight old + (n - weight old) ≡ n = omega arith in
+      let there : weight (x ∷ []) + (n - weight old) ≡ n - weight old + weigh x = omega arith in
+      rw (← there) (ends-beyond (x ∷ []) rest (n - weight old) ∙ sym (ends-past old rest (n - weight old)) ∙ rw here h)))

@@ -1,8 +1,8 @@
 -- Demand 3 for any layout in which the editor lies. Assumes nothing.
-use Prim.Native.Nat.{ℕ, _≤_}
+use Prim.Native.Nat.{ℕ, _≤_, _<_}
 use mathlib.Core.Path.{_≡_, refl, sym, ap, _∙_, subst, subst₂}
 use mathlib.Core.Bool.{Bool, true, false, cond, _||_, false≢true}
-use mathlib.Core.List.{List, [], _∷_, reverseAux, reverse, map, cons≢nil}
+use mathlib.Core.List.{List, [], _∷_, _++_, reverseAux, reverse, map, cons≢nil}
 use mathlib.Core.Option.{some}
 use mathlib.Core.Logic.{_↔_}
 use native.Mathlib.Omega.{arith}
@@ -18,12 +18,13 @@ use Rattle.editor.specs.Marks.{replacedMark}
 use Rattle.editor.specs.Ledger.{Step, Ledger, Call, undo, redo, save, fed, weightOf, doneBy, unchangedBy}
 use Rattle.editor.specs.Records.{Entry, stepOf, markFits}
 use Rattle.editor.specs.Editor.{Editor, Turn, withText, withMark, savedAs, turnOf, overlong, outputOf, undoLast}
-use Rattle.editor.specs.Editor.{redoNext, saveStanding}
+use Rattle.editor.specs.Editor.{redoNext, saveStanding, wordsIn}
 use Rattle.editor.specs.Layout.{Outcome, refusing, taken, Reply, Layout, laid, callOn, outcomeOf}
 use Rattle.editor.specs.Layout.{replyOf, after, heard}
 use Rattle.editor.specs.Demand.{bytesFor, savedBytes, undone-by, Promised}
 use Rattle.editor.proofs.Steps.{text-standing}
-use Rattle.editor.proofs.Ends.{entries, Fills, leaves, fills, Ends, refuses, gives, moves, records, turn-ends}
+use Rattle.editor.proofs.Ends.{entries, Fills, leaves, fills, Ends, refuses, gives, moves, records, folds}
+use Rattle.editor.proofs.Ends.{turn-ends}
 use Rattle.editor.proofs.Held.{Frame, editorOf, ledgerOf, Good, Held, same, Legal, legal-of, legal}
 use Rattle.editor.proofs.Held.{standing-steps, undone-steps, reading-kept}
 use Rattle.editor.proofs.Calls.{accepts, undo-some, redo-some, save-fills, held-turn}
@@ -49,6 +50,12 @@ pub record Lays {S : Type 0} (layout : Layout S) (Lies : ℕ → S → Editor �
       Legal (layout .weigh) n (withText e text (x ∷ e .standing) [] mark) →
       Lies n (layout .recorded s (withText e text (x ∷ e .standing) [] mark) x)
       (withText e text (x ∷ e .standing) [] mark)
+  pub folds :
+      {n : ℕ} {s : S} {e : Editor} → Lies n s e → (new old : List Entry) (x : Entry) (mark : Mark) →
+      e .standing ≡ new ++ old → length (layout .spaceIn s .laid x) < wordsIn (layout .spaceIn s) old →
+      Legal (layout .weigh) n (withText e (e .text) (new ++ x ∷ []) (e .undone) mark) →
+      Lies n (layout .folded s (withText e (e .text) (new ++ x ∷ []) (e .undone) mark) old x)
+      (withText e (e .text) (new ++ x ∷ []) (e .undone) mark)
 
 -- a verdict that is 13 exactly when a list is empty, and else is 0
 abbrev Answers : Verdict → List Step → Type 0
@@ -72,17 +79,19 @@ module _ {S : Type 0} {layout : Layout S} {Lies : ℕ → S → Editor → Type 
   outcome-is :
       {n : ℕ} {s : S} {e : Editor} → Lies n s e → (c : Call) →
       outcomeOf layout s c
-      ≡ cond (overlong c) (refusing s (outputOf c) tooLong) (laid layout s (turnOf (layout .spaceIn s) e c))
+      ≡ cond (overlong c) (refusing s (outputOf c) tooLong) (laid layout s (turnOf (layout .weigh) (layout .spaceIn s) e c))
   unfolding outcomeOf callOn
   outcome-is l c = rw (lays .short l, or-none (overlong c), lays .sees l)
 
   turn-lies :
-      {n : ℕ} {s : S} {e : Editor} → Lies n s e → {out : List ℕ} (t : Turn) → Ends (layout .spaceIn s) e out t →
+      {n : ℕ} {s : S} {e : Editor} → Lies n s e → {out : List ℕ} (t : Turn) →
+      Ends (layout .weigh) (layout .spaceIn s) e out t →
       Legal (layout .weigh) n (t .editor) → Lies n (laid layout s t .state) (t .editor)
   turn-lies l _ (refuses v) ok = l
   turn-lies l _ (gives bytes) ok = lays .marks l _ ok
   turn-lies l _ (moves text standing undone p) ok = lays .moves l text standing undone p ok
   turn-lies l _ (records text x p) ok = lays .records l text x _ p ok
+  turn-lies l _ (folds new old x p f) ok = lays .folds l new old x _ p f ok
 
   -- a state in which the editor of a ledger lies
   pub record Kept (arrived : List ℕ) (s : S) (l : Ledger) : Type 0 where
@@ -130,7 +139,7 @@ module _ {S : Type 0} {layout : Layout S} {Lies : ℕ → S → Editor → Type 
     kept-call {s} k c =
         let e : Editor = editorOf (k .frame) (k .back) (k .undone) in
         let l : Ledger = ledgerOf (k .frame) (k .back) (k .undone) in
-        let t : Turn = turnOf (layout .spaceIn s) e c in
+        let t : Turn = turnOf weigh (layout .spaceIn s) e c in
         let now : Held weigh arrived e l = same weigh (k .frame) (k .back) (k .undone) (k .good) in
         let h : Held weigh arrived (t .editor) (fed weigh l c (accepts t)) =
         held-turn (layout .spaceIn s) now (done-counted (k .frame) (k .back) (k .undone) (k .lies) (k .good)) c in
@@ -138,7 +147,7 @@ module _ {S : Type 0} {layout : Layout S} {Lies : ℕ → S → Editor → Type 
         rw (k .ledger, outcome-is (k .lies) c)
         (cond-case (λ (o : Outcome S). Kept arrived (o .state) (fed weigh l c (taken o))) (overlong c)
         (λ _. kept (k .lies) now)
-        (λ _. kept (rw r (turn-lies (k .lies) t (turn-ends (layout .spaceIn s) e c) (rw r at (legal weigh h)))) h))
+        (λ _. kept (rw r (turn-lies (k .lies) t (turn-ends weigh (layout .spaceIn s) e c) (rw r at (legal weigh h)))) h))
 
     -- and so does a list of calls
     pub kept-calls :

@@ -1,7 +1,7 @@
 -- Steps on a text and their records, in order and with the latest first. Assumes nothing.
-use Prim.Native.Nat.{ℕ, _+_, _≤_}
+use Prim.Native.Nat.{ℕ, suc, _+_, _≤_}
 use mathlib.Core.Path.{_≡_, refl, sym, ap, _∙_, subst}
-use mathlib.Core.Bool.{Bool, true, false, _&&_}
+use mathlib.Core.Bool.{Bool, true, false, _&&_, _||_, false≢true}
 use mathlib.Core.List.{List, [], _∷_, _++_, reverseAux, reverse, map}
 use native.Mathlib.Omega.{arith}
 use lib.ListN.{length, take, drop, length-append, length-take, length-drop}
@@ -12,6 +12,10 @@ use Rattle.editor.specs.Records.{Entry, stepOf, applied, entryAt, length
 pub and-true : (a b : Bool) → a ≡ true → b ≡ true → (a && b) ≡ true
 and-true true b p q = q
 and-true false b p q = p
+
+pub or-parts : (a b : Bool) → (a || b) ≡ false → (a ≡ false) × (b ≡ false)
+or-parts true b p = absurd (false≢true (sym p))
+or-parts false b p = (refl, p)
 
 -- a step, and its record, on a text
 abbrev pub stepped : Step → List ℕ → List ℕ
@@ -50,6 +54,22 @@ pub records-in-order :
     recordsOf text (reverseAux back rest) ≡ reverseAux (recordsBack text back) (recordsOf (textBack text back) rest)
 records-in-order text [] rest = refl
 records-in-order text (x ∷ back) rest = records-in-order text back (x ∷ rest)
+
+-- of earlier and later steps
+pub text-later :
+    (text : List ℕ) (new old : List Step) → textBack text (new ++ old) ≡ textBack (textBack text old) new
+text-later text [] old = refl
+text-later text (x ∷ new) old = ap (stepped x) (text-later text new old)
+
+pub records-later :
+    (text : List ℕ) (new old : List Step) →
+    recordsBack text (new ++ old) ≡ recordsBack (textBack text old) new ++ recordsBack text old
+records-later text [] old = refl
+records-later text (x ∷ new) old = λ i. recordOf (text-later text new old i) x ∷ records-later text new old i
+
+pub length-records : (text : List ℕ) (back : List Step) → length (recordsBack text back) ≡ length back
+length-records text [] = refl
+length-records text (x ∷ back) = ap suc (length-records text back)
 
 -- every step in order is within its text, and no text exceeds the room
 abbrev pub Fits : ℕ → List ℕ → List Step → Type 0
@@ -117,3 +137,12 @@ steps-of room text [] f = refl
 steps-of room text (x ∷ rest) f =
     λ i. record { place = x .place; count = length-removed text x (f .1) i; added = x .added }
     ∷ steps-of room (stepped x text) rest (f .2) i
+
+pub steps-back :
+    (room : ℕ) (text : List ℕ) (back rest : List Step) → Fits room text (reverseAux back rest) →
+    map stepOf (recordsBack text back) ≡ back
+steps-back room text [] rest f = refl
+steps-back room text (x ∷ back) rest f =
+    let within = fits-rest room text back (x ∷ rest) f .1 in
+    λ i. record { place = x .place; count = length-removed (textBack text back) x within i; added = x .added }
+    ∷ steps-back room text back (x ∷ rest) f i

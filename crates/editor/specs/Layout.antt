@@ -9,10 +9,11 @@ use Rattle.editor.specs.declared.Mark.{Mark}
 use Rattle.editor.specs.Marks.{unchangedAt}
 use Rattle.editor.specs.Ledger.{Step, Ledger, Call, fed}
 use Rattle.editor.specs.Records.{Entry}
-use Rattle.editor.specs.Editor.{Editor, Space, Change, stays, marks, moves, records, Turn, turnOf, overlong}
-use Rattle.editor.specs.Editor.{outputOf}
+use Rattle.editor.specs.Editor.{Editor, Space, Change, stays, marks, moves, records, folds, Turn}
+use Rattle.editor.specs.Editor.{turnOf, overlong, outputOf}
 
--- what a call answers, and everything that it leaves; the output is save's, and empty for the others
+-- what a call answers, and everything that it leaves; the output is save's, or squeeze's work buffer, and empty
+-- for the others
 pub record Outcome (S : Type 0) : Type 0 where
   pub verdict : Verdict
   pub state : S
@@ -41,10 +42,12 @@ pub record Layout (S : Type 0) : Type 0 where
   -- the first length cells of the text buffer
   pub textIn : S → List ℕ
   pub spaceIn : S → Space
-  -- the state with this mark; with this editor's text and as much standing; and with its new record and mark, too
+  -- the state with this mark; with this editor's text and as much standing; with its new record and mark, too; with its
+  -- mark, and one record for the oldest ones
   pub marked : S → Mark → S
   pub moved : S → Editor → S
   pub recorded : S → Editor → Entry → S
+  pub folded : S → Editor → List Entry → Entry → S
 
 module _ {S : Type 0} (layout : Layout S) where
   abbrev pub changed : S → Editor → Change → S
@@ -52,6 +55,7 @@ module _ {S : Type 0} (layout : Layout S) where
   changed s e marks = layout .marked s (e .saved)
   changed s e moves = layout .moved s e
   changed s e (records x) = layout .recorded s e x
+  changed s e (folds old x) = layout .folded s e old x
 
   -- a turn of the editor, laid out
   abbrev pub laid : S → Turn → Outcome S
@@ -59,7 +63,7 @@ module _ {S : Type 0} (layout : Layout S) where
 
   unfoldable pub callOn : S → Call → Option Editor → Outcome S
   callOn s c none = refusing s (outputOf c) (numbered 14 0)
-  callOn s c (some e) = laid s (turnOf (layout .spaceIn s) e c)
+  callOn s c (some e) = laid s (turnOf (layout .weigh) (layout .spaceIn s) e c)
 
   -- 16, 14, then what the editor makes of the call
   unfoldable pub outcomeOf : S → Call → Outcome S

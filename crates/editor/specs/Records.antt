@@ -30,6 +30,11 @@ applied e text = take (e .place) text ++ (e .added ++ drop (e .place + length (e
 abbrev pub turned : Entry → Entry
 turned e = record { place = e .place; removed = e .added; added = e .removed }
 
+-- the text before records, the latest first, "as undoing from the present text gives" it
+unfoldable pub textBefore : List Entry → List ℕ → List ℕ
+textBefore [] text = text
+textBefore (e ∷ back) text = textBefore back (applied (turned e) text)
+
 -- the length of a text after a record
 abbrev pub lengthAfter : ℕ → Entry → ℕ
 lengthAfter n e = n - length (e .removed) + length (e .added)

@@ -19,6 +19,7 @@ use Rattle.editor.specs.declared.Mark.the-variants.{At}
 use Rattle.editor.specs.Ledger.{opened}
 use Rattle.editor.specs.Layout.{refusing, taken}
 use Rattle.editor.specs.Demand.{Unchanged}
+use Rattle.editor.proofs.Steps.{or-parts}
 use Rattle.editor.proofs.Marks.{ends-zero}
 use Rattle.editor.proofs.Held.{Frame, editorOf, Held, same, legal}
 use Rattle.editor.proofs.Promises.{Kept, kept}
@@ -27,10 +28,6 @@ use Rattle.ledger.specs.Page.{stateOf, Outcome}
 use Rattle.ledger.specs.Calls.{over, noPage, openRead, openOf}
 use Rattle.ledger.specs.Demand.{OpenRefused}
 use Rattle.ledger.proofs.Lying.{page-lays}
-
-pub or-parts : (a b : Bool) → (a || b) ≡ false → (a ≡ false) × (b ≡ false)
-or-parts true b e = absurd (false≢true (sym e))
-or-parts false b e = (refl, e)
 
 module _ (kind : Kind) (arrived text history : List ℕ) where
   -- an accepted open leaves the page of the ledger at first
