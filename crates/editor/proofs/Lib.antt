@@ -1,9 +1,11 @@
 pub mod Marks
 pub mod Steps
 pub mod Turned
+pub mod Lengths
 pub mod Ends
 pub mod Held
 pub mod Squeezes
+pub mod Folded
 pub mod Calls
 pub mod Promises
 pub mod Cases

@@ -15,10 +15,11 @@ use Rattle.answer.proofs.Below.{cond-case}
 use Rattle.editor.specs.declared.Mark.{Mark}
 use Rattle.editor.specs.declared.Mark.the-variants.{At}
 use Rattle.editor.specs.Marks.{replacedMark}
-use Rattle.editor.specs.Ledger.{Step, Ledger, Call, undo, redo, save, fed, weightOf, doneBy, unchangedBy}
+use Rattle.editor.specs.Ledger.{Step, Ledger, Call, undo, redo, save, squeeze, fed, weightOf, doneBy}
+use Rattle.editor.specs.Ledger.{unchangedBy}
 use Rattle.editor.specs.Records.{Entry, stepOf, markFits}
 use Rattle.editor.specs.Editor.{Editor, Turn, withText, withMark, savedAs, turnOf, overlong, outputOf, undoLast}
-use Rattle.editor.specs.Editor.{redoNext, saveStanding, wordsIn}
+use Rattle.editor.specs.Editor.{Space, redoNext, saveStanding, wordsIn, squeezeOldest}
 use Rattle.editor.specs.Layout.{Outcome, refusing, taken, Reply, Layout, laid, callOn, outcomeOf}
 use Rattle.editor.specs.Layout.{replyOf, after, heard}
 use Rattle.editor.specs.Demand.{bytesFor, savedBytes, undone-by, Promised}
@@ -27,6 +28,7 @@ use Rattle.editor.proofs.Ends.{entries, Fills, leaves, fills, Ends, ref
 use Rattle.editor.proofs.Ends.{turn-ends}
 use Rattle.editor.proofs.Held.{Frame, editorOf, ledgerOf, Good, Held, same, Legal, legal-of, legal}
 use Rattle.editor.proofs.Held.{standing-steps, undone-steps, reading-kept}
+use Rattle.editor.proofs.Folded.{squeeze-legal}
 use Rattle.editor.proofs.Calls.{accepts, undo-some, redo-some, save-fills, held-turn}
 
 -- an editor lies in a state of a layout: it is found there, and what a call makes of it lies in what the call leaves
@@ -92,6 +94,17 @@ module _ {S : Type 0} {layout : Layout S} {Lies : ℕ → S → Editor → Type 
   turn-lies l _ (moves text standing undone p) ok = lays .moves l text standing undone p ok
   turn-lies l _ (records text x p) ok = lays .records l text x _ p ok
   turn-lies l _ (folds new old x p f) ok = lays .folds l new old x _ p f ok
+
+  -- a squeeze, of any editor that lies in a state
+  pub squeezed-lies :
+      {n : ℕ} {s : S} {e : Editor} → Lies n s e → Legal (layout .weigh) n e → (k : ℕ) (work : List ℕ) →
+      Lies n (outcomeOf layout s (squeeze k work) .state)
+      (squeezeOldest (layout .weigh) (layout .spaceIn s) e k work .editor)
+  squeezed-lies {n} {s} {e} l ok k work =
+      let space : Space = layout .spaceIn s in
+      rw (outcome-is l (squeeze k work))
+      (turn-lies l _ (turn-ends (layout .weigh) space e (squeeze k work))
+      (squeeze-legal (layout .weigh) n e ok space k work))
 
   -- a state in which the editor of a ledger lies
   pub record Kept (arrived : List ℕ) (s : S) (l : Ledger) : Type 0 where

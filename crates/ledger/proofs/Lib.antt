@@ -3,6 +3,7 @@ pub mod Marks
 pub mod Sound
 pub mod Parts
 pub mod Lying
+pub mod Squeezed
 pub mod Opens
 pub mod Demand
 pub mod Example

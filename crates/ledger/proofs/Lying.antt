@@ -1,29 +1,29 @@
 -- The page is a layout: an editor that lies in a page is found there, and what a call makes of it lies in the page that
 -- the call leaves. Assumes nothing.
-use Prim.Native.Nat.{ℕ, _+_, _≤_}
-use mathlib.Core.Path.{_≡_, refl, sym, subst}
+use Prim.Native.Nat.{ℕ, _+_, _-_, _≤_, _<_}
+use mathlib.Core.Path.{_≡_, refl, sym, ap, _∙_, subst}
 use mathlib.Core.Bool.{true, false}
 use mathlib.Core.List.{List, [], _∷_, _++_, map, reverseAux, reverse, reverse-cons, append-nil, append-assoc}
-use mathlib.Core.List.{reverseAux-eq}
+use mathlib.Core.List.{reverseAux-eq, reverseAux-append}
 use mathlib.Core.Option.{some}
 use native.Mathlib.Omega.{arith}
-use lib.ListN.{length, take, length-append}
-use lib.Seq.{take-at}
+use lib.ListN.{length, take, drop, length-append}
+use lib.Seq.{take-at, drop-at}
 use borrow.Author.Tests.{le-leb, le-ltb}
 use Rattle.answer.specs.Answer.{limit}
 use Rattle.editor.specs.declared.Mark.{Mark}
 use Rattle.editor.specs.Ledger.{weightOf}
 use Rattle.editor.specs.Records.{stepOf}
-use Rattle.editor.specs.Editor.{Editor, withText, withMark, over}
+use Rattle.editor.specs.Editor.{Editor, withText, withMark, wordsIn, over}
 use Rattle.editor.proofs.Steps.{and-true}
 use Rattle.editor.proofs.Ends.{entries}
 use Rattle.editor.proofs.Held.{Legal}
 use Rattle.editor.proofs.Promises.{Lays}
 use Rattle.ledger.specs.Words.{Entry, wordsOf, inWords, sizeOf, sizes, pad}
 use Rattle.ledger.specs.Page.{State, stateOf, framed, records}
-use Rattle.ledger.specs.Layout.{page}
+use Rattle.ledger.specs.Layout.{foldedIn, page}
 use Rattle.ledger.proofs.Words.{length-pad, take-pad, zeros-pad, words, length-words, words-append}
-use Rattle.ledger.proofs.Words.{sizes-reverse}
+use Rattle.ledger.proofs.Words.{sizes-reverse, sizes-append, length-record}
 use Rattle.ledger.proofs.Marks.{weight-sizes}
 use Rattle.ledger.proofs.Sound.{Sound, sound-records}
 
@@ -123,6 +123,45 @@ module _ (opening space : ℕ) (e : Editor) (legal : Legal inWords opening e) (f
         (take-at first _ (sizes (e .standing)) length-first) in
         rw (length-text, length-history, old, ← length-after, words-after)
 
+  -- squeeze puts one record for the oldest ones; the others follow it
+  module _ (new old : List Entry) (x : Entry) (mark : Mark) (is : e .standing ≡ new ++ old) where
+    abbrev folded : Editor
+    folded = withText e (e .text) (new ++ x ∷ []) (e .undone) mark
+
+    abbrev rest : List Entry
+    rest = reverseAux new (e .undone)
+
+    words-old : words (entries e) ≡ words (reverse old) ++ words rest
+    words-old =
+        ap (λ (l : List Entry). words (reverseAux l (e .undone))) is
+        ∙ ap words (reverseAux-append new old (e .undone) ∙ reverseAux-eq old rest)
+        ∙ words-append (reverse old) rest
+
+    pub words-folded : words (entries folded) ≡ wordsOf x ++ words rest
+    words-folded = ap words (reverseAux-append new (x ∷ []) (e .undone))
+
+    length-old : length (words (reverse old)) ≡ sizes old
+    length-old = omega (arith, length-words (reverse old), sizes-reverse old [])
+
+    pub length-folded : length (words (entries folded)) + sizes old ≡ length (words (entries e)) + sizeOf x
+    length-folded = rw (words-folded, words-old) (simp length-append (omega (arith, length-old)))
+
+    folded-here : foldedIn here mark (sizes old) x ≡ pageOf opening space folded
+    folded-here =
+        let kept : drop (sizes old) (take (here .page .used) (here .history)) ≡ words rest =
+        ap (drop (sizes old)) (take-pad space (words (entries e)) ∙ words-old)
+        ∙ drop-at (words (reverse old)) (words rest) (sizes old) length-old in
+        let done : sizes (e .standing) - sizes old + sizeOf x ≡ sizes (new ++ x ∷ []) =
+        omega (arith, ap sizes is, sizes-append new old, sizes-append new (x ∷ [])) in
+        let used : length (words (entries e)) - sizes old + sizeOf x ≡ length (words (entries folded)) =
+        omega (arith, length-folded, length-old, simp length-append at (ap length words-old)) in
+        rw (length-history, kept, done, used, words-folded)
+
+-- how many words records are, by the editor's count
+pub words-in : (s : State) (es : List Entry) → wordsIn (page .spaceIn s) es ≡ sizes es
+words-in s [] = refl
+words-in s (e ∷ es) = omega (arith, words-in s es, length-record e)
+
 pub page-lays : Lays page Lies
 page-lays =
     record {
@@ -173,6 +212,18 @@ page-lays =
                   length-after n (l .space) e (l .legal) (l .few) text x mark,
                   length-history n (l .space) e (l .legal) (l .few),
                 );
+            small-text = l .small-text;
+            small-history = l .small-history;
+            legal = ok;
+          };
+      folds =
+          λ {n} {s} {e} l new old x mark p gain ok.
+          let fewer : sizeOf x < sizes old =
+          omega (arith, gain, words-in s old, length-record x) in
+          record {
+            space = l .space;
+            state = rw (l .state) (folded-here n (l .space) e (l .legal) (l .few) new old x mark p);
+            few = omega (arith, length-folded n (l .space) e (l .legal) (l .few) new old x mark p, l .few, fewer);
             small-text = l .small-text;
             small-history = l .small-history;
             legal = ok;

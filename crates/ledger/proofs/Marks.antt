@@ -12,7 +12,7 @@ use Rattle.editor.specs.declared.Mark.{Mark}
 use Rattle.editor.specs.declared.Mark.the-variants.{None, At}
 use Rattle.editor.specs.Ledger.{Step, weightOf}
 use Rattle.editor.specs.Records.{stepOf, endsAt, markFits}
-use Rattle.editor.proofs.Marks.{ends-zero, within-first}
+use Rattle.editor.proofs.Marks.{ends-zero, ends-beyond, within-first}
 use Rattle.ledger.specs.Words.{Entry, inWords, sizes}
 use Rattle.ledger.specs.Parts.{markWithin, cutIn, ends}
 
@@ -24,7 +24,7 @@ and-false-right : (a : Bool) → (a && false) ≡ false
 and-false-right true = refl
 and-false-right false = refl
 
-by-test : {P : Type 0} (t : Bool) → (t ≡ true → P) → (t ≡ false → P) → P
+pub by-test : {P : Type 0} (t : Bool) → (t ≡ true → P) → (t ≡ false → P) → P
 by-test true f g = f refl
 by-test false f g = g refl
 
@@ -39,17 +39,7 @@ weight-append : (first rest : List Step) → weight (first ++ rest) ≡ weight f
 weight-append [] rest = omega arith
 weight-append (x ∷ first) rest = omega (arith, weight-append first rest)
 
--- past the first steps, and past all of them
-pub ends-beyond :
-    (first rest : List Step) (n : ℕ) → endsAt inWords (first ++ rest) (weight first + n) ≡ endsAt inWords rest n
-unfolding endsAt
-ends-beyond [] rest n = rw zero-add
-ends-beyond (x ∷ first) rest n =
-    let all : ℕ = weight first + inWords x + n in
-    let left : all - inWords x ≡ weight first + n = omega arith in
-    rw (ne-eqb all 0 (λ (z : all ≡ 0). omega arith), le-leb (inWords x) all (omega arith), left)
-    (ends-beyond first rest n)
-
+-- past all of them
 ends-far : (steps : List Step) (n : ℕ) → weight steps < n → endsAt inWords steps n ≡ false
 unfolding endsAt
 ends-far [] n h = ne-eqb n 0 (λ (z : n ≡ 0). omega arith)
@@ -90,7 +80,7 @@ module _ (es fs : List Entry) (done used : ℕ) (d : sizes es ≡ done) (u : don
     undone-mark h q =
         let at : n ≡ weight (map stepOf es) + (n - done) = omega (arith, first-weight) in
         let past : endsAt inWords all n ≡ ends fs (n - done) =
-        ap (endsAt inWords all) at ∙ ends-beyond (map stepOf es) (map stepOf fs) (n - done) in
+        ap (endsAt inWords all) at ∙ ends-beyond inWords (map stepOf es) (map stepOf fs) (n - done) in
         rw (
           past,
           le-leb n used q,

@@ -1,5 +1,5 @@
--- Document 01, "The page" and "Numbers given back": the five calls, and everything they leave; and order 5's question.
--- Replace, undo, redo and save are the editor's calls, laid out in the page.
+-- Document 01, "The page" and "Numbers given back": the five calls, and everything they leave; and order 5's question
+-- and order 8's squeeze. Replace, undo, redo, save and squeeze are the editor's calls, laid out in the page.
 use Prim.Native.Nat.{ℕ}
 use mathlib.Core.Bool.{cond, _||_}
 use mathlib.Core.List.{List, []}
@@ -10,7 +10,7 @@ use Rattle.reading.specs.Reading.{Ending, accepted, fault}
 use Rattle.codec.specs.declared.Kind.{Kind}
 use Rattle.codec.specs.Kinds.{readingIn}
 use Rattle.editor.specs.declared.Mark.the-variants.{None, At}
-use Rattle.editor.specs.Ledger.{Call, replace, undo, redo, save}
+use Rattle.editor.specs.Ledger.{Call, replace, undo, redo, save, squeeze}
 use Rattle.editor.specs.Layout as editor
 use Rattle.ledger.specs.Words.{pad}
 use Rattle.ledger.specs.Page.{State, stateOf, Outcome}
@@ -37,6 +37,10 @@ redoOf s = outcomeOf s redo
 -- 16, 14, then 15 where no step stands or 10 where one does, then 9
 abbrev pub saveOf : State → List ℕ → List ℕ → Outcome
 saveOf s arrived out = outcomeOf s (save arrived out)
+
+-- squeeze: 16, 14, 11, 19, 9; the output is the work buffer
+abbrev pub squeezeOf : State → ℕ → List ℕ → Outcome
+squeezeOf s k work = outcomeOf s (squeeze k work)
 
 -- the question: 16, 14
 abbrev pub unchangedOf : State → Reply

@@ -9,9 +9,9 @@ use Rattle.editor.specs.Ledger.{Ledger, Call, opened}
 use Rattle.editor.specs.Layout.{taken}
 use Rattle.editor.specs.Demand as editor
 use Rattle.editor.specs.Demand.{Unchanged}
-use Rattle.ledger.specs.Page.{State, stateOf}
+use Rattle.ledger.specs.Page.{State, stateOf, sound}
 use Rattle.ledger.specs.Layout.{page}
-use Rattle.ledger.specs.Calls.{noPage, openOf}
+use Rattle.ledger.specs.Calls.{noPage, openOf, squeezeOf}
 use Rattle.ledger.specs.Running.{after, heard}
 
 -- what holds of a page with its buffers, and of the ledger that heard the calls that led to it (editor, Demand): the
@@ -30,6 +30,10 @@ Demand3 =
 
 abbrev pub RefusedSame : Type 0
 RefusedSame = editor.RefusedSame page
+
+-- order 8: a sound page, made by hand or not, is sound after a squeeze
+abbrev pub SqueezeSound : Type 0
+SqueezeSound = (s : State) (k : ℕ) (work : List ℕ) → sound s ≡ true → sound (squeezeOf s k work .state) ≡ true
 
 -- "a refused open gives the kind with four zeros"
 abbrev pub OpenRefused : Type 0

@@ -1,3 +1,4 @@
 -- Document 01, "The page": the ledger is the editor's, whatever the layout.
-pub use Rattle.editor.specs.Ledger.{Step, Ledger, opened, Call, replace, undo, redo, save, fed, textOf, doneBy, unchangedBy}
+pub use Rattle.editor.specs.Ledger.{Step, Ledger, opened, Call, replace, undo, redo, save, squeeze, fed, textOf, doneBy}
+pub use Rattle.editor.specs.Ledger.{unchangedBy}
 unfoldable pub use Rattle.editor.specs.Ledger.{acceptedCall, textAfter}

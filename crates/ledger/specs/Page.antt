@@ -1,6 +1,6 @@
 -- Document 01, "The page": a page with the buffers lent beside it, and when it is sound.
 use Prim.Native.Nat.{ℕ}
-use mathlib.Core.Bool.{Bool, true, cond, _&&_}
+use mathlib.Core.Bool.{Bool, true, false, cond, _&&_}
 use mathlib.Core.List.{List, [], map, reverse}
 use mathlib.Core.Option.{Option, none, some}
 use lib.ListN.{length, take, drop}
@@ -51,7 +51,15 @@ fitting s (some es) =
 unfoldable pub records : State → Option Parted
 records s = cond (framed s) (fitting s (recordsIn (s .page .used) (take (s .page .used) (s .history)))) none
 
--- what a call answers, and everything that it leaves; the output is save's, and empty for the others
+-- "A page is sound"
+abbrev pub found : Option Parted → Bool
+found none = false
+found (some v) = true
+
+abbrev pub sound : State → Bool
+sound s = found (records s)
+
+-- what a call answers, and everything that it leaves; the output is save's, or squeeze's work buffer
 abbrev pub Outcome : Type 0
 Outcome = editor.Outcome State
 
@@ -59,7 +67,7 @@ Outcome = editor.Outcome State
 abbrev pub leaves : Edited → List ℕ → List ℕ → Outcome
 leaves r text history = record { verdict = inNumbers (r .answer); state = stateOf (r .page) text history; output = [] }
 
--- what save leaves: the page, its buffers as they were, and the output
+-- what save and squeeze leave: the page, its buffers, and the output
 abbrev pub keeps : Edited → List ℕ → List ℕ → List ℕ → Outcome
 keeps r text history out =
     record { verdict = inNumbers (r .answer); state = stateOf (r .page) text history; output = out }

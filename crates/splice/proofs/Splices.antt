@@ -106,13 +106,6 @@ clear-all l at =
     rw (drop-of-length-le l {i = at + (length l - at)} (omega arith), append-nil, take-replicate (length l - at) (length l) (omega arith), n)
 
 -- past what is in use, a buffer is 0
-zeros-are : (l : List ℕ) → zeros l ≡ true → l ≡ replicate (length l) 0
-unfolding zeros
-zeros-are [] e = refl
-zeros-are (x ∷ l) e =
-    let b = both (eqb x 0) (zeros l) e in
-    λ i. eqb-true x 0 (b .0) i ∷ zeros-are l (b .1) i
-
 drop-replicate : (n m : ℕ) → drop n (replicate m 0) ≡ replicate {A = ℕ} (m - n) 0
 drop-replicate zero m = rw sub-zero
 drop-replicate (suc n) zero = rw zero-sub
