@@ -9,3 +9,4 @@ pub mod Folded
 pub mod Calls
 pub mod Promises
 pub mod Cases
+pub mod FoldCases

@@ -7,3 +7,4 @@ pub mod Squeezed
 pub mod Opens
 pub mod Demand
 pub mod Example
+pub mod FoldExample

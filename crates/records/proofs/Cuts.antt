@@ -16,12 +16,12 @@ use Rattle.editor.specs.declared.Mark.{Mark}
 use Rattle.editor.specs.declared.Mark.the-variants.{None, At}
 use Rattle.editor.specs.Ledger.{weightOf}
 use Rattle.editor.specs.Records.{stepOf, endsAt}
-use Rattle.editor.proofs.Marks.{ends-zero}
+use Rattle.editor.proofs.Marks.{ends-zero, ends-beyond}
 use Rattle.ledger.specs.Words.{Entry, inWords, sizeOf, sizes, recordsIn, lengthsFit, reached}
 use Rattle.ledger.specs.Parts.{cutIn, ends, endingAt}
 use Rattle.ledger.proofs.Words.{Whole, drop-take, words, length-words, words-append, records-words, exact, lengths-append}
 use Rattle.ledger.proofs.Words.{reached-append, reached-fits}
-use Rattle.ledger.proofs.Marks.{weight-sizes, ends-beyond}
+use Rattle.ledger.proofs.Marks.{weight-sizes}
 use Rattle.ledger.proofs.Parts.{same-options}
 use Rattle.records.specs.declared.Walk.{Walk}
 use Rattle.records.specs.declared.Walk.the-variants.{Broken, Led}
@@ -73,7 +73,7 @@ cut-ends (e ∷ es) k h =
 ends-append : (es fs : List Entry) → ends (es ++ fs) (sizes es) ≡ true
 ends-append es fs =
     rw (map-append, ← weight-sizes es, ← add-zero (weightOf inWords (map stepOf es)))
-    (ends-beyond (map stepOf es) (map stepOf fs) 0 ∙ ends-zero inWords (map stepOf fs))
+    (ends-beyond inWords (map stepOf es) (map stepOf fs) 0 ∙ ends-zero inWords (map stepOf fs))
 
 last-append :
     (es fs : List Entry) (at last : ℕ) → lastFrom at last (es ++ fs) ≡ lastFrom (at + sizes es) (lastFrom at last es) fs

@@ -8,11 +8,11 @@ use native.Mathlib.Numerals.{add-one}
 use native.Mathlib.Omega.{arith}
 use lib.ListN.{length, getD, take, drop, set, replicate, length-take, length-drop, length-append, length-replicate, getD-replicate, List·getD-append, drop-of-length-le, take-append-drop}
 use lib.Seq.{take-take, take-add, drop-drop, take-length, take-append-le, take-at, drop-at, paste, paste-zero, paste-suc, drop-paste, getD-drop, getD-take, take-suc, drop-cons, set-at, length-take-le}
-use lib.Dec.{eqb, leb}
-use borrow.Author.Tests.{eqb-true, le-leb, leb-true}
+use lib.Dec.{leb}
+use borrow.Author.Tests.{le-leb, leb-true}
 use Rattle.answer.proofs.Below.{both}
-use Rattle.ledger.specs.Words.{pad, zeros}
-use Rattle.ledger.proofs.Words.{drop-take}
+use Rattle.ledger.specs.Words.{pad}
+use Rattle.ledger.proofs.Words.{drop-take, zeros-are}
 use Rattle.splice.specs.Splice.{Filled, spliced, cleared, fitting, usedAfter, splicedIn}
 
 -- elements moved to a place that is not after theirs, from the first on
