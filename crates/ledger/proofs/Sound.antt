@@ -6,14 +6,41 @@ use mathlib.Core.List.{List, [], map, reverseAux, reverse}
 use mathlib.Core.Option.{Option, none, some}
 use native.Mathlib.Nat.{add-zero}
 use native.Mathlib.Omega.{arith}
-use lib.ListN.{length, take, length-take}
-use lib.Dec.{eqb}
-use borrow.Author.Tests.{eq-eqb, eqb-true}
+use lib.ListN.{length, take, drop, length-take}
+use lib.Dec.{leb, eqb}
+use borrow.Author.Tests.{leb-true, eq-eqb, eqb-true}
 use Rattle.answer.proofs.Below.{both, cond-case}
 use Rattle.editor.specs.Records.{stepOf, markFits}
-use Rattle.ledger.specs.Words.{Entry, Parted, inWords, recordsIn, lengthsFit, reached, partAt}
+use Rattle.ledger.specs.Words.{Entry, Parted, inWords, recordsIn, lengthsFit, reached, partAt, zeros}
 use Rattle.ledger.specs.Page.{State, framed, reachedAtDone, fitting, records}
 use Rattle.ledger.proofs.Words.{Whole, words, sizes, records-words, exact, PartedAs, parted-at, parted-here, parted-whole}
+
+-- the tests of the frame: lengths that fit their buffers, and 0 past the ends
+pub record Framed (s : State) : Type 0 where
+  pub opens : s .page .opening ≤ length (s .text)
+  pub fits : s .page .length ≤ length (s .text)
+  pub uses : s .page .used ≤ length (s .history)
+  pub blank : zeros (drop (s .page .length) (s .text)) ≡ true
+  pub unused : zeros (drop (s .page .used) (s .history)) ≡ true
+
+pub framed-parts : (s : State) → framed s ≡ true → Framed s
+unfolding framed
+framed-parts s f =
+    let a : Bool = leb (s .page .opening) (length (s .text)) in
+    let b : Bool = leb (s .page .length) (length (s .text)) in
+    let c : Bool = leb (s .page .used) (length (s .history)) in
+    let d : Bool = zeros (drop (s .page .length) (s .text)) in
+    let p = both (a && b && c && d) (zeros (drop (s .page .used) (s .history))) f in
+    let q = both (a && b && c) d (p .0) in
+    let r = both (a && b) c (q .0) in
+    let t = both a b (r .0) in
+    record {
+      opens = leb-true (s .page .opening) (length (s .text)) (t .0);
+      fits = leb-true (s .page .length) (length (s .text)) (t .1);
+      uses = leb-true (s .page .used) (length (s .history)) (r .1);
+      blank = q .1;
+      unused = p .1;
+    }
 
 pub record Sound (s : State) (v : Parted) : Type 0 where
   pub frame : framed s ≡ true

@@ -1,31 +1,28 @@
 -- A sound page, made by hand or not, is sound after a squeeze. Assumes nothing.
 use Prim.Native.Nat.{ℕ, _-_, _≤_}
 use mathlib.Core.Path.{_≡_, refl, sym, ap, _∙_}
-use mathlib.Core.Bool.{Bool, true, false, _&&_, _||_, false≢true}
+use mathlib.Core.Bool.{true, false, _||_, false≢true}
 use mathlib.Core.List.{List, _++_}
 use mathlib.Core.Option.{Option, none, some}
 use native.Mathlib.Omega.{arith}
 use lib.ListN.{length, take, drop, replicate, length-drop, take-append-drop}
 use lib.Seq.{length-take-le}
-use lib.Dec.{leb}
-use borrow.Author.Tests.{leb-true, ltb-false}
+use borrow.Author.Tests.{ltb-false}
 use Rattle.answer.specs.Answer.{limit}
-use Rattle.answer.proofs.Below.{both, cond-case}
 use Rattle.editor.specs.Ledger.{squeeze}
 use Rattle.editor.specs.Editor.{Editor, over}
-use Rattle.editor.specs.Layout.{refusing}
 use Rattle.editor.proofs.Steps.{or-parts}
 use Rattle.editor.proofs.Ends as editor
 use Rattle.editor.proofs.Held.{Legal}
 use Rattle.editor.proofs.Promises.{squeezed-lies}
 use Rattle.ledger.specs.Words.{Parted, inWords, zeros, pad}
-use Rattle.ledger.specs.Page.{State, stateOf, textIn, framed, records, found, sound}
+use Rattle.ledger.specs.Page.{State, stateOf, textIn, records, found, sound}
 use Rattle.ledger.specs.Layout.{editorOf, editorFor, page}
 use Rattle.ledger.specs.Calls.{squeezeOf}
 use Rattle.ledger.specs.Demand.{SqueezeSound}
 use Rattle.ledger.proofs.Words.{Whole, words, zeros-are}
 use Rattle.ledger.proofs.Marks.{by-test}
-use Rattle.ledger.proofs.Sound.{Sound, records-sound}
+use Rattle.ledger.proofs.Sound.{Framed, framed-parts, Sound, records-sound}
 use Rattle.ledger.proofs.Lying.{Lies, pageOf, page-lays}
 
 -- a buffer that is all 0 past some elements
@@ -37,44 +34,9 @@ padded n l h z =
     ∙ ap (_++_ (take n l)) (zeros-are (drop n l) z ∙ ap (λ (k : ℕ). replicate k 0) rest)
 
 module _ (s : State) where
-  abbrev a : Bool
-  a = leb (s .page .opening) (length (s .text))
-
-  abbrev b : Bool
-  b = leb (s .page .length) (length (s .text))
-
-  abbrev c : Bool
-  c = leb (s .page .used) (length (s .history))
-
-  abbrev d : Bool
-  d = zeros (drop (s .page .length) (s .text))
-
-  -- the tests of the frame
-  pub record Frame : Type 0 where
-    pub opens : s .page .opening ≤ length (s .text)
-    pub fits : s .page .length ≤ length (s .text)
-    pub uses : s .page .used ≤ length (s .history)
-    pub blank : zeros (drop (s .page .length) (s .text)) ≡ true
-    pub unused : zeros (drop (s .page .used) (s .history)) ≡ true
-
-  frame-of : framed s ≡ true → Frame
-  unfolding framed
-  frame-of f =
-      let p = both (a && b && c && d) (zeros (drop (s .page .used) (s .history))) f in
-      let q = both (a && b && c) d (p .0) in
-      let r = both (a && b) c (q .0) in
-      let t = both a b (r .0) in
-      record {
-        opens = leb-true (s .page .opening) (length (s .text)) (t .0);
-        fits = leb-true (s .page .length) (length (s .text)) (t .1);
-        uses = leb-true (s .page .used) (length (s .history)) (r .1);
-        blank = q .1;
-        unused = p .1;
-      }
-
   module _ (v : Parted) (h : Sound s v) where
-    frame : Frame
-    frame = frame-of (h .frame)
+    frame : Framed s
+    frame = framed-parts s (h .frame)
 
     length-text : length (textIn s) ≡ s .page .length
     length-text = length-take-le (s .page .length) (s .text) (frame .fits)

@@ -19,7 +19,8 @@ use Rattle.editor.specs.Ledger.{undo, redo}
 use Rattle.editor.specs.Editor.{undoLast, redoNext}
 use Rattle.editor.specs.Layout.{laid, callOn, outcomeOf}
 use Rattle.ledger.specs.Layout.{editorOf, editorFor, left, page}
-use Rattle.ledger.proofs.Words.{words, sizes, length-words, words-append, sizes-reverse, lengths-append}
+use Rattle.ledger.proofs.Words.{At, words-at, words, sizes, length-words, words-append, sizes-reverse}
+use Rattle.ledger.proofs.Words.{lengths-append}
 use Rattle.ledger.proofs.Words.{reached-append, reached-fits}
 use Rattle.ledger.proofs.Sound.{Sound}
 use Rattle.records.specs.Walking.{lastBegin, judgeOf}
@@ -31,29 +32,6 @@ use Rattle.page.specs.declared.Span.{Span}
 use Rattle.page.specs.declared.Change.{Change}
 use Rattle.splice.specs.Splice.{spliced}
 use Rattle.page.specs.Steps.{steppedOf, spanOf, changeOf, changeIn}
-
--- a record's words stand at a word of the history
-record At (history : List ℕ) (at : ℕ) (e : Entry) : Type 0 where
-  place : getD history at 0 ≡ e .place
-  removed : getD history (at + 1) 0 ≡ length (e .removed)
-  added : getD history (at + 2) 0 ≡ length (e .added)
-  out : take (length (e .removed)) (drop (at + 3) history) ≡ e .removed
-  put : take (length (e .added)) (drop (at + 3 + length (e .removed)) history) ≡ e .added
-  whole : at + sizeOf e ≤ length history
-
-words-at : (w y : List ℕ) (e : Entry) → At (w ++ (wordsOf e ++ y)) (length w) e
-words-at w y e =
-    let z : List ℕ = wordsOf e ++ y in
-    let r : List ℕ = e .removed in
-    let first : drop (length w + 3) (w ++ z) ≡ r ++ (e .added ++ y) = drop-append-add w z 3 ∙ append-assoc r (e .added) y in
-    record {
-      place = rw add-zero at (getD-append-add w z 0 0);
-      removed = getD-append-add w z 1 0;
-      added = getD-append-add w z 2 0;
-      out = rw first (take-append-seam r (e .added ++ y));
-      put = rw (← drop-drop (length r) (length w + 3) (w ++ z), first, drop-append-seam r (e .added ++ y)) (take-append-seam (e .added) y);
-      whole = simp length-append (omega arith);
-    }
 
 -- records in order, one of them picked out
 module _ (s : State) (back : List Entry) (e : Entry) (rest : List Entry) where

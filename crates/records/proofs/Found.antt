@@ -1,7 +1,7 @@
 -- What a judgement tells of a page, for the calls that ask for it. Assumes nothing.
 use Prim.Native.Nat.{ℕ, _≤_}
 use mathlib.Core.Path.{_≡_, refl, sym, ap, _∙_}
-use mathlib.Core.Bool.{Bool, true, false, cond, _||_, false≢true}
+use mathlib.Core.Bool.{Bool, true, false, cond, _||_}
 use mathlib.Core.List.{List, reverseAux}
 use mathlib.Core.Option.{Option, none, some}
 use native.Mathlib.Omega.{arith}
@@ -11,15 +11,16 @@ use Rattle.answer.specs.Answer.{Verdict, limit, numbered, inNumbers, tooLong}
 use Rattle.answer.specs.declared.Answer.{Answer}
 use Rattle.answer.specs.declared.Answer.the-variants.{Refused}
 use Rattle.answer.specs.declared.Refusal.the-variants.{Unsound, OverLimit}
+use Rattle.editor.proofs.Steps.{or-parts}
 use Rattle.ledger.specs.Words.{Entry, Parted}
 use Rattle.ledger.specs.Page.{State, records}
 use Rattle.ledger.specs.Calls.{over}
 use Rattle.ledger.proofs.Words.{Whole, sizes-reverse, length-words}
-use Rattle.ledger.proofs.Sound.{Sound, records-sound}
+use Rattle.ledger.proofs.Sound.{Sound, framed-parts, records-sound}
 use Rattle.records.specs.declared.Judged.{Judged}
 use Rattle.records.specs.declared.Judged.the-variants as judged
 use Rattle.records.specs.Walking.{lastBegin, judgedAs, judgeOf}
-use Rattle.records.proofs.Judging.{Frame, framed-lengths}
+use Rattle.records.proofs.Judging.{Frame}
 
 -- a page that was found sound
 pub record Fit (s : State) (last : ℕ) : Type 0 where
@@ -32,19 +33,15 @@ pub record Fit (s : State) (last : ℕ) : Type 0 where
   pub begins : last ≡ lastBegin (s .page .done) (parted .standing)
   pub frame : Frame (s .page) (s .text) (s .history)
 
-or-parts : (a b : Bool) → (a || b) ≡ false → (a ≡ false) × (b ≡ false)
-or-parts true b e = absurd (false≢true (sym e))
-or-parts false b e = (refl, e)
-
 module _ (s : State) where
   sound-frame : (v : Parted) → Sound s v → Frame (s .page) (s .text) (s .history)
   sound-frame v h =
-      let f = framed-lengths (s .page) (s .text) (s .history) (h .frame) in
+      let f = framed-parts s (h .frame) in
       let all : List Entry = reverseAux (v .standing) (v .undone) in
       record {
-        opens = f .0;
-        fits = f .1;
-        uses = f .2;
+        opens = f .opens;
+        fits = f .fits;
+        uses = f .uses;
         stands = omega (arith, h .end, sizes-reverse (v .standing) (v .undone), length-words all, ap length (h .tiles), length-take (s .page .used) (s .history));
       }
 

@@ -22,6 +22,7 @@ use Rattle.ledger.specs.Page.{State, stateOf, framed, records}
 use Rattle.ledger.specs.Parts.{joined, cutIn, markWithin, ends, endingAt, bounded, standingIn, undoneIn, recordsTwice}
 use Rattle.ledger.specs.Calls.{over}
 use Rattle.ledger.proofs.Words.{Whole, drop-take, words, sizes, length-words, exact}
+use Rattle.ledger.proofs.Sound.{framed-parts}
 use Rattle.ledger.proofs.Parts.{two-parts}
 use Rattle.records.specs.declared.Walk.{Walk}
 use Rattle.records.specs.declared.Walk.the-variants.{Broken, Led}
@@ -101,25 +102,12 @@ module _ (p : Page) (t h : List ℕ) where
   abbrev s : State
   s = stateOf p t h
 
-  -- the tests of the lengths, apart from those of the zeros
-  pub framed-lengths : framed s ≡ true → (p .opening ≤ length t) × (p .length ≤ length t) × (p .used ≤ length h)
-  unfolding framed
-  framed-lengths e =
-      let a : Bool = leb (p .opening) (length t) in
-      let b : Bool = leb (p .length) (length t) in
-      let c : Bool = leb (p .used) (length h) in
-      let d : Bool = zeros (drop (p .length) t) in
-      let e₁ = both (a && b && c) d (both (a && b && c && d) (zeros (drop (p .used) h)) e .0) in
-      let e₂ = both (a && b) c (e₁ .0) in
-      let e₃ = both a b (e₂ .0) in
-      (leb-true _ _ (e₃ .0), leb-true _ _ (e₃ .1), leb-true _ _ (e₂ .1))
-
   pub frame : bounded s ≡ true → Frame p t h
   frame e =
       let a = both (framed s && leb (p .done) (p .used)) (markWithin (p .used) (p .saved)) e in
       let b = both (framed s) (leb (p .done) (p .used)) (a .0) in
-      let f = framed-lengths (b .0) in
-      record { opens = f .0; fits = f .1; uses = f .2; stands = leb-true _ _ (b .1) }
+      let f = framed-parts s (b .0) in
+      record { opens = f .opens; fits = f .fits; uses = f .uses; stands = leb-true _ _ (b .1) }
 
   pub unframed : bounded s ≡ false → judgedAs (p .done) (records s) ≡ unsound
   unfolding recordsTwice
