@@ -1,0 +1,169 @@
+// Squeeze: the oldest standing steps of a page folded into one. No text is undone in place: the cells of the texts before
+// are followed through the records to where they stand, in a record or in the present text, a stretch of them at a time.
+use answer::Answer;
+use answer::Refusal;
+use editor::Mark;
+use ledger::Edited;
+use ledger::Page;
+use records::Judged;
+ghost use mathlib.Core.Path.{_≡_};
+ghost use mathlib.Core.List.{_++_};
+ghost use Prim.Native.Nat.{_+_, _-_, _≤_, _<_, _^_};
+ghost use lib.ListN.{length, getD, take, drop};
+ghost use lib.Seq.{paste};
+ghost use Rattle.answer.specs.Answer.{limit, numbered, inNumbers};
+ghost use Rattle.answer.specs.Output.{filled};
+ghost use Rattle.records.specs.declared.Judged.the-variants.{Sound};
+ghost use Rattle.records.specs.Walking.{judgeOf};
+ghost use Rattle.ledger.specs.Words.{wordsOf};
+ghost use Rattle.editor.specs.Marks.{foldedMark};
+ghost use Rattle.ledger.specs.Page.{stateOf, keeps};
+ghost use Rattle.ledger.specs.Calls.{squeezeOf};
+ghost use Rattle.squeeze.specs.Tracing.{headIn, entriesIn, textSince, Leads, Follows, cellsIn};
+ghost use Rattle.squeeze.specs.Folding.{foldFrom, squeezedPage};
+
+// Where the oldest records end, the length of the text there, and how many records they are.
+struct Fold {
+    at: usize,
+    len: usize,
+    count: usize,
+}
+
+// The first three words of a record, and the word where it ends.
+struct Head {
+    place: usize,
+    removed: usize,
+    added: usize,
+    end: usize,
+}
+
+// Cells one after another: in the history, among those that a record removed, or in the present text.
+struct Stretch {
+    kept: bool,
+    at: usize,
+    count: usize,
+}
+
+fn head_at(history: &[u32], at: usize) -> Head
+    requires { ⌜ at + (3 + getD (now history) (at + 1) 0 + getD (now history) (at + 2) 0) ≤ length (now history) ⌝ }
+    ensures { λ r. ⌜ r ≡ headIn (now (history .entry)) at ⌝ }
+{
+    let place = records::wide(history[at]);
+    let removed = records::wide(history[at + 1]);
+    let added = records::wide(history[at + 2]);
+    Head {
+        place,
+        removed,
+        added,
+        end: at + (3 + removed + added),
+    }
+}
+
+// The first k records of those that stand, or all of them.
+fn oldest(history: &[u32], text: &[u32], done: usize, opening: usize, k: usize) -> Fold
+    requires { ⌜ Leads 0 done (now history) (now text) × (opening ≡ length (textSince 0 done (now history) (now text))) ⌝ }
+    ensures { λ r. ⌜ r ≡ foldFrom 0 opening 0 (take k (entriesIn 0 done (now (history .entry)))) ⌝ }
+{
+    let mut at = 0;
+    let mut len = opening;
+    let mut count = 0;
+    while count < k {
+        if at == done {
+            return Fold { at, len, count };
+        }
+        let head = head_at(history, at);
+        len = len - head.removed + head.added;
+        at = head.end;
+        count += 1;
+    }
+    Fold { at, len, count }
+}
+
+fn lesser(a: usize, b: usize) -> usize
+    ensures { λ r. ⌜ (r ≤ a) × (r ≤ b) × (0 < a → 0 < b → 0 < r) ⌝ }
+{
+    if a < b {
+        a
+    } else {
+        b
+    }
+}
+
+// From a cell of the text before the records on, as many as go the same way: into what a record removed, or through all.
+fn follow(
+    history: &[u32],
+    from: usize,
+    to: usize,
+    text: &[u32],
+    start: usize,
+    most: usize,
+) -> Stretch
+    requires { ⌜ Leads from to (now history) (now text) × (0 < most)
+        × (start + most ≤ length (textSince from to (now history) (now text))) ⌝ }
+    ensures { λ r. ⌜ Follows r (now (history .entry)) (now (text .entry))
+        (textSince from to (now (history .entry)) (now (text .entry))) start most ⌝ }
+{
+    let mut at = from;
+    let mut cell = start;
+    let mut count = most;
+    while at < to {
+        let head = head_at(history, at);
+        if cell < head.place {
+            count = lesser(count, head.place - cell);
+        } else if cell - head.place < head.removed {
+            let past = cell - head.place;
+            return Stretch {
+                kept: true,
+                at: at + 3 + past,
+                count: lesser(count, head.removed - past),
+            };
+        } else {
+            cell = cell - head.removed + head.added;
+        }
+        at = head.end;
+    }
+    Stretch {
+        kept: false,
+        at: cell,
+        count,
+    }
+}
+
+// Puts a stretch at a place, over what stands there, and gives the place after it.
+fn put(work: &mut [u32], at: usize, s: Stretch, history: &[u32], text: &[u32]) -> usize
+    requires { ⌜ (at + s .count ≤ length (now work)) × (s .at + s .count ≤ length (cellsIn (s .kept) (now history) (now text))) ⌝ }
+    ensures { λ r. ⌜ (r ≡ at + s .count) × (now (work .exit)
+        ≡ paste (now (work .entry)) at (drop (s .at) (cellsIn (s .kept) (now (history .entry)) (now (text .entry)))) (s .count)) ⌝ }
+{
+    let first = s.at;
+    if s.kept {
+        let last = first + s.count;
+        splice::splice_in(&mut *work, at, at, 0, &history[first..last])
+    } else {
+        let last = first + s.count;
+        splice::splice_in(&mut *work, at, at, 0, &text[first..last])
+    }
+}
+
+// Puts the text before the records at a place, over what stands there.
+fn trace(
+    work: &mut [u32],
+    start: usize,
+    size: usize,
+    history: &[u32],
+    from: usize,
+    to: usize,
+    text: &[u32],
+)
+    requires { ⌜ Leads from to (now history) (now text) × (size ≡ length (textSince from to (now history) (now text)))
+        × (start + size ≤ length (now work)) ⌝ }
+    ensures { λ _. ⌜ now (work .exit)
+        ≡ paste (now (work .entry)) start (textSince from to (now (history .entry)) (now (text .entry))) size ⌝ }
+{
+    let end = start + size;
+    let mut at = start;
+    while at < end {
+        let s = follow(history, from, to, text, at - start, end - at);
+        at = put(&mut *work, at, s, history, text);
+    }
+}
