@@ -100,8 +100,7 @@ module _ (weigh : Step → ℕ) {arrived : List ℕ} (o : Frame arrived) (new ol
         let weight : weightOf weigh (reverse old) ≡ weightOf weigh old = omega (arith, weight-reverse weigh old []) in
         record {
           fits =
-              rw (reverseAux-append new (one ∷ []) undone)
-              (
+              rw (reverseAux-append new (one ∷ []) undone) (
                 fits-first (o .room) (o .reading) (reverseAux old rest) fits-in-order,
                 omega arith,
                 subst (λ (t : List ℕ). Fits (o .room) t rest) (sym stepped-one) fits-between,

@@ -1,2 +1,3 @@
 pub mod Tracing
 pub mod Pasting
+pub mod Folding

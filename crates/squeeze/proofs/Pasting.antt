@@ -2,13 +2,16 @@
 use Prim.Native.Nat.{ℕ, _+_, _-_, _≤_}
 use mathlib.Core.Path.{_≡_, refl, sym, ap, _∙_}
 use mathlib.Core.Bool.{true}
-use mathlib.Core.List.{List, [], _++_, append-nil, append-assoc}
+use mathlib.Core.List.{List, [], _∷_, _++_, append-nil, append-assoc}
 use native.Mathlib.Omega.{arith}
-use native.Mathlib.Nat.{add-zero}
-use lib.ListN.{length, take, drop, replicate, length-take, length-drop, drop-of-length-le}
+use native.Mathlib.Nat.{zero-add}
+use lib.ListN.{length, take, drop, replicate, length-append, length-take, length-drop, drop-of-length-le}
 use lib.Seq.{paste, paste-zero, take-paste, drop-paste, take-add, take-take, take-length, drop-drop, length-take-le, length-paste}
+use lib.Seq.{take-append-seam, drop-append-seam, drop-append-add}
 use lib.Dec.{leb}
 use borrow.Author.Tests.{le-leb}
+use Rattle.answer.specs.Output.{filled}
+use Rattle.ledger.specs.Words.{wordsOf}
 use Rattle.splice.specs.Splice.{spliced, cleared, fitting, usedAfter, splicedIn}
 
 -- cells put after others
@@ -91,3 +94,55 @@ turned work₀ work w text cells start size at count r all room i few same e =
     ∙ paste-more work₀ text cells start j count (omega arith) (omega arith) same in
     let long : length w ≡ length work₀ = ap length is ∙ length-paste work₀ start text (j + count) (omega arith) (omega arith) in
     (omega (arith, e .0), omega (arith, e .0), long, is ∙ ap (paste work₀ start text) next)
+
+paste-front : (work l : List ℕ) → paste work 0 l (length l) ≡ filled l work
+paste-front work l = rw (take-length l, zero-add (length l))
+
+-- the words of a record at the front of a buffer, one part after another
+module _ (work removed added : List ℕ) (opening len : ℕ) where
+  abbrev head : List ℕ
+  head = 0 ∷ opening ∷ len ∷ []
+
+  abbrev all : List ℕ
+  all = wordsOf (record { place = 0; removed = removed; added = added })
+
+  module _ (o : opening ≡ length removed) (l : len ≡ length added) (room : 3 + opening + len ≤ length work) (n : ℕ) (w₁ : List ℕ)
+      (e : (n ≡ usedAfter 0 0 0 3 (length work)) × (w₁ ≡ splicedIn 0 0 0 head work)) where
+    first : (n ≡ 0 + 3) × (w₁ ≡ paste work 0 head 3)
+    first = append-is work head 0 (omega arith) n w₁ e
+
+    pub three : n ≡ 3
+    three = first .0
+
+    long : length all ≡ 3 + opening + len
+    long = simp length-append (omega arith)
+
+    first-is : w₁ ≡ paste work 0 all 3
+    first-is = first .1 ∙ (λ i. paste work 0 (0 ∷ o i ∷ l i ∷ (removed ++ added)) 3)
+
+    pub first-long : length w₁ ≡ length work
+    first-long = ap length first-is ∙ length-paste work 0 all 3 (omega arith) (omega (arith, long))
+
+    module _ (w₂ : List ℕ) (e₂ : w₂ ≡ paste w₁ n removed opening) where
+      second-is : w₂ ≡ paste work 0 all (3 + opening)
+      second-is =
+          e₂
+          ∙ (λ i. paste (first-is i) (three i) removed opening)
+          ∙ paste-more work all removed 0 3 opening (omega arith) (omega (arith, long))
+          (rw o (take-length removed ∙ sym (take-append-seam removed added)))
+
+      pub second-long : length w₂ ≡ length work
+      second-long = ap length second-is ∙ length-paste work 0 all (3 + opening) (omega arith) (omega (arith, long))
+
+      pub record-is : (w₃ : List ℕ) → w₃ ≡ paste w₂ (n + opening) added len → w₃ ≡ filled all work
+      record-is w₃ e₃ =
+          let rest : drop (3 + opening) all ≡ added =
+          ap (λ (k : ℕ). drop (3 + k) all) o
+          ∙ drop-append-add (0 ∷ length removed ∷ length added ∷ []) (removed ++ added) (length removed)
+          ∙ drop-append-seam removed added in
+          e₃
+          ∙ (λ i. paste (second-is i) (three i + opening) added len)
+          ∙ ap (λ (k : ℕ). paste (paste work 0 all (3 + opening)) k added len) (sym (zero-add (3 + opening)))
+          ∙ paste-more work all added 0 (3 + opening) len (omega arith) (omega (arith, long)) (ap (take len) (sym rest))
+          ∙ ap (paste work 0 all) (sym long)
+          ∙ paste-front work all

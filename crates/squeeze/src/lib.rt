@@ -7,11 +7,10 @@ use ledger::Edited;
 use ledger::Page;
 use records::Judged;
 ghost use mathlib.Core.Path.{_≡_};
-ghost use mathlib.Core.List.{_++_};
-ghost use Prim.Native.Nat.{_+_, _-_, _≤_, _<_, _^_};
+ghost use Prim.Native.Nat.{_+_, _≤_, _<_};
 ghost use lib.ListN.{length, getD, take, drop};
 ghost use lib.Seq.{paste};
-ghost use Rattle.answer.specs.Answer.{limit, numbered, inNumbers};
+ghost use Rattle.answer.specs.Answer.{numbered, inNumbers};
 ghost use Rattle.answer.specs.Output.{filled};
 ghost use Rattle.records.specs.declared.Judged.the-variants.{Sound};
 ghost use Rattle.records.specs.Walking.{judgeOf};
@@ -19,14 +18,22 @@ ghost use Rattle.ledger.specs.Words.{wordsOf};
 ghost use Rattle.editor.specs.Marks.{foldedMark};
 ghost use Rattle.ledger.specs.Page.{stateOf, keeps};
 ghost use Rattle.ledger.specs.Calls.{squeezeOf};
+ghost use Rattle.splice.specs.Splice.{Filled};
 ghost use Rattle.squeeze.specs.Tracing.{headIn, entriesIn, textSince, Leads, Follows, cellsIn};
-ghost use Rattle.squeeze.specs.Folding.{foldFrom, squeezedPage};
+ghost use Rattle.squeeze.specs.Folding.{foldFrom, foldOf, Foldable, foldedTo, squeezedPage};
 
 // Where the oldest records end, the length of the text there, and how many records they are.
 struct Fold {
     at: usize,
     len: usize,
     count: usize,
+}
+
+// The answer 19, no gain.
+fn no_gain() -> Answer
+    ensures { λ r. ⌜ inNumbers r ≡ numbered 19 0 ⌝ }
+{
+    Answer::Refused(Refusal::NotTheText, 0)
 }
 
 // The first three words of a record, and the word where it ends.
@@ -82,11 +89,7 @@ fn oldest(history: &[u32], text: &[u32], done: usize, opening: usize, k: usize) 
 fn lesser(a: usize, b: usize) -> usize
     ensures { λ r. ⌜ (r ≤ a) × (r ≤ b) × (0 < a → 0 < b → 0 < r) ⌝ }
 {
-    if a < b {
-        a
-    } else {
-        b
-    }
+    if a < b { a } else { b }
 }
 
 // From a cell of the text before the records on, as many as go the same way: into what a record removed, or through all.
@@ -165,5 +168,136 @@ fn trace(
     while at < end {
         let s = follow(history, from, to, text, at - start, end - at);
         at = put(&mut *work, at, s, history, text);
+    }
+}
+
+// The record of the fold at the front of the work buffer: its first three words, the opening text, and the text after it.
+fn write_record(
+    work: &mut [u32],
+    history: &[u32],
+    text: &[u32],
+    opening: usize,
+    fold: Fold,
+    done: usize,
+)
+    requires { ⌜ Foldable opening fold done (now history) (now text) × (3 + opening + fold .len ≤ length (now work)) ⌝ }
+    ensures { λ _. ⌜ now (work .exit)
+        ≡ filled (wordsOf (foldOf (fold .at) done (now (history .entry)) (now (text .entry)))) (now (work .entry)) ⌝ }
+{
+    let at = fold.at;
+    let len = fold.len;
+    let head = [0, opening as u32, len as u32];
+    let first = splice::splice_in(&mut *work, 0, 0, 0, &head);
+    trace(&mut *work, first, opening, history, 0, done, text);
+    let second = first + opening;
+    trace(&mut *work, second, len, history, at, done, text);
+}
+
+// The mark, where so many words are folded into so many.
+fn mark_left(mark: Mark, old: usize, new: usize) -> Mark
+    requires { ⌜ new ≤ old ⌝ }
+    ensures { λ r. ⌜ r ≡ foldedMark old new mark ⌝ }
+{
+    let Mark::At(n) = mark else {
+        return Mark::None;
+    };
+    if n == 0 {
+        return Mark::At(0);
+    }
+    if n < old {
+        return Mark::None;
+    }
+    Mark::At(n - old + new)
+}
+
+// What is given back where so many words are folded into so many.
+fn shrunk(page: Page, old: usize, new: usize) -> Edited
+    requires { ⌜ (new ≤ old) × (old ≤ page .done) × (page .done ≤ page .used) ⌝ }
+    ensures { λ r. ⌜ r ≡ squeezedPage page old new ⌝ }
+{
+    let kind = page.kind;
+    let saved = page.saved;
+    let used = page.used - old + new;
+    Edited {
+        answer: Answer::Accepted(used),
+        page: Page {
+            kind,
+            opening: page.opening,
+            length: page.length,
+            used,
+            done: page.done - old + new,
+            saved: mark_left(saved, old, new),
+        },
+    }
+}
+
+fn refused(page: Page, answer: Answer) -> Edited
+    ensures { λ r. ⌜ r ≡ record { answer = answer; page = page } ⌝ }
+{
+    Edited { answer, page }
+}
+
+// 19, then 9; else the record is made, and put for the oldest ones.
+fn squeeze_to(page: Page, fold: Fold, text: &[u32], history: &mut [u32], work: &mut [u32]) -> Edited
+    requires { ⌜ Foldable (page .opening) fold (page .done) (now history) (take (page .length) (now text))
+        × (page .length ≤ length (now text)) × (fold .at ≤ page .done) × (page .done ≤ page .used) × Filled (page .used) (now history) ⌝ }
+    ensures { λ r. ⌜ keeps r (now (text .entry)) (now (history .exit)) (now (work .exit))
+        ≡ foldedTo (stateOf page (now (text .entry)) (now (history .entry))) (now (work .entry)) (fold .at)
+        (foldOf (fold .at) (page .done) (now (history .entry)) (take (page .length) (now (text .entry)))) ⌝ }
+{
+    let size = 3 + page.opening + fold.len;
+    let old = fold.at;
+    if old <= size {
+        return refused(page, no_gain());
+    }
+    if work.len() < size {
+        return refused(page, Answer::Refused(Refusal::NoRoom, size));
+    }
+    let length = page.length;
+    write_record(
+        &mut *work,
+        &*history,
+        &text[..length],
+        page.opening,
+        fold,
+        page.done,
+    );
+    splice::splice_in(&mut *history, page.used, 0, old, &work[..size]);
+    shrunk(page, old, size)
+}
+
+// On a sound page: 11.
+fn squeeze_sound(
+    page: Page,
+    k: usize,
+    text: &[u32],
+    history: &mut [u32],
+    work: &mut [u32],
+    last: usize,
+) -> Edited
+    requires { ⌜ judgeOf (stateOf page (now text) (now history)) ≡ Sound last ⌝ }
+    ensures { λ r. ⌜ keeps r (now (text .entry)) (now (history .exit)) (now (work .exit))
+        ≡ squeezeOf (stateOf page (now (text .entry)) (now (history .entry))) k (now (work .entry)) ⌝ }
+{
+    if k < 2 {
+        return refused(page, Answer::Refused(Refusal::BeyondLength, 0));
+    }
+    let length = page.length;
+    let fold = oldest(&*history, &text[..length], page.done, page.opening, k);
+    if fold.count < k {
+        return refused(page, Answer::Refused(Refusal::BeyondLength, 0));
+    }
+    squeeze_to(page, fold, text, &mut *history, &mut *work)
+}
+
+// Folds the oldest k standing steps into one: 16, 14, 11, 19, 9.
+pub fn squeeze(page: Page, k: usize, text: &[u32], history: &mut [u32], work: &mut [u32]) -> Edited
+    ensures { λ r. ⌜ keeps r (now (text .entry)) (now (history .exit)) (now (work .exit))
+        ≡ squeezeOf (stateOf page (now (text .entry)) (now (history .entry))) k (now (work .entry)) ⌝ }
+{
+    let found = records::judge(page, text, &*history);
+    match found {
+        Judged::Unfit(answer) => refused(page, answer),
+        Judged::Sound(last) => squeeze_sound(page, k, text, &mut *history, &mut *work, last),
     }
 }
