@@ -24,7 +24,7 @@ use Rattle.ledger.specs.Calls.{over}
 use Rattle.ledger.proofs.Words.{Whole, words, length-words, sizes-reverse}
 use Rattle.ledger.proofs.Marks.{weight-sizes}
 use Rattle.ledger.proofs.Sound.{Sound, records-sound}
-use Rattle.ledger.proofs.Opens.{or-parts}
+use Rattle.editor.proofs.Steps.{or-parts}
 use Rattle.page_file.specs.File.{form1, markWithin, InForm, fileOf}
 use Rattle.page_file.specs.Calls.{contentOf, belongs, keepParted, keepOf, stateFrom, readParted, readFitting}
 use Rattle.page_file.specs.Calls.{readParsed, readOf}

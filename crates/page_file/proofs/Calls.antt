@@ -25,7 +25,7 @@ use Rattle.ledger.specs.Words.{Entry, Parted, pad}
 use Rattle.ledger.specs.Page.{State, stateOf, records, Outcome}
 use Rattle.ledger.specs.Calls.{over, noPage}
 use Rattle.ledger.proofs.Words.{take-pad, length-pad}
-use Rattle.ledger.proofs.Opens.{or-parts}
+use Rattle.editor.proofs.Steps.{or-parts}
 use Rattle.parsing.specs.Parsing.{Whole, whole, broken}
 use Rattle.page_file.specs.File.{Content, fileOf, IsFile}
 use Rattle.page_file.specs.Reading.{parse}
