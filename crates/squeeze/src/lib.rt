@@ -33,7 +33,7 @@ struct Fold {
 fn no_gain() -> Answer
     ensures { λ r. ⌜ inNumbers r ≡ numbered 19 0 ⌝ }
 {
-    Answer::Refused(Refusal::NotTheText, 0)
+    Answer::Refused(Refusal::NoGain, 0)
 }
 
 // The first three words of a record, and the word where it ends.
