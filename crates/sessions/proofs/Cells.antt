@@ -12,7 +12,7 @@ use Rattle.answer.specs.Lists.{Each}
 use Rattle.answer.proofs.Below.{cond-case, each-take, each-drop}
 use Rattle.codec.specs.Kinds.{firstUnwritable}
 use Rattle.codec.proofs.Bounds.{Word, cells-added}
-use Rattle.editor.specs.Ledger.{Step, Ledger, Call, replace, undo, redo, save, lastOf, beforeLast, acceptedCall, fed}
+use Rattle.editor.specs.Ledger.{Step, Ledger, Call, replace, undo, redo, save, squeeze, lastOf, beforeLast, acceptedCall, fed}
 use Rattle.editor.specs.Ledger.{textAfter}
 use Rattle.editor.specs.Editor.{Editor, Space, Turn, replaceAt, overlong}
 use Rattle.editor.specs.Layout.{Outcome, taken, Layout, callOn, outcomeOf}
@@ -141,6 +141,17 @@ module _ {S : Type 0} (layout : Layout S) (s : S) (l : Ledger) (h : Words l) whe
       }
   accepted-words (save arrived out) ok =
       record { reading = h .reading; standing = h .standing; undone = h .undone }
+
+  accepted-words (squeeze k work) ok =
+      record {
+        reading = h .reading;
+        standing =
+            (
+              text-words (l .reading) (take k (l .standing)) (each-take Adds (l .standing) k (h .standing)) (h .reading),
+              each-drop Adds (l .standing) k (h .standing),
+            );
+        undone = h .undone;
+      }
 
   pub fed-words : (c : Call) → Words (fed (layout .weigh) l c (taken (outcomeOf layout s c)))
   fed-words c = cond-case Words (taken (outcomeOf layout s c)) (accepted-words c) (λ _. h)
