@@ -9,18 +9,20 @@ use native.Mathlib.Nat.{add-zero}
 use lib.ListN.{length, getD, take, drop, length-append, length-take, length-drop, take-append-drop}
 use lib.Seq.{slice, length-slice, take-take, drop-drop, drop-at, drop-append-le, drop-append-add, take-append-le}
 use lib.Seq.{length-take-le, take-nil}
-use lib.Dec.{leb}
-use borrow.Author.Tests.{leb-true}
+use lib.Dec.{ltb, leb}
+use borrow.Author.Tests.{le-leb, leb-true, ltb-true, ltb-false}
 use Rattle.answer.specs.Answer.{limit}
-use Rattle.answer.proofs.Below.{both}
+use Rattle.answer.proofs.Below.{both, cond-case}
+use Rattle.reading.specs.Stepping.{least}
 use Rattle.editor.specs.Records.{Entry, applied, turned, textBefore}
 use Rattle.editor.proofs.Lengths.{fits-here, fits-next, textFrom, before-from, length-from}
 use Rattle.ledger.specs.Words.{wordsOf, sizeOf, sizes, recordsIn, lengthAfter, lengthsFit, reached}
 use Rattle.ledger.proofs.Words.{Whole, drop-take, At, words-at, words, length-record, records-words, exact}
 use Rattle.squeeze.specs.declared.Head.{Head}
+use Rattle.squeeze.specs.declared.Trail.{Trail}
 use Rattle.squeeze.specs.declared.Stretch.{Stretch}
 use Rattle.squeeze.specs.Folding.{foldFrom}
-use Rattle.squeeze.specs.Tracing.{headIn, heldBy, entriesIn, textSince, Leads, cellsIn, Follows}
+use Rattle.squeeze.specs.Tracing.{headIn, keptIn, passed, heldBy, entriesIn, textSince, Leads, On, cellsIn, Follows}
 
 -- the text before records is undone one record at a time
 pub since-from : (from to : ℕ) (history text : List ℕ) → textSince from to history text ≡ textFrom (entriesIn from to history) text
@@ -200,14 +202,6 @@ module _ (at to : ℕ) (history text : List ℕ) where
     pub since-end : to ≤ at → textSince at to history text ≡ text
     since-end q = since-from at to history text ∙ ap (λ (es : List Entry). textFrom es text) (entries-end q)
 
--- a walk that started at a cell of the text before all, and stands at a record with a cell of the text before that
-pub record On (from to : ℕ) (history text : List ℕ) (start most at cell count : ℕ) : Type 0 where
-  pub leads : Leads at to history text
-  pub some : 0 < count
-  pub few : count ≤ most
-  pub part : cell + count ≤ length (textSince at to history text)
-  pub same : take count (drop start (textSince from to history text)) ≡ take count (drop cell (textSince at to history text))
-
 -- where records end that begin at a word: one of them, and the others; and none
 fold-cons :
     (at len count : ℕ) (e : Entry) (es : List Entry) →
@@ -365,3 +359,55 @@ pub enough :
 enough at len count k es q =
     let none : k - count ≡ 0 = omega arith in
     sym (rw none (fold-none at len count))
+
+-- a walk goes on from where it stood
+pub on-further :
+    {from to : ℕ} {history text : List ℕ} {start most at cell count at' cell' count' : ℕ} →
+    On from to history text start most at cell count → On at to history text cell count at' cell' count' →
+    On from to history text start most at' cell' count'
+on-further {count' = c} o p =
+    record {
+      leads = p .leads;
+      some = p .some;
+      few = omega (arith, o .few, p .few);
+      part = p .part;
+      same = fewer c _ _ _ (p .few) (o .same) ∙ p .same;
+    }
+
+-- a record of the shape that was asked for
+pub read-alike :
+    (history : List ℕ) (at place removed added : ℕ) → place ≡ getD history at 0 → removed ≡ getD history (at + 1) 0 →
+    added ≡ getD history (at + 2) 0 →
+    record { place = place; removed = removed; added = added; end = at + (3 + removed + added) } ≡ headIn history at
+read-alike history at place removed added p r a = rw (p, r, a)
+
+-- what a test tells of a cell, and of the lesser of two numbers
+pub kept-within :
+    (h : Head) (cell : ℕ) → keptIn h cell ≡ true → (h .place ≤ cell) × (cell - h .place < h .removed)
+kept-within h cell t =
+    let b = both (leb (h .place) cell) (ltb (cell - h .place) (h .removed)) t in
+    (leb-true (h .place) cell (b .0), ltb-true (cell - h .place) (h .removed) (b .1))
+
+pub not-kept : (h : Head) (cell : ℕ) → keptIn h cell ≡ false → h .place ≤ cell → h .place + h .removed ≤ cell
+not-kept h cell t q =
+    omega (arith, ltb-false (cell - h .place) (h .removed) (rw (le-leb (h .place) cell q) at t))
+
+pub least-below : (a b : ℕ) → 0 < a → 0 < b → (0 < least a b) × (least a b ≤ a) × (least a b ≤ b)
+least-below a b p q =
+    cond-case (λ (n : ℕ). (0 < n) × (n ≤ a) × (n ≤ b)) (ltb b a)
+    (λ t. (q, omega (arith, ltb-true b a t), omega arith)) (λ t. (p, omega arith, omega (arith, ltb-false b a t)))
+
+-- past a record that did not remove the cell
+pub on-passed :
+    {at to : ℕ} {history text : List ℕ} {h : Head} → Seen at to history text h → {from start most cell count : ℕ} →
+    On from to history text start most at cell count → keptIn h cell ≡ false → (t : Trail) → t ≡ passed h cell count →
+    (t .at ≡ h .end) × On from to history text start most (t .at) (t .cell) (t .count)
+on-passed {at} {to} {history} {text} {h} x {from} {start} {most} {cell} {count} o n t e =
+    rw e
+    (cond-case
+    (λ (t : Trail). (t .at ≡ h .end) × On from to history text start most (t .at) (t .cell) (t .count)) (ltb cell (h .place))
+    (λ q.
+    let less : cell < h .place = ltb-true cell (h .place) q in
+    let c = least-below count (h .place - cell) (o .some) (omega arith) in
+    (refl, on-front x o less (least count (h .place - cell)) (c .0) (c .1) (c .2)))
+    (λ q. (refl, on-past x o (not-kept h cell n (ltb-false cell (h .place) q)))))

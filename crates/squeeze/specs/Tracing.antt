@@ -1,16 +1,19 @@
 -- The text before some of a page's records, as its words and the present text have it: what the code follows, a stretch of
 -- cells at a time.
-use Prim.Native.Nat.{ℕ, _+_, _≤_, _<_}
+use Prim.Native.Nat.{ℕ, _+_, _-_, _≤_, _<_}
 use mathlib.Core.Path.{_≡_}
-use mathlib.Core.Bool.{Bool, true, false}
+use mathlib.Core.Bool.{Bool, true, false, cond, _&&_}
 use mathlib.Core.List.{List, [], reverse}
 use mathlib.Core.Option.{Option, none, some}
 use lib.ListN.{length, getD, take, drop}
 use lib.Seq.{slice}
+use lib.Dec.{ltb, leb}
 use Rattle.answer.specs.Answer.{limit}
+use Rattle.reading.specs.Stepping.{least}
 use Rattle.editor.specs.Records.{Entry, textBefore}
 use Rattle.ledger.specs.Words.{recordsIn, lengthsFit, reached}
 use Rattle.squeeze.specs.declared.Head.{Head}
+use Rattle.squeeze.specs.declared.Trail.{Trail}
 use Rattle.squeeze.specs.declared.Stretch.{Stretch}
 
 -- the records in the words from one to another
@@ -44,6 +47,25 @@ headIn history at =
       added = getD history (at + 2) 0;
       end = at + (3 + getD history (at + 1) 0 + getD history (at + 2) 0);
     }
+
+-- a walk that started at a cell of the text before some records, and stands at another record with a cell of the text
+-- before that one: as many cells from there on are the same
+pub record On (from to : ℕ) (history text : List ℕ) (start most at cell count : ℕ) : Type 0 where
+  pub leads : Leads at to history text
+  pub some : 0 < count
+  pub few : count ≤ most
+  pub part : cell + count ≤ length (textSince at to history text)
+  pub same : take count (drop start (textSince from to history text)) ≡ take count (drop cell (textSince at to history text))
+
+-- a record removed a cell of the text before it
+abbrev pub keptIn : Head → ℕ → Bool
+keptIn h cell = leb (h .place) cell && ltb (cell - h .place) (h .removed)
+
+-- the walk behind a record that did not
+abbrev pub passed : Head → ℕ → ℕ → Trail
+passed h cell count =
+    cond (ltb cell (h .place)) (record { at = h .end; cell = cell; count = least count (h .place - cell) })
+    (record { at = h .end; cell = cell - h .removed + h .added; count = count })
 
 -- where the cells of a stretch are
 abbrev pub cellsIn : Bool → List ℕ → List ℕ → List ℕ

@@ -7,10 +7,11 @@ use ledger::Edited;
 use ledger::Page;
 use records::Judged;
 ghost use mathlib.Core.Path.{_≡_};
+ghost use mathlib.Core.Bool.{false};
 ghost use Prim.Native.Nat.{_+_, _≤_, _<_};
 ghost use lib.ListN.{length, getD, take, drop};
 ghost use lib.Seq.{paste};
-ghost use Rattle.answer.specs.Answer.{numbered, inNumbers};
+ghost use Rattle.answer.specs.Answer.{limit, numbered, inNumbers};
 ghost use Rattle.answer.specs.Output.{filled};
 ghost use Rattle.records.specs.declared.Judged.the-variants.{Sound};
 ghost use Rattle.records.specs.Walking.{judgeOf};
@@ -19,7 +20,7 @@ ghost use Rattle.editor.specs.Marks.{foldedMark};
 ghost use Rattle.ledger.specs.Page.{stateOf, keeps};
 ghost use Rattle.ledger.specs.Calls.{squeezeOf};
 ghost use Rattle.splice.specs.Splice.{Filled};
-ghost use Rattle.squeeze.specs.Tracing.{headIn, entriesIn, textSince, Leads, Follows, cellsIn};
+ghost use Rattle.squeeze.specs.Tracing.{headIn, keptIn, passed, entriesIn, textSince, Leads, On, Follows, cellsIn};
 ghost use Rattle.squeeze.specs.Folding.{foldFrom, foldOf, Foldable, foldedTo, squeezedPage};
 
 // Where the oldest records end, the length of the text there, and how many records they are.
@@ -42,6 +43,13 @@ struct Head {
     removed: usize,
     added: usize,
     end: usize,
+}
+
+// Where a walk along cells stands: at a record, with a cell of the text before it, and how many go the same way from there.
+struct Trail {
+    at: usize,
+    cell: usize,
+    count: usize,
 }
 
 // Cells one after another: in the history, among those that a record removed, or in the present text.
@@ -86,10 +94,76 @@ fn oldest(history: &[u32], text: &[u32], done: usize, opening: usize, k: usize) 
     Fold { at, len, count }
 }
 
-fn lesser(a: usize, b: usize) -> usize
-    ensures { λ r. ⌜ (r ≤ a) × (r ≤ b) × (0 < a → 0 < b → 0 < r) ⌝ }
+// Whether a record removed a cell of the text before it.
+fn is_kept(head: Head, cell: usize) -> bool
+    ensures { λ r. ⌜ r ≡ keptIn head cell ⌝ }
 {
-    if a < b { a } else { b }
+    if cell < head.place {
+        return false;
+    }
+    cell - head.place < head.removed
+}
+
+// Past a record that did not remove the cell: as many as go the same way, before its place or behind what it removed.
+fn past(head: Head, from: Trail) -> Trail
+    requires { ⌜ (keptIn head (from .cell) ≡ false) × (from .cell + head .added ≤ limit + head .removed) ⌝ }
+    ensures { λ r. ⌜ r ≡ passed head (from .cell) (from .count) ⌝ }
+{
+    if from.cell < head.place {
+        return Trail {
+            at: head.end,
+            cell: from.cell,
+            count: reading::lesser(from.count, head.place - from.cell),
+        };
+    }
+    Trail {
+        at: head.end,
+        cell: from.cell - head.removed + head.added,
+        count: from.count,
+    }
+}
+
+// Past the records of one shape that come next, up to one that removed the cell. Steps of one kind come in runs, and where
+// the next record begins is known before this one is read.
+fn past_alike(
+    history: &[u32],
+    to: usize,
+    text: &[u32],
+    from: Trail,
+    removed: usize,
+    added: usize,
+) -> Trail
+    requires { ⌜ Leads (from .at) to (now history) (now text) × (0 < from .count) × (3 + removed + added ≤ to)
+        × (from .cell + from .count ≤ length (textSince (from .at) to (now history) (now text))) ⌝ }
+    ensures { λ r. ⌜ (from .at ≤ r .at) × (r .at ≤ to)
+        × On (from .at) to (now (history .entry)) (now (text .entry)) (from .cell) (from .count) (r .at) (r .cell) (r .count) ⌝ }
+{
+    let size = 3 + removed + added;
+    let mut at = from.at;
+    let mut cell = from.cell;
+    let mut count = from.count;
+    while size <= to - at {
+        if records::wide(history[at + 1]) != removed {
+            return Trail { at, cell, count };
+        }
+        if records::wide(history[at + 2]) != added {
+            return Trail { at, cell, count };
+        }
+        let head = Head {
+            place: records::wide(history[at]),
+            removed,
+            added,
+            end: at + size,
+        };
+        if is_kept(head, cell) {
+            return Trail { at, cell, count };
+        }
+        let next = past(head, Trail { at, cell, count });
+        at = next.at;
+        cell = next.cell;
+        count = next.count;
+    }
+    Trail { at, cell, count }
 }
 
 // From a cell of the text before the records on, as many as go the same way: into what a record removed, or through all.
@@ -111,19 +185,19 @@ fn follow(
     let mut count = most;
     while at < to {
         let head = head_at(history, at);
-        if cell < head.place {
-            count = lesser(count, head.place - cell);
-        } else if cell - head.place < head.removed {
-            let past = cell - head.place;
+        if is_kept(head, cell) {
+            let behind = cell - head.place;
             return Stretch {
                 kept: true,
-                at: at + 3 + past,
-                count: lesser(count, head.removed - past),
+                at: at + 3 + behind,
+                count: reading::lesser(count, head.removed - behind),
             };
-        } else {
-            cell = cell - head.removed + head.added;
         }
-        at = head.end;
+        let next = past(head, Trail { at, cell, count });
+        let run = past_alike(history, to, text, next, head.removed, head.added);
+        at = run.at;
+        cell = run.cell;
+        count = run.count;
     }
     Stretch {
         kept: false,

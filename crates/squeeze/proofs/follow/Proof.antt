@@ -1,9 +1,10 @@
 use native.Mathlib.Omega.{arith}
 use borrow.Author.Needs.{needs}
-use Prim.Native.Nat.{_-_, _≤_}
-use mathlib.Core.Path.{refl}
-use Rattle.squeeze.proofs.Tracing.{On, seen, on-front, on-past, at-kept, at-end, whole-next}
-use Rattle.answer.proofs.Once.{limit-small}
+use Prim.Native.Nat.{_+_, _-_, _≤_}
+use mathlib.Core.Path.{refl, sym, _∙_}
+use Rattle.reading.specs.Stepping.{least}
+use Rattle.squeeze.specs.Tracing.{On}
+use Rattle.squeeze.proofs.Tracing.{seen, whole-next, kept-within, least-below, at-kept, at-end, on-passed, on-further}
 use Rattle.squeeze.proofs.follow.Statement.{statement}
 use Rattle.squeeze.proofs.follow.Tie as tie
 
@@ -13,117 +14,125 @@ Inv-loop history from to text start most at₀ cell₀ count₀ at cell count = 
 abbrev μ-loop : tie.MeasureT-loop
 μ-loop history from to text start most at₀ cell₀ count₀ at cell count = to - at
 
--- src/lib.rt:108:5
+-- src/lib.rt:186:5
 loop-holds : tie.Need-loop-holds Inv-loop μ-loop
 loop-holds c =
-    let a = c .before .before .args in
     let p = c .before .before .pre in
     record { leads = p .0; some = p .1; few = omega arith; part = p .2; same = refl }
 
--- src/lib.rt:109:13
+-- src/lib.rt:187:13
 head-at-requires : tie.Need-head-at-requires Inv-loop μ-loop
 head-at-requires c κs =
     let a = c .before .before .before .before .args in
     let l = c .before .loop in
     whole-next (l .at) (a .to) (a .history .now) (a .text .now) (l .inv .leads) (omega arith)
 
--- src/lib.rt:111:35
-sub-lesser : tie.Need-sub-lesser Inv-loop μ-loop
-sub-lesser c = search needs
+-- src/lib.rt:188:12
+is-kept-requires : tie.Need-is-kept-requires Inv-loop μ-loop
+is-kept-requires c κs = search needs
 
--- src/lib.rt:111:13
+-- src/lib.rt:189:26
+sub-behind : tie.Need-sub-behind Inv-loop μ-loop
+sub-behind c =
+    let a = c .before .before .before .before .before .before .before .before .args in
+    let l = c .before .before .before .before .before .loop in
+    let h = c .before .before .before .head-at in
+    let k = kept-within (h .result) (l .cell) (sym (c .before .before .is-kept .ensures) ∙ c .before .if1 .taken) in
+    k .0
+
+-- src/lib.rt:192:21
+add-t16 : tie.Need-add-t16 Inv-loop μ-loop
+add-t16 c =
+    let a = c .before .before .before .before .before .before .before .before .args in
+    let l = c .before .before .before .before .before .loop in
+    let h = c .before .before .before .head-at in
+    let x = seen (l .at) (a .to) (a .history .now) (a .text .now) (l .inv .leads) (omega arith) (h .result) (h .ensures) in
+    omega (arith, x .size, x .ends, l .inv .leads .within)
+
+-- src/lib.rt:192:21
+add-t17 : tie.Need-add-t17 Inv-loop μ-loop
+add-t17 c =
+    let a = c .before .before .before .before .before .before .before .before .args in
+    let l = c .before .before .before .before .before .loop in
+    let h = c .before .before .before .head-at in
+    let x = seen (l .at) (a .to) (a .history .now) (a .text .now) (l .inv .leads) (omega arith) (h .result) (h .ensures) in
+    let k = kept-within (h .result) (l .cell) (sym (c .before .before .is-kept .ensures) ∙ c .before .if1 .taken) in
+    omega (arith, x .size, x .ends, l .inv .leads .within, k .1)
+
+-- src/lib.rt:193:47
+sub-lesser : tie.Need-sub-lesser Inv-loop μ-loop
+sub-lesser c =
+    let a = c .before .before .before .before .before .before .before .before .before .args in
+    let l = c .before .before .before .before .before .before .loop in
+    let h = c .before .before .before .before .head-at in
+    let k = kept-within (h .result) (l .cell) (sym (c .before .before .before .is-kept .ensures) ∙ c .before .before .if1 .taken) in
+    omega (arith, k .1)
+
+-- src/lib.rt:193:24
 lesser-requires : tie.Need-lesser-requires Inv-loop μ-loop
 lesser-requires c κs = search needs
 
--- src/lib.rt:116:21
-add-t16 : tie.Need-add-t16 Inv-loop μ-loop
-add-t16 c =
-    let a = c .before .before .before .before .before .before .before .before .before .before .before .args in
-    let l = c .before .before .before .before .before .before .before .before .loop in
-    let h = c .before .before .before .before .before .before .head-at in
-    let b = seen (l .at) (a .to) (a .history .now) (a .text .now) (l .inv .leads) (omega arith) (h .result) (h .ensures) in
-    omega (arith, b .size, b .ends, l .inv .leads .within)
-
--- src/lib.rt:116:21
-add-t17 : tie.Need-add-t17 Inv-loop μ-loop
-add-t17 c =
-    let a = c .before .before .before .before .before .before .before .before .before .before .before .args in
-    let l = c .before .before .before .before .before .before .before .before .loop in
-    let h = c .before .before .before .before .before .before .head-at in
-    let b = seen (l .at) (a .to) (a .history .now) (a .text .now) (l .inv .leads) (omega arith) (h .result) (h .ensures) in
-    omega (arith, b .size, b .ends, l .inv .leads .within)
-
--- src/lib.rt:117:38
-sub-lesser-2 : tie.Need-sub-lesser-2 Inv-loop μ-loop
-sub-lesser-2 c = omega arith
-
--- src/lib.rt:117:24
-lesser-requires-2 : tie.Need-lesser-requires-2 Inv-loop μ-loop
-lesser-requires-2 c κs = search needs
-
--- src/lib.rt:114:13
+-- src/lib.rt:190:13
 returns : tie.Need-returns Inv-loop μ-loop
 returns c =
-    let a = c .before .before .before .before .before .before .before .before .before .before .before .before .before .args in
-    let l = c .before .before .before .before .before .before .before .before .before .before .loop in
-    let h = c .before .before .before .before .before .before .before .before .head-at in
-    let n = c .lesser2 in
-    at-kept (seen (l .at) (a .to) (a .history .now) (a .text .now) (l .inv .leads) (omega arith) (h .result) (h .ensures)) (l .inv) (omega arith) (n .result) (n .ensures .2 (l .inv .some) (omega arith)) (n .ensures .0) (omega (arith, n .ensures .1))
+    let a = c .before .before .before .before .before .before .before .before .before .before .args in
+    let l = c .before .before .before .before .before .before .before .loop in
+    let h = c .before .before .before .before .before .head-at in
+    let x = seen (l .at) (a .to) (a .history .now) (a .text .now) (l .inv .leads) (omega arith) (h .result) (h .ensures) in
+    let k = kept-within (h .result) (l .cell) (sym (c .before .before .before .before .is-kept .ensures) ∙ c .before .before .before .if1 .taken) in
+    let m = h .result .removed - (l .cell - h .result .place) in
+    let n = least-below (l .count) m (l .inv .some) (omega (arith, k .1)) in
+    rw (c .lesser .ensures)
+    (at-kept x (l .inv) (k .0) (least (l .count) m) (n .0) (n .1) (omega (arith, k .1, n .2)))
 
--- src/lib.rt:120:20
-sub-cell : tie.Need-sub-cell Inv-loop μ-loop
-sub-cell c = omega arith
+-- src/lib.rt:196:13
+past-requires : tie.Need-past-requires Inv-loop μ-loop
+past-requires c κs =
+    let a = c .before .before .before .before .before .before .before .args in
+    let l = c .before .before .before .before .loop in
+    let h = c .before .before .head-at in
+    let x = seen (l .at) (a .to) (a .history .now) (a .text .now) (l .inv .leads) (omega arith) (h .result) (h .ensures) in
+    let n = sym (c .before .is-kept .ensures) ∙ c .if1 .left in
+    (n, omega (arith, x .after, x .below, x .inside, l .inv .part))
 
--- src/lib.rt:120:20
-add-cell : tie.Need-add-cell Inv-loop μ-loop
-add-cell c =
-    let a = c .before .before .before .before .before .before .before .before .before .before .before .before .args in
-    let l = c .before .before .before .before .before .before .before .before .before .loop in
-    let h = c .before .before .before .before .before .before .before .head-at in
-    let b = seen (l .at) (a .to) (a .history .now) (a .text .now) (l .inv .leads) (omega arith) (h .result) (h .ensures) in
-    omega (arith, limit-small, b .after, b .inside, b .below, l .inv .part)
+-- src/lib.rt:197:13
+past-alike-requires : tie.Need-past-alike-requires Inv-loop μ-loop
+past-alike-requires c κs =
+    let a = c .before .before .before .before .before .before .before .before .args in
+    let l = c .before .before .before .before .before .loop in
+    let h = c .before .before .before .head-at in
+    let x = seen (l .at) (a .to) (a .history .now) (a .text .now) (l .inv .leads) (omega arith) (h .result) (h .ensures) in
+    let n = sym (c .before .before .is-kept .ensures) ∙ c .before .if1 .left in
+    let t = on-passed x (l .inv) n (c .past .result) (c .past .ensures) in
+    (t .1 .leads, t .1 .some, omega (arith, x .size, x .ends), t .1 .part)
 
--- src/lib.rt:108:5
+-- src/lib.rt:186:5
 loop-less : tie.Need-loop-less Inv-loop μ-loop
 loop-less c =
     let a = c .before .before .before .before .before .before .before .before .before .args in
     let l = c .before .before .before .before .before .before .loop in
     let h = c .before .before .before .before .head-at in
-    let b = seen (l .at) (a .to) (a .history .now) (a .text .now) (l .inv .leads) (omega arith) (h .result) (h .ensures) in
-    omega (arith, b .size, b .ends)
+    let x = seen (l .at) (a .to) (a .history .now) (a .text .now) (l .inv .leads) (omega arith) (h .result) (h .ensures) in
+    let n = sym (c .before .before .before .is-kept .ensures) ∙ c .before .before .if1 .left in
+    let q = c .before .past in
+    let t = on-passed x (l .inv) n (q .result) (q .ensures) in
+    omega (arith, t .0, x .size, c .past-alike .ensures .0, c .past-alike .ensures .1)
 
--- src/lib.rt:108:5
+-- src/lib.rt:186:5
 loop-again : tie.Need-loop-again Inv-loop μ-loop
 loop-again c =
     let a = c .before .before .before .before .before .before .before .before .before .args in
     let l = c .before .before .before .before .before .before .loop in
     let h = c .before .before .before .before .head-at in
-    let n = c .lesser in
-    on-front (seen (l .at) (a .to) (a .history .now) (a .text .now) (l .inv .leads) (omega arith) (h .result) (h .ensures)) (l .inv) (omega arith) (n .result) (n .ensures .2 (l .inv .some) (omega arith)) (n .ensures .0) (n .ensures .1)
+    let x = seen (l .at) (a .to) (a .history .now) (a .text .now) (l .inv .leads) (omega arith) (h .result) (h .ensures) in
+    let n = sym (c .before .before .before .is-kept .ensures) ∙ c .before .before .if1 .left in
+    let q = c .before .past in
+    let t = on-passed x (l .inv) n (q .result) (q .ensures) in
+    on-further (t .1) (c .past-alike .ensures .2)
 
--- src/lib.rt:108:5
-loop-less-2 : tie.Need-loop-less-2 Inv-loop μ-loop
-loop-less-2 c =
-    let a = c .before .before .before .before .before .before .before .before .before .before .before .before .args in
-    let l = c .before .before .before .before .before .before .before .before .before .loop in
-    let h = c .before .before .before .before .before .before .before .head-at in
-    let b = seen (l .at) (a .to) (a .history .now) (a .text .now) (l .inv .leads) (omega arith) (h .result) (h .ensures) in
-    omega (arith, b .size, b .ends)
-
--- src/lib.rt:108:5
-loop-again-2 : tie.Need-loop-again-2 Inv-loop μ-loop
-loop-again-2 c =
-    let a = c .before .before .before .before .before .before .before .before .before .before .before .before .args in
-    let l = c .before .before .before .before .before .before .before .before .before .loop in
-    let h = c .before .before .before .before .before .before .before .head-at in
-    on-past (seen (l .at) (a .to) (a .history .now) (a .text .now) (l .inv .leads) (omega arith) (h .result) (h .ensures)) (l .inv) (omega arith)
-
--- src/lib.rt:92:1
+-- src/lib.rt:170:1
 returns-2 : tie.Need-returns-2 Inv-loop μ-loop
-returns-2 c =
-    let a = c .before .before .before .before .args in
-    let l = c .before .loop in
-    at-end (l .inv) (omega arith)
+returns-2 c = at-end (c .before .loop .inv) (omega arith)
 
 pub follow-spec : {M : Type 1} → statement M
 follow-spec =
@@ -133,17 +142,15 @@ follow-spec =
     μ-loop
     loop-holds
     head-at-requires
-    sub-lesser
-    lesser-requires
+    is-kept-requires
+    sub-behind
     add-t16
     add-t17
-    sub-lesser-2
-    lesser-requires-2
+    sub-lesser
+    lesser-requires
     returns
-    sub-cell
-    add-cell
+    past-requires
+    past-alike-requires
     loop-less
     loop-again
-    loop-less-2
-    loop-again-2
     returns-2)
