@@ -27,8 +27,8 @@ editing room text standing undone =
     record { kind = Utf7Body; room = room; text = text; standing = standing; undone = undone; saved = At 0 }
 
 -- every step counts for one
-abbrev counted : Step → ℕ
-counted s = 1
+abbrev ones : Step → ℕ
+ones s = 1
 
 -- a history in which a new record takes so many words of five, and five are done
 abbrev taking : ℕ → Space
@@ -43,17 +43,17 @@ nothing = record { place = 1; removed = []; added = [] }
 
 pub record Ordered : Type 0 where
   -- "Replace: [..] 11, 10, 9, 12"
-  pub replace-11 : turnOf counted (taking 6) (editing 4 cellsRead [] []) (replace 5 0 cellsGreat) .verdict ≡ numbered 11 4
-  pub replace-10 : turnOf counted (taking 6) (editing 4 cellsRead [] []) (replace 0 0 cellsGreat) .verdict ≡ numbered 10 1
-  pub replace-9 : turnOf counted (taking 6) (editing 4 cellsRead [] []) (replace 0 0 (0x3D ∷ [])) .verdict ≡ numbered 9 5
-  pub replace-12 : turnOf counted (taking 6) (editing 5 cellsRead [] []) (replace 0 0 (0x3D ∷ [])) .verdict ≡ numbered 12 6
+  pub replace-11 : turnOf ones (taking 6) (editing 4 cellsRead [] []) (replace 5 0 cellsGreat) .verdict ≡ numbered 11 4
+  pub replace-10 : turnOf ones (taking 6) (editing 4 cellsRead [] []) (replace 0 0 cellsGreat) .verdict ≡ numbered 10 1
+  pub replace-9 : turnOf ones (taking 6) (editing 4 cellsRead [] []) (replace 0 0 (0x3D ∷ [])) .verdict ≡ numbered 9 5
+  pub replace-12 : turnOf ones (taking 6) (editing 5 cellsRead [] []) (replace 0 0 (0x3D ∷ [])) .verdict ≡ numbered 12 6
   -- "Undo, redo: [..] 13"
-  pub undo-13 : turnOf counted (taking 5) (editing 4 cellsRead [] (step ∷ [])) undo .verdict ≡ numbered 13 0
-  pub redo-13 : turnOf counted (taking 5) (editing 4 cellsEdited (step ∷ []) []) redo .verdict ≡ numbered 13 0
+  pub undo-13 : turnOf ones (taking 5) (editing 4 cellsRead [] (step ∷ [])) undo .verdict ≡ numbered 13 0
+  pub redo-13 : turnOf ones (taking 5) (editing 4 cellsEdited (step ∷ []) []) redo .verdict ≡ numbered 13 0
   -- "Save: [..] 15 where no step stands or 10 where one does, then 9"
-  pub save-15 : turnOf counted (taking 5) (editing 4 cellsEdited [] (step ∷ [])) (save letter []) .verdict ≡ numbered 15 0
-  pub save-10 : turnOf counted (taking 5) (editing 4 cellsGreat (step ∷ []) []) (save letter []) .verdict ≡ numbered 10 1
-  pub save-9 : turnOf counted (taking 5) (editing 4 cellsRead [] []) (save letter []) .verdict ≡ numbered 9 9
+  pub save-15 : turnOf ones (taking 5) (editing 4 cellsEdited [] (step ∷ [])) (save letter []) .verdict ≡ numbered 15 0
+  pub save-10 : turnOf ones (taking 5) (editing 4 cellsGreat (step ∷ []) []) (save letter []) .verdict ≡ numbered 10 1
+  pub save-9 : turnOf ones (taking 5) (editing 4 cellsRead [] []) (save letter []) .verdict ≡ numbered 9 9
 
 pub ordered : Ordered
 unfolding limit deliver undoLast redoNext replaceFitting replaceAt saveStanding
@@ -72,24 +72,24 @@ ordered =
 
 pub record Turned : Type 0 where
   pub replaces :
-      turnOf counted (taking 5) (editing 4 cellsRead [] (nothing ∷ [])) (replace 1 1 (0x3D ∷ []))
+      turnOf ones (taking 5) (editing 4 cellsRead [] (nothing ∷ [])) (replace 1 1 (0x3D ∷ []))
       ≡ edited (editing 4 cellsRead [] (nothing ∷ [])) cellsEdited (step ∷ []) [] (At 0) (records step)
   -- "Removing nothing and adding nothing is a step too."
   pub replaces-nothing :
-      turnOf counted (taking 3) (editing 4 cellsRead [] []) (replace 1 0 [])
+      turnOf ones (taking 3) (editing 4 cellsRead [] []) (replace 1 0 [])
       ≡ edited (editing 4 cellsRead [] []) cellsRead (nothing ∷ []) [] (At 0) (records nothing)
   pub undoes :
-      turnOf counted (taking 5) (editing 4 cellsEdited (step ∷ []) []) undo
+      turnOf ones (taking 5) (editing 4 cellsEdited (step ∷ []) []) undo
       ≡ edited (editing 4 cellsEdited (step ∷ []) []) cellsRead [] (step ∷ []) (At 0) moves
   pub redoes :
-      turnOf counted (taking 5) (editing 4 cellsRead [] (step ∷ [])) redo
+      turnOf ones (taking 5) (editing 4 cellsRead [] (step ∷ [])) redo
       ≡ edited (editing 4 cellsRead [] (step ∷ [])) cellsEdited (step ∷ []) [] (At 0) moves
   -- "the arrived bytes [..] as they are; otherwise the text written"
   pub saves-arrived :
-      turnOf counted (taking 5) (editing 4 cellsRead [] (step ∷ [])) (save letter letter)
+      turnOf ones (taking 5) (editing 4 cellsRead [] (step ∷ [])) (save letter letter)
       ≡ saving (taking 5) (editing 4 cellsRead [] (step ∷ [])) letter (numbered 0 9)
   pub saves-written :
-      turnOf counted (taking 5) (editing 4 cellsEdited (step ∷ []) []) (save letter letter)
+      turnOf ones (taking 5) (editing 4 cellsEdited (step ∷ []) []) (save letter letter)
       ≡ saving (taking 5) (editing 4 cellsEdited (step ∷ []) []) (written ++ 46 ∷ []) (numbered 0 8)
 
 pub turned : Turned

@@ -46,8 +46,8 @@ write-fills kind cells out =
     (λ _. deliver-fills out bytes)))
 
 module _ (weigh : Step → ℕ) (space : Space) (e : Editor) where
-  -- a refusal; bytes given, and the mark set; the same records, parted elsewhere; a new record for which there is room; one
-  -- record of fewer words for the oldest ones
+  -- a refusal; bytes given, and the mark set; the same records, parted elsewhere; a new record for which there is room;
+  -- one record of fewer words for the oldest ones
   pub data Ends (out : List ℕ) : Turn → Type 0 where
     refuses : (v : Verdict) → Ends out (refused e out v)
     gives : (bytes : List ℕ) →
@@ -127,7 +127,9 @@ module _ {S : Type 0} (layout : Layout S) where
   call-same : (s : S) (c : Call) (found : Option Editor) → Stays s (outputOf c) (callOn layout s c found)
   unfolding callOn
   call-same s c none = refusal s (outputOf c) _
-  call-same s c (some e) = ends-same s (outputOf c) (layout .spaceIn s) e _ (turn-ends (layout .weigh) (layout .spaceIn s) e c)
+  call-same s c (some e) =
+      let space : Space = layout .spaceIn s in
+      ends-same s (outputOf c) space e _ (turn-ends (layout .weigh) space e c)
 
   pub refused-same : RefusedSame layout
   unfolding outcomeOf

@@ -1,5 +1,5 @@
--- Order 8: what a squeeze comes to, computed on records that undoing and redoing do not restore, with a step undone; the
--- order of its refusals; and the rule of the mark. Assumes nothing.
+-- Order 8: what a squeeze comes to, computed on records that undoing and redoing do not restore, with a step undone;
+-- the order of its refusals; and the rule of the mark. Assumes nothing.
 use Prim.Native.Nat.{ℕ}
 use mathlib.Core.Path.{_≡_, refl}
 use mathlib.Core.List.{List, [], _∷_, _++_}
@@ -96,8 +96,8 @@ squeezed =
       short-9 = refl;
     }
 
--- "strictly inside the fold becomes none; one at its end or later moves along": it serves the page and the ledger alike,
--- so nothing else pins it
+-- "strictly inside the fold becomes none; one at its end or later moves along": it serves the page and the ledger
+-- alike, so nothing else pins it
 pub record Marked : Type 0 where
   pub none : foldedMark 10 7 None ≡ None
   pub before : foldedMark 10 7 (At 0) ≡ At 0

@@ -109,4 +109,5 @@ module _ (weigh : Step → ℕ) where
       let past : weight old ≤ n = ltb-false n (weight old) q in
       let here : weight old + (n - weight old) ≡ n = omega arith in
       let there : weight (x ∷ []) + (n - weight old) ≡ n - weight old + weigh x = omega arith in
-      rw (← there) (ends-beyond (x ∷ []) rest (n - weight old) ∙ sym (ends-past old rest (n - weight old)) ∙ rw here h)))
+      rw (← there)
+      (ends-beyond (x ∷ []) rest (n - weight old) ∙ sym (ends-past old rest (n - weight old)) ∙ rw here h)))

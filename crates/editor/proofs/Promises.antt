@@ -81,7 +81,8 @@ module _ {S : Type 0} {layout : Layout S} {Lies : ℕ → S → Editor → Type 
   outcome-is :
       {n : ℕ} {s : S} {e : Editor} → Lies n s e → (c : Call) →
       outcomeOf layout s c
-      ≡ cond (overlong c) (refusing s (outputOf c) tooLong) (laid layout s (turnOf (layout .weigh) (layout .spaceIn s) e c))
+      ≡ cond (overlong c) (refusing s (outputOf c) tooLong)
+      (laid layout s (turnOf (layout .weigh) (layout .spaceIn s) e c))
   unfolding outcomeOf callOn
   outcome-is l c = rw (lays .short l, or-none (overlong c), lays .sees l)
 
@@ -157,10 +158,11 @@ module _ {S : Type 0} {layout : Layout S} {Lies : ℕ → S → Editor → Type 
         let h : Held weigh arrived (t .editor) (fed weigh l c (accepts t)) =
         held-turn (layout .spaceIn s) now (done-counted (k .frame) (k .back) (k .undone) (k .lies) (k .good)) c in
         let r : fed weigh l c (accepts t) .reading ≡ l .reading = reading-kept weigh l c (accepts t) in
+        let ends = turn-ends weigh (layout .spaceIn s) e c in
         rw (k .ledger, outcome-is (k .lies) c)
         (cond-case (λ (o : Outcome S). Kept arrived (o .state) (fed weigh l c (taken o))) (overlong c)
         (λ _. kept (k .lies) now)
-        (λ _. kept (rw r (turn-lies (k .lies) t (turn-ends weigh (layout .spaceIn s) e c) (rw r at (legal weigh h)))) h))
+        (λ _. kept (rw r (turn-lies (k .lies) t ends (rw r at (legal weigh h)))) h))
 
     -- and so does a list of calls
     pub kept-calls :

@@ -152,17 +152,26 @@ module _ (weigh : Step → ℕ) {arrived : List ℕ} (o : Frame arrived) (new ol
             good = good-new;
           }
 
-      turns-found : Turns (later (length old) all) (oldest (length old) all) (foldedTo (editorOf o (new ++ old) undone) (length old))
+      turns-found :
+          Turns (later (length old) all) (oldest (length old) all)
+          (foldedTo (editorOf o (new ++ old) undone) (length old))
       turns-found =
           subst (λ (x : Entry). Turns (later (length old) all) (oldest (length old) all) x) (sym folded-is)
           (subst₂ (λ (a b : List Entry). Turns a b entry) (sym later-is) (sym oldest-is) turns)
 
-module _ (weigh : Step → ℕ) {arrived : List ℕ} (o : Frame arrived) (undone : List Step) (space : Space) (work : List ℕ) where
+module _
+    (weigh : Step → ℕ)
+    {arrived : List ℕ}
+    (o : Frame arrived)
+    (undone : List Step)
+    (space : Space)
+    (work : List ℕ) where
   abbrev Folds : List Step → ℕ → Type 0
   Folds back k =
       let e : Editor = editorOf o back undone in
       Good o weigh (reverseAux back undone) →
-      Held weigh arrived (folding weigh space e work (later k (e .standing)) (oldest k (e .standing)) (foldedTo e k) .editor)
+      Held weigh arrived
+      (folding weigh space e work (later k (e .standing)) (oldest k (e .standing)) (foldedTo e k) .editor)
       (acceptedCall weigh (ledgerOf o back undone) (squeeze k work))
 
   pub folds-oldest : (back : List Step) (k : ℕ) → k ≤ length back → Folds back k
