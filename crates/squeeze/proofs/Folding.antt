@@ -27,7 +27,8 @@ use Rattle.ledger.specs.Words.{Parted, inWords, wordsOf, sizeOf, sizes, records
 use Rattle.ledger.specs.Page.{State, textIn, records, keeps}
 use Rattle.ledger.specs.Layout.{editorOf, editorFor, foldedIn, spaceIn, page}
 use Rattle.ledger.specs.Calls.{over, squeezeOf}
-use Rattle.ledger.proofs.Words.{words, length-record, length-words, words-append, sizes-append, sizes-reverse, records-words}
+use Rattle.ledger.proofs.Words.{words, length-record, length-words, words-append, sizes-append, sizes-reverse}
+use Rattle.ledger.proofs.Words.{records-words}
 use Rattle.ledger.proofs.Marks.{weight-sizes}
 use Rattle.ledger.proofs.Sound.{Sound, framed-parts}
 use Rattle.ledger.proofs.Lying.{words-in}
@@ -188,8 +189,8 @@ module _ (s : State) (v : Parted) (h : Sound s v) (small : length (s .text) ≤ 
         reached-fits room opening (reverse old) (ok .opens) (fits-old inWords opening e ok new old is) in
         record {
           all =
-              leads-so 0 done room opening history (textIn s) (reverse (v .standing)) standing-words (omega arith) within
-              small fits-all reach-all;
+              leads-so 0 done room opening history (textIn s) (reverse (v .standing)) standing-words (omega arith)
+              within small fits-all reach-all;
           opens =
               sym
               (since-long 0 done room opening history (textIn s) (reverse (v .standing)) standing-words (omega arith)
@@ -199,8 +200,8 @@ module _ (s : State) (v : Parted) (h : Sound s v) (small : length (s .text) ≤ 
               reach-later;
           long =
               sym
-              (since-long at done room between history (textIn s) (reverse new) new-words at-done within small fits-later
-              reach-later);
+              (since-long at done room between history (textIn s) (reverse new) new-words at-done within small
+              fits-later reach-later);
           small = (omega (arith, ok .opens), omega arith);
         }
 
@@ -289,27 +290,33 @@ module _
   pub opens-standing : s .page .opening ≡ length (textSince 0 (s .page .done) (s .history) (textIn s))
   opens-standing = foldable s v h small standing [] (sym (append-nil standing)) .opens
 
-  module _ (fold : Fold) (r : fold ≡ foldFrom 0 (s .page .opening) 0 (take k (entriesIn 0 (s .page .done) (s .history)))) where
+  module _
+      (fold : Fold)
+      (r : fold ≡ foldFrom 0 (s .page .opening) 0 (take k (entriesIn 0 (s .page .done) (s .history)))) where
     count-is : fold .count ≡ length (take k (reverse standing))
     count-is =
         ap (λ (f : Fold). f .count) r
         ∙ zero-add _
-        ∙ ap (λ (es : List Entry). length (take k es)) (entries-standing s v h small standing [] (sym (append-nil standing)))
+        ∙ ap (λ (es : List Entry). length (take k es))
+        (entries-standing s v h small standing [] (sym (append-nil standing)))
 
     pub over-standing : fold .count < k → (ltb k 2 || ltb (length standing) k) ≡ true
     over-standing few =
-        let less : length standing < k = omega (arith, count-is, length-take k (reverse standing), length-reverse standing) in
+        let less : length standing < k =
+        omega (arith, count-is, length-take k (reverse standing), length-reverse standing) in
         rw (lt-ltb (length standing) k less) (or-true (ltb k 2))
 
     pub squeezes : 2 ≤ k → k ≤ fold .count → Squeezes s k work fold
     unfolding squeezeOldest
     squeezes two enough =
-        let within : k ≤ length standing = omega (arith, count-is, length-take k (reverse standing), length-reverse standing) in
+        let within : k ≤ length standing =
+        omega (arith, count-is, length-take k (reverse standing), length-reverse standing) in
         let new : List Entry = later k standing in
         let old : List Entry = oldest k standing in
         let is : standing ≡ new ++ old = sym (take-append-drop (length standing - k) standing) in
         let many : k ≡ length old = simp length-drop (omega arith) in
-        let here : fold ≡ record { at = sizes old; len = reached (s .page .opening) (reverse old); count = length old } =
+        let len : ℕ = reached (s .page .opening) (reverse old) in
+        let here : fold ≡ record { at = sizes old; len = len; count = length old } =
         r
         ∙ ap (λ (n : ℕ). foldFrom 0 (s .page .opening) 0 (take n (entriesIn 0 (s .page .done) (s .history)))) many
         ∙ oldest-found s v h small new old is in

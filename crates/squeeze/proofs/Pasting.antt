@@ -6,7 +6,8 @@ use mathlib.Core.List.{List, [], _∷_, _++_, append-nil, append-assoc}
 use native.Mathlib.Omega.{arith}
 use native.Mathlib.Nat.{zero-add}
 use lib.ListN.{length, take, drop, replicate, length-append, length-take, length-drop, drop-of-length-le}
-use lib.Seq.{paste, paste-zero, take-paste, drop-paste, take-add, take-take, take-length, drop-drop, length-take-le, length-paste}
+use lib.Seq.{paste, paste-zero, take-paste, drop-paste, length-paste, take-add, take-take, take-length, drop-drop}
+use lib.Seq.{length-take-le}
 use lib.Seq.{take-append-seam, drop-append-seam, drop-append-add}
 use lib.Dec.{leb}
 use borrow.Author.Tests.{le-leb}
@@ -36,7 +37,11 @@ module _ (work cells : List ℕ) (at : ℕ) (room : at + length cells ≤ length
   fits =
       let here : at + 0 ≤ at = omega arith in
       let after : at - 0 + length cells ≤ length work = omega arith in
-      rw (le-leb (at + 0) at here, le-leb at (length work) (omega arith), le-leb (at - 0 + length cells) (length work) after)
+      rw (
+        le-leb (at + 0) at here,
+        le-leb at (length work) (omega arith),
+        le-leb (at - 0 + length cells) (length work) after,
+      )
 
   abbrev put : List ℕ
   put = spliced at 0 cells (take at work) ++ drop (at - 0 + length cells) work
@@ -66,7 +71,8 @@ module _ (work cells : List ℕ) (at : ℕ) (room : at + length cells ≤ length
 
 -- a part of some cells, put so
 pub put-part :
-    (work cells : List ℕ) (at first count : ℕ) → first + count ≤ length cells → at + count ≤ length work → (r : ℕ) (w : List ℕ) →
+    (work cells : List ℕ) (at first count : ℕ) → first + count ≤ length cells → at + count ≤ length work →
+    (r : ℕ) (w : List ℕ) →
     (r ≡ usedAfter at at 0 (length (take (first + count - first) (drop first cells))) (length work))
     × (w ≡ splicedIn at at 0 (take (first + count - first) (drop first cells)) work) →
     (r ≡ at + count) × (w ≡ paste work at (drop first cells) count)
@@ -92,7 +98,8 @@ turned work₀ work w text cells start size at count r all room i few same e =
     e .1
     ∙ (λ k. paste (i .3 k) (here k) cells count)
     ∙ paste-more work₀ text cells start j count (omega arith) (omega arith) same in
-    let long : length w ≡ length work₀ = ap length is ∙ length-paste work₀ start text (j + count) (omega arith) (omega arith) in
+    let long : length w ≡ length work₀ =
+    ap length is ∙ length-paste work₀ start text (j + count) (omega arith) (omega arith) in
     (omega (arith, e .0), omega (arith, e .0), long, is ∙ ap (paste work₀ start text) next)
 
 paste-front : (work l : List ℕ) → paste work 0 l (length l) ≡ filled l work
@@ -106,7 +113,12 @@ module _ (work removed added : List ℕ) (opening len : ℕ) where
   abbrev all : List ℕ
   all = wordsOf (record { place = 0; removed = removed; added = added })
 
-  module _ (o : opening ≡ length removed) (l : len ≡ length added) (room : 3 + opening + len ≤ length work) (n : ℕ) (w₁ : List ℕ)
+  module _
+      (o : opening ≡ length removed)
+      (l : len ≡ length added)
+      (room : 3 + opening + len ≤ length work)
+      (n : ℕ)
+      (w₁ : List ℕ)
       (e : (n ≡ usedAfter 0 0 0 3 (length work)) × (w₁ ≡ splicedIn 0 0 0 head work)) where
     first : (n ≡ 0 + 3) × (w₁ ≡ paste work 0 head 3)
     first = append-is work head 0 (omega arith) n w₁ e

@@ -22,10 +22,12 @@ use Rattle.squeeze.specs.declared.Head.{Head}
 use Rattle.squeeze.specs.declared.Trail.{Trail}
 use Rattle.squeeze.specs.declared.Stretch.{Stretch}
 use Rattle.squeeze.specs.Folding.{foldFrom}
-use Rattle.squeeze.specs.Tracing.{headIn, keptIn, passed, heldBy, entriesIn, textSince, Leads, On, cellsIn, Follows}
+use Rattle.squeeze.specs.Tracing.{headIn, keptIn, passed, heldBy, entriesIn, textSince, Leads, On, Follows}
 
 -- the text before records is undone one record at a time
-pub since-from : (from to : ℕ) (history text : List ℕ) → textSince from to history text ≡ textFrom (entriesIn from to history) text
+pub since-from :
+    (from to : ℕ) (history text : List ℕ) →
+    textSince from to history text ≡ textFrom (entriesIn from to history) text
 since-from from to history text =
     before-from (reverse (entriesIn from to history)) text
     ∙ ap (λ (es : List Entry). textFrom es text) (reverse-reverse (entriesIn from to history))
@@ -40,7 +42,8 @@ module _ (e : Entry) (text : List ℕ) (h : e .place + length (e .added) ≤ len
 
   pub cells-front : (i c : ℕ) → i + c ≤ e .place → take c (drop i before) ≡ take c (drop i text)
   cells-front i c q =
-      let long : length (drop i (take (e .place) text)) ≡ e .place - i = omega (arith, length-drop i (take (e .place) text), front) in
+      let long : length (drop i (take (e .place) text)) ≡ e .place - i =
+      omega (arith, length-drop i (take (e .place) text), front) in
       ap (take c) (drop-append-le i (take (e .place) text) _ (omega (arith, front)))
       ∙ take-append-le c (drop i (take (e .place) text)) _ (omega (arith, long))
       ∙ ap (take c) (drop-take i (e .place) text)
@@ -49,13 +52,16 @@ module _ (e : Entry) (text : List ℕ) (h : e .place + length (e .added) ≤ len
   past : (m : ℕ) → drop (e .place + m) before ≡ drop m (e .removed ++ drop (e .place + length (e .added)) text)
   past m = ap (λ (n : ℕ). drop (n + m) before) (sym front) ∙ drop-append-add (take (e .place) text) _ m
 
-  pub cells-removed : (m c : ℕ) → m + c ≤ length (e .removed) → take c (drop (e .place + m) before) ≡ take c (drop m (e .removed))
+  pub cells-removed :
+      (m c : ℕ) → m + c ≤ length (e .removed) →
+      take c (drop (e .place + m) before) ≡ take c (drop m (e .removed))
   cells-removed m c q =
       ap (take c) (past m ∙ drop-append-le m (e .removed) _ (omega arith))
       ∙ take-append-le c (drop m (e .removed)) _ (omega (arith, length-drop m (e .removed)))
 
   pub cells-past :
-      (i : ℕ) → e .place + length (e .removed) ≤ i → drop i before ≡ drop (i - length (e .removed) + length (e .added)) text
+      (i : ℕ) → e .place + length (e .removed) ≤ i →
+      drop i before ≡ drop (i - length (e .removed) + length (e .added)) text
   cells-past i q =
       let m : ℕ = i - e .place - length (e .removed) in
       let at : i ≡ e .place + (length (e .removed) + m) = omega arith in
@@ -79,7 +85,8 @@ module _ (at to : ℕ) (history text : List ℕ) where
     pub entries : entriesIn at to history ≡ entry ∷ entriesIn (at + sizeOf entry) to history
     pub within : entry .place + length (entry .removed) ≤ length (textSince at to history text)
     pub long :
-        length (textSince (at + sizeOf entry) to history text) ≡ lengthAfter (length (textSince at to history text)) entry
+        length (textSince (at + sizeOf entry) to history text)
+        ≡ lengthAfter (length (textSince at to history text)) entry
     pub turns : textSince at to history text ≡ applied (turned entry) (textSince (at + sizeOf entry) to history text)
     pub ends : at + sizeOf entry ≤ to
     pub below : length (textSince (at + sizeOf entry) to history text) ≤ limit
@@ -98,7 +105,9 @@ module _ (at to : ℕ) (history text : List ℕ) where
       size-here =
           omega (
             arith,
-            sym (length-slice at to history (l .within)) ∙ ap length words-here ∙ length-append (wordsOf e) (words rest),
+            sym (length-slice at to history (l .within))
+                ∙ ap length words-here
+                ∙ length-append (wordsOf e) (words rest),
             length-record e,
           )
 
@@ -141,7 +150,8 @@ module _ (at to : ℕ) (history text : List ℕ) where
 
       long-next : length (textSince (at + sizeOf e) to history text) ≡ lengthAfter n e
       long-next =
-          ap length (since-from (at + sizeOf e) to history text ∙ ap (λ (es : List Entry). textFrom es text) entries-next)
+          ap length
+          (since-from (at + sizeOf e) to history text ∙ ap (λ (es : List Entry). textFrom es text) entries-next)
           ∙ length-from (l .room) (lengthAfter n e) rest text (fits-next (l .room) n e rest fits-first) reach-next
 
       room-next : lengthAfter n e ≤ l .room
@@ -228,7 +238,8 @@ pub record Seen (at to : ℕ) (history text : List ℕ) (h : Head) : Type 0 wher
   pub leads : Leads (h .end) to history text
   pub entries : entriesIn at to history ≡ entry ∷ entriesIn (h .end) to history
   pub inside : h .place + h .removed ≤ length (textSince at to history text)
-  pub after : length (textSince (h .end) to history text) ≡ length (textSince at to history text) - h .removed + h .added
+  pub after :
+      length (textSince (h .end) to history text) ≡ length (textSince at to history text) - h .removed + h .added
   pub below : length (textSince (h .end) to history text) ≤ limit
   pub turns : textSince at to history text ≡ applied (turned entry) (textSince (h .end) to history text)
 
@@ -265,7 +276,8 @@ module _ {at to : ℕ} {history text : List ℕ} {h : Head} (x : Seen at to hist
   -- as many of the records from there on, and that one
   pub fold-next :
       (len count k : ℕ) → count < k →
-      foldFrom (h .end) (len - h .removed + h .added) (count + 1) (take (k - (count + 1)) (entriesIn (h .end) to history))
+      foldFrom (h .end) (len - h .removed + h .added) (count + 1)
+      (take (k - (count + 1)) (entriesIn (h .end) to history))
       ≡ foldFrom at len count (take (k - count) (entriesIn at to history))
   fold-next len count k more =
       let m : k - count ≡ suc (k - (count + 1)) = omega arith in
@@ -336,7 +348,8 @@ module _ {at to : ℕ} {history text : List ℕ} {h : Head} (x : Seen at to hist
 module _ {from to : ℕ} {history text : List ℕ} {start most at cell count : ℕ} where
   pub at-end :
       On from to history text start most at cell count → to ≤ at →
-      Follows (record { kept = false; at = cell; count = count }) history text (textSince from to history text) start most
+      Follows (record { kept = false; at = cell; count = count }) history text (textSince from to history text) start
+      most
   at-end o q =
       let is : textSince at to history text ≡ text = since-end at to history text (o .leads) q in
       record {
@@ -405,7 +418,8 @@ pub on-passed :
 on-passed {at} {to} {history} {text} {h} x {from} {start} {most} {cell} {count} o n t e =
     rw e
     (cond-case
-    (λ (t : Trail). (t .at ≡ h .end) × On from to history text start most (t .at) (t .cell) (t .count)) (ltb cell (h .place))
+    (λ (t : Trail). (t .at ≡ h .end) × On from to history text start most (t .at) (t .cell) (t .count))
+    (ltb cell (h .place))
     (λ q.
     let less : cell < h .place = ltb-true cell (h .place) q in
     let c = least-below count (h .place - cell) (o .some) (omega arith) in

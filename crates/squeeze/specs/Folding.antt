@@ -1,4 +1,5 @@
--- What the code finds of the oldest records, and what it then leaves, over the definition in the crates editor and ledger.
+-- What the code finds of the oldest records, and what it then leaves, over the definitions in the crates editor and
+-- ledger.
 use Prim.Native.Nat.{ℕ, _+_, _-_, _≤_}
 use mathlib.Core.Path.{_≡_}
 use mathlib.Core.Bool.{cond}
@@ -23,14 +24,14 @@ use Rattle.squeeze.specs.Tracing.{textSince, Leads}
 abbrev pub foldFrom : ℕ → ℕ → ℕ → List Entry → Fold
 foldFrom at len count es = record { at = at + sizes es; len = reached len es; count = count + length es }
 
--- the record of a fold that ends at a word, where words up to another stand: "at place 0 it removes the whole opening text
--- and adds the whole text as it was after those k, both as undoing from the present text gives them"
+-- the record of a fold that ends at a word, where words up to another stand: "at place 0 it removes the whole opening
+-- text and adds the whole text as it was after those k, both as undoing from the present text gives them"
 abbrev pub foldOf : ℕ → ℕ → List ℕ → List ℕ → Entry
 foldOf at done history text =
     record { place = 0; removed = textSince 0 done history text; added = textSince at done history text }
 
--- the words of the standing records, and those from the end of the fold on, lead to the present text; the lengths before
--- them are the opening length and the fold's
+-- the words of the standing records, and those from the end of the fold on, lead to the present text; the lengths
+-- before them are the opening length and the fold's
 pub record Foldable (opening : ℕ) (fold : Fold) (done : ℕ) (history text : List ℕ) : Type 0 where
   pub all : Leads 0 done history text
   pub opens : opening ≡ length (textSince 0 done history text)

@@ -1,5 +1,5 @@
--- The text before some of a page's records, as its words and the present text have it: what the code follows, a stretch of
--- cells at a time.
+-- The text before some of a page's records, as its words and the present text have it: what the code follows, a stretch
+-- of cells at a time.
 use Prim.Native.Nat.{ℕ, _+_, _-_, _≤_, _<_}
 use mathlib.Core.Path.{_≡_}
 use mathlib.Core.Bool.{Bool, true, false, cond, _&&_}
@@ -55,7 +55,8 @@ pub record On (from to : ℕ) (history text : List ℕ) (start most at cell coun
   pub some : 0 < count
   pub few : count ≤ most
   pub part : cell + count ≤ length (textSince at to history text)
-  pub same : take count (drop start (textSince from to history text)) ≡ take count (drop cell (textSince at to history text))
+  pub same :
+      take count (drop start (textSince from to history text)) ≡ take count (drop cell (textSince at to history text))
 
 -- a record removed a cell of the text before it
 abbrev pub keptIn : Head → ℕ → Bool

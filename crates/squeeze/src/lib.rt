@@ -1,5 +1,5 @@
-// Squeeze: the oldest standing steps of a page folded into one. No text is undone in place: the cells of the texts before
-// are followed through the records to where they stand, in a record or in the present text, a stretch of them at a time.
+// Squeeze: the oldest standing steps of a page folded into one. No text is undone in place: the cells of the texts
+// before are followed through the records to where they stand, in a record or in the present text, a stretch at a time.
 use answer::Answer;
 use answer::Refusal;
 use editor::Mark;
@@ -20,7 +20,8 @@ ghost use Rattle.editor.specs.Marks.{foldedMark};
 ghost use Rattle.ledger.specs.Page.{stateOf, keeps};
 ghost use Rattle.ledger.specs.Calls.{squeezeOf};
 ghost use Rattle.splice.specs.Splice.{Filled};
-ghost use Rattle.squeeze.specs.Tracing.{headIn, keptIn, passed, entriesIn, textSince, Leads, On, Follows, cellsIn};
+ghost use Rattle.squeeze.specs.Tracing.{headIn, keptIn, passed, entriesIn, textSince, Leads, On};
+ghost use Rattle.squeeze.specs.Tracing.{cellsIn, Follows};
 ghost use Rattle.squeeze.specs.Folding.{foldFrom, foldOf, Foldable, foldedTo, squeezedPage};
 
 // Where the oldest records end, the length of the text there, and how many records they are.
@@ -45,7 +46,7 @@ struct Head {
     end: usize,
 }
 
-// Where a walk along cells stands: at a record, with a cell of the text before it, and how many go the same way from there.
+// Where a walk along cells stands: at a record, with a cell of the text before it, and how many from there on go along.
 struct Trail {
     at: usize,
     cell: usize,
@@ -76,7 +77,8 @@ fn head_at(history: &[u32], at: usize) -> Head
 
 // The first k records of those that stand, or all of them.
 fn oldest(history: &[u32], text: &[u32], done: usize, opening: usize, k: usize) -> Fold
-    requires { ⌜ Leads 0 done (now history) (now text) × (opening ≡ length (textSince 0 done (now history) (now text))) ⌝ }
+    requires { ⌜ Leads 0 done (now history) (now text)
+        × (opening ≡ length (textSince 0 done (now history) (now text))) ⌝ }
     ensures { λ r. ⌜ r ≡ foldFrom 0 opening 0 (take k (entriesIn 0 done (now (history .entry)))) ⌝ }
 {
     let mut at = 0;
@@ -123,8 +125,8 @@ fn past(head: Head, from: Trail) -> Trail
     }
 }
 
-// Past the records of one shape that come next, up to one that removed the cell. Steps of one kind come in runs, and where
-// the next record begins is known before this one is read.
+// Past the records of one shape that come next, up to one that removed the cell. Steps of one kind come in runs, and
+// where the next record begins is known before this one is read.
 fn past_alike(
     history: &[u32],
     to: usize,
@@ -136,7 +138,8 @@ fn past_alike(
     requires { ⌜ Leads (from .at) to (now history) (now text) × (0 < from .count) × (3 + removed + added ≤ to)
         × (from .cell + from .count ≤ length (textSince (from .at) to (now history) (now text))) ⌝ }
     ensures { λ r. ⌜ (from .at ≤ r .at) × (r .at ≤ to)
-        × On (from .at) to (now (history .entry)) (now (text .entry)) (from .cell) (from .count) (r .at) (r .cell) (r .count) ⌝ }
+        × On (from .at) to (now (history .entry)) (now (text .entry)) (from .cell) (from .count)
+        (r .at) (r .cell) (r .count) ⌝ }
 {
     let size = 3 + removed + added;
     let mut at = from.at;
@@ -166,7 +169,7 @@ fn past_alike(
     Trail { at, cell, count }
 }
 
-// From a cell of the text before the records on, as many as go the same way: into what a record removed, or through all.
+// From a cell of the text before the records on, as many as go the same way: to what a record removed, or through all.
 fn follow(
     history: &[u32],
     from: usize,
@@ -208,9 +211,11 @@ fn follow(
 
 // Puts a stretch at a place, over what stands there, and gives the place after it.
 fn put(work: &mut [u32], at: usize, s: Stretch, history: &[u32], text: &[u32]) -> usize
-    requires { ⌜ (at + s .count ≤ length (now work)) × (s .at + s .count ≤ length (cellsIn (s .kept) (now history) (now text))) ⌝ }
+    requires { ⌜ (at + s .count ≤ length (now work))
+        × (s .at + s .count ≤ length (cellsIn (s .kept) (now history) (now text))) ⌝ }
     ensures { λ r. ⌜ (r ≡ at + s .count) × (now (work .exit)
-        ≡ paste (now (work .entry)) at (drop (s .at) (cellsIn (s .kept) (now (history .entry)) (now (text .entry)))) (s .count)) ⌝ }
+        ≡ paste (now (work .entry)) at
+        (drop (s .at) (cellsIn (s .kept) (now (history .entry)) (now (text .entry)))) (s .count)) ⌝ }
 {
     let first = s.at;
     if s.kept {
@@ -245,7 +250,7 @@ fn trace(
     }
 }
 
-// The record of the fold at the front of the work buffer: its first three words, the opening text, and the text after it.
+// The record of the fold at the front of the work buffer: its first three words, the opening text, the text after it.
 fn write_record(
     work: &mut [u32],
     history: &[u32],
@@ -314,7 +319,8 @@ fn refused(page: Page, answer: Answer) -> Edited
 // 19, then 9; else the record is made, and put for the oldest ones.
 fn squeeze_to(page: Page, fold: Fold, text: &[u32], history: &mut [u32], work: &mut [u32]) -> Edited
     requires { ⌜ Foldable (page .opening) fold (page .done) (now history) (take (page .length) (now text))
-        × (page .length ≤ length (now text)) × (fold .at ≤ page .done) × (page .done ≤ page .used) × Filled (page .used) (now history) ⌝ }
+        × (page .length ≤ length (now text)) × (fold .at ≤ page .done) × (page .done ≤ page .used)
+        × Filled (page .used) (now history) ⌝ }
     ensures { λ r. ⌜ keeps r (now (text .entry)) (now (history .exit)) (now (work .exit))
         ≡ foldedTo (stateOf page (now (text .entry)) (now (history .entry))) (now (work .entry)) (fold .at)
         (foldOf (fold .at) (page .done) (now (history .entry)) (take (page .length) (now (text .entry)))) ⌝ }

@@ -3,13 +3,11 @@ use borrow.Author.Tests.{le-leb, lt-leb}
 use Rattle.squeeze.proofs.is_kept.Statement.{statement}
 use Rattle.squeeze.proofs.is_kept.Tie as tie
 
--- src/lib.rt:102:9
 returns : tie.Need-returns
 returns c =
     let a = c .before .before .args in
     rw (lt-leb (a .head .place) (a .cell) (omega arith))
 
--- src/lib.rt:98:1
 returns-2 : tie.Need-returns-2
 returns-2 c =
     let a = c .before .before .before .before .args in

@@ -4,34 +4,27 @@ use borrow.Author.Needs.{needs}
 use Rattle.squeeze.proofs.mark_left.Statement.{statement}
 use Rattle.squeeze.proofs.mark_left.Tie as tie
 
--- src/lib.rt:205:18
 enum-known-mark : tie.Need-enum-known-mark
 enum-known-mark c = search needs
 
--- src/lib.rt:206:9
 enum-told : tie.Need-enum-told
 enum-told c = search needs
 
--- src/lib.rt:206:9
 returns : tie.Need-returns
 returns c = search needs
 
--- src/lib.rt:209:9
 returns-2 : tie.Need-returns-2
 returns-2 c = search needs
 
--- src/lib.rt:212:9
 returns-3 : tie.Need-returns-3
 returns-3 c =
     let a = c .before .before .before .before .before .args in
     let g = c .before .before .before .mark .given in
     rw (g .1, ne-eqb (g .0 .0) 0 (c .before .if1 .left), lt-ltb (g .0 .0) (a .old) (omega arith))
 
--- src/lib.rt:214:14
 add-t7 : tie.Need-add-t7
 add-t7 c = search needs
 
--- src/lib.rt:201:1
 returns-4 : tie.Need-returns-4
 returns-4 c =
     let a = c .before .before .before .before .before .args in

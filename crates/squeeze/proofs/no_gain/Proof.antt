@@ -2,7 +2,6 @@ use mathlib.Core.Path.{refl}
 use Rattle.squeeze.proofs.no_gain.Statement.{statement}
 use Rattle.squeeze.proofs.no_gain.Tie as tie
 
--- src/lib.rt:33:1
 returns : tie.Need-returns
 returns c = refl
 

@@ -14,68 +14,64 @@ use Rattle.squeeze.proofs.oldest.Tie as tie
 abbrev Inv-loop : tie.InvT-loop
 Inv-loop history text done opening k at₀ len₀ count₀ at len count =
     Leads at done history text × (len ≡ length (textSince at done history text)) × (count ≤ k)
-    × (foldFrom at len count (take (k - count) (entriesIn at done history)) ≡ foldFrom 0 opening 0 (take k (entriesIn 0 done history)))
+    × (foldFrom at len count (take (k - count) (entriesIn at done history)) ≡ foldFrom 0 opening 0
+    (take k (entriesIn 0 done history)))
 
 abbrev μ-loop : tie.MeasureT-loop
 μ-loop history text done opening k at₀ len₀ count₀ at len count = k - count
 
--- src/lib.rt:69:5
 loop-holds : tie.Need-loop-holds Inv-loop μ-loop
 loop-holds c =
     let a = c .before .before .args in
     let p = c .before .before .pre in
     (p .0, p .1, omega arith, rw (sub-zero (a .k)))
 
--- src/lib.rt:71:13
 returns : tie.Need-returns Inv-loop μ-loop
 returns c =
     let a = c .before .before .before .before .before .args in
     let l = c .before .before .loop in
     stopped (l .inv .0) (omega arith) (l .len) (l .count) (a .k - l .count) ∙ l .inv .3
 
--- src/lib.rt:73:13
 head-at-requires : tie.Need-head-at-requires Inv-loop μ-loop
 head-at-requires c κs =
     let a = c .before .before .before .before .before .args in
     let l = c .before .before .loop in
     whole-next (l .at) (a .done) (a .history .now) (a .text .now) (l .inv .0) (omega (arith, l .inv .0 .order))
 
--- src/lib.rt:74:15
 sub-len : tie.Need-sub-len Inv-loop μ-loop
 sub-len c =
     let a = c .before .before .before .before .before .before .before .args in
     let l = c .before .before .before .before .loop in
     let h = c .before .head-at in
-    let b = seen (l .at) (a .done) (a .history .now) (a .text .now) (l .inv .0) (omega (arith, l .inv .0 .order)) (h .result) (h .ensures) in
+    let b = seen (l .at) (a .done) (a .history .now) (a .text .now) (l .inv .0) (omega (arith, l .inv .0 .order))
+    (h .result) (h .ensures) in
     omega (arith, b .inside, l .inv .1)
 
--- src/lib.rt:74:15
 add-len : tie.Need-add-len Inv-loop μ-loop
 add-len c =
     let a = c .before .before .before .before .before .before .before .before .args in
     let l = c .before .before .before .before .before .loop in
     let h = c .before .before .head-at in
-    let b = seen (l .at) (a .done) (a .history .now) (a .text .now) (l .inv .0) (omega (arith, l .inv .0 .order)) (h .result) (h .ensures) in
+    let b = seen (l .at) (a .done) (a .history .now) (a .text .now) (l .inv .0) (omega (arith, l .inv .0 .order))
+    (h .result) (h .ensures) in
     omega (arith, limit-small, b .after, b .below, l .inv .1)
 
--- src/lib.rt:76:9
 add-count : tie.Need-add-count Inv-loop μ-loop
 add-count c = search needs
 
--- src/lib.rt:69:5
 loop-less : tie.Need-loop-less Inv-loop μ-loop
 loop-less c = search needs
 
--- src/lib.rt:69:5
 loop-again : tie.Need-loop-again Inv-loop μ-loop
 loop-again c =
     let a = c .before .before .before .before .before .before .before .before .args in
     let l = c .before .before .before .before .before .loop in
     let h = c .before .before .head-at in
-    let b = seen (l .at) (a .done) (a .history .now) (a .text .now) (l .inv .0) (omega (arith, l .inv .0 .order)) (h .result) (h .ensures) in
-    (b .leads, omega (arith, b .after, l .inv .1), omega arith, fold-next b (l .len) (l .count) (a .k) (omega arith) ∙ l .inv .3)
+    let b = seen (l .at) (a .done) (a .history .now) (a .text .now) (l .inv .0) (omega (arith, l .inv .0 .order))
+    (h .result) (h .ensures) in
+    (b .leads, omega (arith, b .after, l .inv .1), omega arith, fold-next b (l .len) (l .count) (a .k) (omega arith)
+    ∙ l .inv .3)
 
--- src/lib.rt:62:1
 returns-2 : tie.Need-returns-2 Inv-loop μ-loop
 returns-2 c =
     let a = c .before .before .before .before .args in

@@ -6,31 +6,25 @@ use borrow.Author.Needs.{needs}
 use Rattle.squeeze.proofs.past.Statement.{statement}
 use Rattle.squeeze.proofs.past.Tie as tie
 
--- src/lib.rt:116:48
 sub-lesser : tie.Need-sub-lesser
 sub-lesser c = search needs
 
--- src/lib.rt:116:20
 lesser-requires : tie.Need-lesser-requires
 lesser-requires c κs = search needs
 
--- src/lib.rt:113:9
 returns : tie.Need-returns
 returns c =
     let a = c .before .before .before .before .before .before .args in
     rw (lt-ltb (a .from .cell) (a .head .place) (omega arith), c .lesser .ensures)
 
--- src/lib.rt:121:15
 sub-t6 : tie.Need-sub-t6
 sub-t6 c =
     let a = c .before .before .before .before .before .args in
     omega (arith, not-kept (a .head) (a .from .cell) (c .before .before .before .before .before .pre .0) (omega arith))
 
--- src/lib.rt:121:15
 add-t7 : tie.Need-add-t7
 add-t7 c = omega (arith, limit-small, c .before .before .before .before .before .before .pre .1)
 
--- src/lib.rt:108:1
 returns-2 : tie.Need-returns-2
 returns-2 c =
     let a = c .before .before .before .before .before .before .args in

@@ -15,145 +15,133 @@ Inv-loop history to text removed added size at₀ cell₀ count₀ at cell count
 abbrev μ-loop : tie.MeasureT-loop
 μ-loop history to text removed added size at₀ cell₀ count₀ at cell count = to - at
 
--- src/lib.rt:141:16
 add-size : tie.Need-add-size Inv-loop μ-loop
 add-size c = search needs
 
--- src/lib.rt:141:16
 add-size-2 : tie.Need-add-size-2 Inv-loop μ-loop
 add-size-2 c = search needs
 
--- src/lib.rt:145:5
 loop-holds : tie.Need-loop-holds Inv-loop μ-loop
 loop-holds c =
     let p = c .before .before .pre in
     (omega arith, p .0 .order, record { leads = p .0; some = p .1; few = omega arith; part = p .3; same = refl })
 
--- src/lib.rt:145:19
 sub-loop : tie.Need-sub-loop Inv-loop μ-loop
 sub-loop c = search needs
 
--- src/lib.rt:146:34
 add-wide : tie.Need-add-wide Inv-loop μ-loop
 add-wide c =
     let l = c .before .loop in
     omega (arith, l .inv .2 .leads .within)
 
--- src/lib.rt:146:26
 mul-wide : tie.Need-mul-wide Inv-loop μ-loop
 mul-wide c =
     let l = c .before .loop in
     omega (arith, l .inv .2 .leads .within)
 
--- src/lib.rt:146:26
 shared-slice-read-wide : tie.Need-shared-slice-read-wide Inv-loop μ-loop
 shared-slice-read-wide c =
     let l = c .before .before .loop in
     omega (arith, l .inv .2 .leads .within)
 
--- src/lib.rt:146:12
 wide-requires : tie.Need-wide-requires Inv-loop μ-loop
 wide-requires c κs = search needs
 
--- src/lib.rt:147:13
 returns : tie.Need-returns Inv-loop μ-loop
 returns c = c .before .before .before .before .loop .inv
 
--- src/lib.rt:149:34
 add-wide-2 : tie.Need-add-wide-2 Inv-loop μ-loop
 add-wide-2 c =
     let l = c .before .before .before .before .loop in
     omega (arith, l .inv .2 .leads .within)
 
--- src/lib.rt:149:26
 mul-wide-2 : tie.Need-mul-wide-2 Inv-loop μ-loop
 mul-wide-2 c =
     let l = c .before .before .before .before .loop in
     omega (arith, l .inv .2 .leads .within)
 
--- src/lib.rt:149:26
 shared-slice-read-wide-2 : tie.Need-shared-slice-read-wide-2 Inv-loop μ-loop
 shared-slice-read-wide-2 c =
     let l = c .before .before .before .before .before .loop in
     omega (arith, l .inv .2 .leads .within)
 
--- src/lib.rt:149:12
 wide-requires-2 : tie.Need-wide-requires-2 Inv-loop μ-loop
 wide-requires-2 c κs = search needs
 
--- src/lib.rt:150:13
 returns-2 : tie.Need-returns-2 Inv-loop μ-loop
 returns-2 c = c .before .before .before .before .before .before .before .loop .inv
 
--- src/lib.rt:153:34
 mul-wide-3 : tie.Need-mul-wide-3 Inv-loop μ-loop
 mul-wide-3 c =
     let l = c .before .before .before .before .before .before .before .loop in
     omega (arith, l .inv .2 .leads .within)
 
--- src/lib.rt:153:34
 shared-slice-read-wide-3 : tie.Need-shared-slice-read-wide-3 Inv-loop μ-loop
 shared-slice-read-wide-3 c =
     let l = c .before .before .before .before .before .before .before .before .loop in
     omega (arith, l .inv .2 .leads .within)
 
--- src/lib.rt:153:20
 wide-requires-3 : tie.Need-wide-requires-3 Inv-loop μ-loop
 wide-requires-3 c κs = search needs
 
--- src/lib.rt:156:18
 add-t17 : tie.Need-add-t17 Inv-loop μ-loop
 add-t17 c =
     let l = c .before .before .before .before .before .before .before .before .before .loop in
     omega (arith, l .inv .2 .leads .within)
 
--- src/lib.rt:158:12
 is-kept-requires : tie.Need-is-kept-requires Inv-loop μ-loop
 is-kept-requires c κs = search needs
 
--- src/lib.rt:159:13
 returns-3 : tie.Need-returns-3 Inv-loop μ-loop
 returns-3 c = c .before .before .before .before .before .before .before .before .before .before .before .loop .inv
 
--- src/lib.rt:161:13
 past-requires : tie.Need-past-requires Inv-loop μ-loop
 past-requires c κs =
     let a = c .before .before .before .before .before .before .before .before .before .before .before .before .before .before .args in
     let l = c .before .before .before .before .before .before .before .before .before .before .before .loop in
     let o = l .inv .2 in
     let place = c .before .before .wide3 in
-    let r = read-alike (a .history .now) (l .at) (place .result) (a .removed) (a .added) (place .ensures .0) (sym (c .before .before .before .before .before .before .before .if1 .left) ∙ c .before .before .before .before .before .before .before .before .wide .ensures .0) (sym (c .before .before .before .before .if2 .left) ∙ c .before .before .before .before .before .wide2 .ensures .0) in
+    let r = read-alike (a .history .now) (l .at) (place .result) (a .removed) (a .added) (place .ensures .0)
+    (sym (c .before .before .before .before .before .before .before .if1 .left)
+    ∙ c .before .before .before .before .before .before .before .before .wide .ensures .0)
+    (sym (c .before .before .before .before .if2 .left)
+    ∙ c .before .before .before .before .before .wide2 .ensures .0) in
     let x = seen (l .at) (a .to) (a .history .now) (a .text .now) (o .leads) (omega arith) _ r in
     let n = sym (c .before .is-kept .ensures) ∙ c .if3 .left in
     (n, omega (arith, x .after, x .below, x .inside, o .part))
 
--- src/lib.rt:145:5
 loop-less : tie.Need-loop-less Inv-loop μ-loop
 loop-less c =
     let a = c .before .before .before .before .before .before .before .before .before .before .before .before .before .before .before .args in
     let l = c .before .before .before .before .before .before .before .before .before .before .before .before .loop in
     let o = l .inv .2 in
     let place = c .before .before .before .wide3 in
-    let r = read-alike (a .history .now) (l .at) (place .result) (a .removed) (a .added) (place .ensures .0) (sym (c .before .before .before .before .before .before .before .before .if1 .left) ∙ c .before .before .before .before .before .before .before .before .before .wide .ensures .0) (sym (c .before .before .before .before .before .if2 .left) ∙ c .before .before .before .before .before .before .wide2 .ensures .0) in
+    let r = read-alike (a .history .now) (l .at) (place .result) (a .removed) (a .added) (place .ensures .0)
+    (sym (c .before .before .before .before .before .before .before .before .if1 .left)
+    ∙ c .before .before .before .before .before .before .before .before .before .wide .ensures .0)
+    (sym (c .before .before .before .before .before .if2 .left)
+    ∙ c .before .before .before .before .before .before .wide2 .ensures .0) in
     let x = seen (l .at) (a .to) (a .history .now) (a .text .now) (o .leads) (omega arith) _ r in
     let n = sym (c .before .before .is-kept .ensures) ∙ c .before .if3 .left in
     let t = on-passed x o n (c .past .result) (c .past .ensures) in
     omega (arith, t .0)
 
--- src/lib.rt:145:5
 loop-again : tie.Need-loop-again Inv-loop μ-loop
 loop-again c =
     let a = c .before .before .before .before .before .before .before .before .before .before .before .before .before .before .before .args in
     let l = c .before .before .before .before .before .before .before .before .before .before .before .before .loop in
     let o = l .inv .2 in
     let place = c .before .before .before .wide3 in
-    let r = read-alike (a .history .now) (l .at) (place .result) (a .removed) (a .added) (place .ensures .0) (sym (c .before .before .before .before .before .before .before .before .if1 .left) ∙ c .before .before .before .before .before .before .before .before .before .wide .ensures .0) (sym (c .before .before .before .before .before .if2 .left) ∙ c .before .before .before .before .before .before .wide2 .ensures .0) in
+    let r = read-alike (a .history .now) (l .at) (place .result) (a .removed) (a .added) (place .ensures .0)
+    (sym (c .before .before .before .before .before .before .before .before .if1 .left)
+    ∙ c .before .before .before .before .before .before .before .before .before .wide .ensures .0)
+    (sym (c .before .before .before .before .before .if2 .left)
+    ∙ c .before .before .before .before .before .before .wide2 .ensures .0) in
     let x = seen (l .at) (a .to) (a .history .now) (a .text .now) (o .leads) (omega arith) _ r in
     let n = sym (c .before .before .is-kept .ensures) ∙ c .before .if3 .left in
     let t = on-passed x o n (c .past .result) (c .past .ensures) in
     (omega (arith, t .0, l .inv .0), omega (arith, t .0, x .ends), t .1)
 
--- src/lib.rt:128:1
 returns-4 : tie.Need-returns-4 Inv-loop μ-loop
 returns-4 c = c .before .loop .inv
 

@@ -5,46 +5,38 @@ use borrow.Author.Needs.{needs}
 use Rattle.squeeze.proofs.squeeze.Statement.{statement}
 use Rattle.squeeze.proofs.squeeze.Tie as tie
 
--- src/lib.rt:314:9
 judge-requires : tie.Need-judge-requires
 judge-requires c κs = search needs
 
--- src/lib.rt:316:23
 enum-known-found : tie.Need-enum-known-found
 enum-known-found c = search needs
 
--- src/lib.rt:316:34
 refused-requires : tie.Need-refused-requires
 refused-requires c κs = search needs
 
--- src/lib.rt:317:23
 enum-known-found-2 : tie.Need-enum-known-found-2
 enum-known-found-2 c = search needs
 
--- src/lib.rt:317:32
 squeeze-sound-requires : tie.Need-squeeze-sound-requires
-squeeze-sound-requires c κs = sym (c .before .before .before .before .before .judge .ensures) ∙ c .before .before .before .found2 .given .1
+squeeze-sound-requires c κs = sym (c .before .before .before .before .before .judge .ensures)
+∙ c .before .before .before .found2 .given .1
 
--- src/lib.rt:304:1
 same-length : tie.Need-same-length
 same-length c = search needs
 
--- src/lib.rt:304:1
 returns : tie.Need-returns
 returns c =
     let a = c .before .before .before .before .before .before .before .before .before .args in
     let s : State = stateOf (a .page) (a .text .now) (a .history .now) in
-    rw (c .refused .ensures) (sym (squeeze-unfit s (a .k) (a .work .now) (c .before .before .before .before .judge .ensures) (c .before .before .found .given .1)))
+    rw (c .refused .ensures) (sym (squeeze-unfit s (a .k) (a .work .now)
+    (c .before .before .before .before .judge .ensures) (c .before .before .found .given .1)))
 
--- src/lib.rt:304:1
 same-length-2 : tie.Need-same-length-2
 same-length-2 c = search needs
 
--- src/lib.rt:304:1
 same-length-3 : tie.Need-same-length-3
 same-length-3 c = search needs
 
--- src/lib.rt:304:1
 returns-2 : tie.Need-returns-2
 returns-2 c = search needs
 

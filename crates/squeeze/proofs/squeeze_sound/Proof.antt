@@ -9,19 +9,17 @@ use borrow.Author.Needs.{needs}
 use Rattle.squeeze.proofs.squeeze_sound.Statement.{statement}
 use Rattle.squeeze.proofs.squeeze_sound.Tie as tie
 
--- src/lib.rt:293:9
 refused-requires : tie.Need-refused-requires
 refused-requires c κs = search needs
 
--- src/lib.rt:293:9
 returns : tie.Need-returns
 returns c =
     let a = c .before .before .before .before .before .args in
     let s : State = stateOf (a .page) (a .text .now) (a .history .now) in
     let f = fit s refl (c .before .before .before .before .before .pre) in
-    rw (c .refused .ensures) (sym (too-few s (f .parted) (f .sound) (f .short) (f .found) (f .short-text) (a .k) (a .work .now) (rw (lt-ltb (a .k) 2 (omega arith)))))
+    rw (c .refused .ensures) (sym (too-few s (f .parted) (f .sound) (f .short) (f .found) (f .short-text) (a .k)
+    (a .work .now) (rw (lt-ltb (a .k) 2 (omega arith)))))
 
--- src/lib.rt:296:34
 slice-aggregate-oldest : tie.Need-slice-aggregate-oldest
 slice-aggregate-oldest c =
     let a = c .before .before .before .before .before .before .args in
@@ -29,57 +27,56 @@ slice-aggregate-oldest c =
     let f = fit s refl (c .before .before .before .before .before .before .pre) in
     sym (length-take-le (a .page .length) (a .text .now) (f .frame .fits))
 
--- src/lib.rt:296:9
 oldest-requires : tie.Need-oldest-requires
 oldest-requires c κs =
     let a = c .before .before .before .before .before .before .args in
     let s : State = stateOf (a .page) (a .text .now) (a .history .now) in
     let f = fit s refl (c .before .before .before .before .before .before .pre) in
-    (leads-standing s (f .parted) (f .sound) (f .short) (f .found) (f .short-text) (a .k) (a .work .now), opens-standing s (f .parted) (f .sound) (f .short) (f .found) (f .short-text) (a .k) (a .work .now))
+    (leads-standing s (f .parted) (f .sound) (f .short) (f .found) (f .short-text) (a .k)
+    (a .work .now), opens-standing s (f .parted) (f .sound) (f .short) (f .found) (f .short-text) (a .k) (a .work .now))
 
--- src/lib.rt:298:9
 refused-requires-2 : tie.Need-refused-requires-2
 refused-requires-2 c κs = search needs
 
--- src/lib.rt:298:9
 same-length : tie.Need-same-length
 same-length c = search needs
 
--- src/lib.rt:298:9
 returns-2 : tie.Need-returns-2
 returns-2 c =
     let a = c .before .before .before .before .before .before .before .before .before .before .args in
     let s : State = stateOf (a .page) (a .text .now) (a .history .now) in
     let f = fit s refl (c .before .before .before .before .before .before .before .before .before .before .pre) in
     let o = c .before .before .before .oldest in
-    rw (c .refused2 .ensures) (sym (too-few s (f .parted) (f .sound) (f .short) (f .found) (f .short-text) (a .k) (a .work .now) (over-standing s (f .parted) (f .sound) (f .short) (f .found) (f .short-text) (a .k) (a .work .now) (o .result) (o .ensures) (omega arith))))
+    rw (c .refused2 .ensures) (sym (too-few s (f .parted) (f .sound) (f .short) (f .found) (f .short-text) (a .k)
+    (a .work .now) (over-standing s (f .parted) (f .sound) (f .short) (f .found) (f .short-text) (a .k)
+    (a .work .now) (o .result) (o .ensures) (omega arith))))
 
--- src/lib.rt:300:5
 squeeze-to-requires : tie.Need-squeeze-to-requires
 squeeze-to-requires c κs =
     let a = c .before .before .before .before .before .before .before .before .before .before .before .args in
     let s : State = stateOf (a .page) (a .text .now) (a .history .now) in
-    let f = fit s refl (c .before .before .before .before .before .before .before .before .before .before .before .pre) in
+    let f = fit s refl
+    (c .before .before .before .before .before .before .before .before .before .before .before .pre) in
     let o = c .before .before .before .before .oldest in
-    let q = squeezes s (f .parted) (f .sound) (f .short) (f .found) (f .short-text) (a .k) (a .work .now) (o .result) (o .ensures) (omega arith) (omega arith) in
+    let q = squeezes s (f .parted) (f .sound) (f .short) (f .found) (f .short-text) (a .k) (a .work .now) (o .result)
+    (o .ensures) (omega arith) (omega arith) in
     (q .folds, f .frame .fits, q .part, f .frame .stands, history-filled f)
 
--- src/lib.rt:280:1
 same-length-2 : tie.Need-same-length-2
 same-length-2 c = search needs
 
--- src/lib.rt:280:1
 same-length-3 : tie.Need-same-length-3
 same-length-3 c = search needs
 
--- src/lib.rt:280:1
 returns-3 : tie.Need-returns-3
 returns-3 c =
     let a = c .before .before .before .before .before .before .before .before .before .before .before .before .before .before .before .before .args in
     let s : State = stateOf (a .page) (a .text .now) (a .history .now) in
-    let f = fit s refl (c .before .before .before .before .before .before .before .before .before .before .before .before .before .before .before .before .pre) in
+    let f = fit s refl
+    (c .before .before .before .before .before .before .before .before .before .before .before .before .before .before .before .before .pre) in
     let o = c .before .before .before .before .before .before .before .before .before .oldest in
-    let q = squeezes s (f .parted) (f .sound) (f .short) (f .found) (f .short-text) (a .k) (a .work .now) (o .result) (o .ensures) (omega arith) (omega arith) in
+    let q = squeezes s (f .parted) (f .sound) (f .short) (f .found) (f .short-text) (a .k) (a .work .now) (o .result)
+    (o .ensures) (omega arith) (omega arith) in
     c .before .before .before .before .squeeze-to .ensures ∙ sym (q .outcome)
 
 pub squeeze-sound-spec : {M : Type 1} → statement M

@@ -8,41 +8,35 @@ use borrow.Author.Needs.{needs}
 use Rattle.squeeze.proofs.squeeze_to.Statement.{statement}
 use Rattle.squeeze.proofs.squeeze_to.Tie as tie
 
--- src/lib.rt:258:16
 add-size : tie.Need-add-size
 add-size c =
     let a = c .before .before .before .before .args in
     let p = c .before .before .before .before .pre in
     omega (arith, limit-small, p .0 .small .0)
 
--- src/lib.rt:258:16
 add-size-2 : tie.Need-add-size-2
 add-size-2 c =
     let a = c .before .before .before .before .before .args in
     let p = c .before .before .before .before .before .pre in
     omega (arith, limit-small, p .0 .small .0, p .0 .small .1)
 
--- src/lib.rt:261:30
 no-gain-requires : tie.Need-no-gain-requires
 no-gain-requires c κs = search needs
 
--- src/lib.rt:261:9
 refused-requires : tie.Need-refused-requires
 refused-requires c κs = search needs
 
--- src/lib.rt:261:9
 returns : tie.Need-returns
 returns c =
     let a = c .before .before .before .before .before .before .before .before .args in
     let p = c .before .before .before .before .before .before .before .before .pre in
     let s : State = stateOf (a .page) (a .text .now) (a .history .now) in
-    rw (c .refused .ensures, c .before .no-gain .ensures) (sym (no-gain s (a .work .now) (a .fold) (p .0) (omega arith)))
+    rw (c .refused .ensures, c .before .no-gain .ensures)
+    (sym (no-gain s (a .work .now) (a .fold) (p .0) (omega arith)))
 
--- src/lib.rt:264:9
 refused-requires-2 : tie.Need-refused-requires-2
 refused-requires-2 c κs = search needs
 
--- src/lib.rt:264:9
 returns-2 : tie.Need-returns-2
 returns-2 c =
     let a = c .before .before .before .before .before .before .before .before .args in
@@ -50,44 +44,35 @@ returns-2 c =
     let s : State = stateOf (a .page) (a .text .now) (a .history .now) in
     rw (c .refused2 .ensures) (sym (no-room s (a .work .now) (a .fold) (p .0) (omega arith) (omega arith)))
 
--- src/lib.rt:270:9
 slice-aggregate-write-record : tie.Need-slice-aggregate-write-record
 slice-aggregate-write-record c =
     let a = c .before .before .before .before .before .before .before .before .before .before .args in
     let p = c .before .before .before .before .before .before .before .before .before .before .pre in
     sym (length-take-le (a .page .length) (a .text .now) (p .1))
 
--- src/lib.rt:267:5
 write-record-requires : tie.Need-write-record-requires
 write-record-requires c κs = search needs
 
--- src/lib.rt:275:57
 slice-reshare-prefix-splice-in : tie.Need-slice-reshare-prefix-splice-in
 slice-reshare-prefix-splice-in c = search needs
 
--- src/lib.rt:275:57
 slice-aggregate-splice-in : tie.Need-slice-aggregate-splice-in
 slice-aggregate-splice-in c =
     let w = c .before .before .before .before .write-record in
     sym (length-take-le _ (w .last .0) (omega arith))
 
--- src/lib.rt:275:5
 splice-in-requires : tie.Need-splice-in-requires
 splice-in-requires c κs = search needs
 
--- src/lib.rt:276:5
 shrunk-requires : tie.Need-shrunk-requires
 shrunk-requires c κs = search needs
 
--- src/lib.rt:245:1
 same-length : tie.Need-same-length
 same-length c = search needs
 
--- src/lib.rt:245:1
 same-length-2 : tie.Need-same-length-2
 same-length-2 c = search needs
 
--- src/lib.rt:245:1
 returns-3 : tie.Need-returns-3
 returns-3 c =
     let a = c .before .before .before .before .before .before .before .before .before .before .before .before .before .before .before .before .before .before .before .args in
@@ -96,7 +81,8 @@ returns-3 c =
     let w = c .before .before .before .before .before .before .before .before .write-record in
     let h = c .before .before .before .splice-in in
     rw (c .shrunk .ensures)
-    (squeezed-so s (a .work .now) (a .fold) (p .0) (omega (arith, c .before .before .before .before .before .before .before .before .before .before .before .before .before .if1 .left)) (omega (arith, c .before .before .before .before .before .before .before .before .before .before .before .before .if2 .left)) (p .2) (p .3) (p .4) (w .last .0) (h .last .0) (w .ensures) (h .ensures .1))
+    (squeezed-so s (a .work .now) (a .fold) (p .0)
+    (omega (arith, c .before .before .before .before .before .before .before .before .before .before .before .before .before .if1 .left)) (omega (arith, c .before .before .before .before .before .before .before .before .before .before .before .before .if2 .left)) (p .2) (p .3) (p .4) (w .last .0) (h .last .0) (w .ensures) (h .ensures .1))
 
 pub squeeze-to-spec : {M : Type 1} → statement M
 squeeze-to-spec =

@@ -17,46 +17,39 @@ Inv-loop work₀ start size history from to text end at₀ work at =
 abbrev μ-loop : tie.MeasureT-loop
 μ-loop work₀ start size history from to text end at₀ work at = start + size - at
 
--- src/lib.rt:163:15
 add-end : tie.Need-add-end Inv-loop μ-loop
 add-end c = search needs
 
--- src/lib.rt:165:5
 loop-holds : tie.Need-loop-holds Inv-loop μ-loop
 loop-holds c =
     let a = c .before .before .before .args in
     let none : a .start - a .start ≡ 0 = omega arith in
-    (omega arith, omega arith, refl, rw none (paste-zero (a .work .now) (a .start) (textSince (a .from) (a .to) (a .history .now) (a .text .now))))
+    (omega arith, omega arith, refl, rw none
+    (paste-zero (a .work .now) (a .start) (textSince (a .from) (a .to) (a .history .now) (a .text .now))))
 
--- src/lib.rt:166:49
 sub-follow : tie.Need-sub-follow Inv-loop μ-loop
 sub-follow c = search needs
 
--- src/lib.rt:166:61
 sub-follow-2 : tie.Need-sub-follow-2 Inv-loop μ-loop
 sub-follow-2 c = search needs
 
--- src/lib.rt:166:13
 follow-requires : tie.Need-follow-requires Inv-loop μ-loop
 follow-requires c κs =
     let a = c .before .before .before .before .before .args in
     let p = c .before .before .before .before .before .pre in
     (p .0, omega arith, omega (arith, p .1))
 
--- src/lib.rt:167:9
 put-requires : tie.Need-put-requires Inv-loop μ-loop
 put-requires c κs =
     let f = c .before .follow .ensures in
     (omega (arith, f .few), f .part)
 
--- src/lib.rt:165:5
 loop-less : tie.Need-loop-less Inv-loop μ-loop
 loop-less c =
     let f = c .before .before .before .before .follow .ensures in
     let e = c .before .before .put .ensures in
     omega (arith, f .some, f .few, e .0)
 
--- src/lib.rt:165:5
 loop-again : tie.Need-loop-again Inv-loop μ-loop
 loop-again c =
     let a = c .before .before .before .before .before .before .before .before .before .before .args in
@@ -64,13 +57,12 @@ loop-again c =
     let l = c .before .before .before .before .before .before .loop in
     let f = c .before .before .before .before .follow .ensures in
     let e = c .before .before .put in
-    turned (a .work .now) (l .work) (e .last .0) (textSince (a .from) (a .to) (a .history .now) (a .text .now)) _ (a .start) (a .size) (l .at) _ (e .result) (p .1) (p .2) (l .inv) (f .few) (f .cells) (e .ensures)
+    turned (a .work .now) (l .work) (e .last .0) (textSince (a .from) (a .to) (a .history .now) (a .text .now)) _
+    (a .start) (a .size) (l .at) _ (e .result) (p .1) (p .2) (l .inv) (f .few) (f .cells) (e .ensures)
 
--- src/lib.rt:149:1
 same-length : tie.Need-same-length Inv-loop μ-loop
 same-length c = c .before .loop .inv .2
 
--- src/lib.rt:149:1
 returns : tie.Need-returns Inv-loop μ-loop
 returns c =
     let a = c .before .before .before .before .before .args in
