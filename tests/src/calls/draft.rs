@@ -4,6 +4,7 @@ use super::{Change, List, Move, Reading, Sort};
 use crate::rng::Rng;
 use crate::second::page::{self, mark_of, Page, State};
 use crate::second::page_file::{self, Content};
+use crate::second::squeeze::squeeze;
 use crate::second::{Call, Kind};
 use crate::texts::{self, Source};
 
@@ -21,7 +22,7 @@ pub struct Draft {
 }
 
 /// The sorts of calls that are made on what was opened.
-const SORTS: [Sort; 5] = [Sort::Replace, Sort::Undo, Sort::Redo, Sort::Save, Sort::Keep];
+const SORTS: [Sort; 6] = [Sort::Replace, Sort::Undo, Sort::Redo, Sort::Save, Sort::Keep, Sort::Squeeze];
 
 impl Draft {
     pub fn new(start: State, kind: Kind, arrived: Vec<u8>) -> Draft {
@@ -35,17 +36,18 @@ impl Draft {
 
     /// Adds one to four calls of one sort; or some that lead away from what was saved, most often for good.
     pub fn add_calls(&mut self, rng: &mut Rng) {
-        match rng.below(18) {
+        match rng.below(19) {
             0..=6 => self.add_some(rng, Sort::Replace, 3),
             7..=9 => self.add_some(rng, Sort::Undo, 4),
             10..=12 => self.add_some(rng, Sort::Redo, 3),
             13..=15 => self.add_some(rng, Sort::Save, 2),
+            16 => self.add_some(rng, Sort::Squeeze, 1),
             _ => [Sort::Save, Sort::Undo, Sort::Replace].into_iter().for_each(|sort| self.add_some(rng, sort, 1)),
         }
     }
 
     /// Adds calls of this sort, at least one and at most so many.
-    fn add_some(&mut self, rng: &mut Rng, sort: Sort, most: usize) {
+    pub fn add_some(&mut self, rng: &mut Rng, sort: Sort, most: usize) {
         for _ in 0..rng.between(1, most) {
             self.add_call(self.call(rng, sort));
         }
@@ -88,6 +90,7 @@ impl Draft {
             Sort::Redo => Call::Redo,
             Sort::Save => self.save(rng),
             Sort::Keep => self.keep(rng),
+            Sort::Squeeze => self.squeeze(rng),
         }
     }
 
@@ -162,6 +165,18 @@ impl Draft {
         let arrived = self.lent_bytes(rng);
         let needed = page::save(&self.state, &arrived).map_or(arrived.len(), |saved| saved.len());
         Call::Save { arrived, room: room(rng, needed) }
+    }
+
+    /// A squeeze, most often of some of the steps that stand; with about the words to work in that it needs.
+    fn squeeze(&self, rng: &mut Rng) -> Call {
+        let standing = page::sound(&self.state).map_or(4, |sound| sound.standing.len());
+        let steps = match rng.below(12) {
+            0 => rng.pick(&[0, 1, standing + 1, 1 << 32, (1 << 32) + standing, usize::MAX]),
+            1..=4 => standing,
+            _ => rng.below(standing + 2),
+        };
+        let needed = squeeze(&self.state, steps).map_or(20, |squeezed| squeezed.record.len());
+        Call::Squeeze { steps, work: room(rng, needed) }
     }
 
     /// A keeping, most often with the bytes that were opened; on pages made by hand often with others that are read as

@@ -72,7 +72,10 @@ fn many_records(kind: Kind) -> impl Iterator<Item = List> {
         let page = Page { used, done: used, saved, ..Page::opened(kind, 0) };
         let replace = Call::Replace { place: 0, count: 0, cells: vec![cell(kind)] };
         let save = |room| Call::Save { arrived: vec![], room };
+        let squeeze = |steps, work| Call::Squeeze { steps, work };
         let turns = [Call::Undo, Call::Undo, Call::Redo, Call::Undo, replace, save(0), Call::Redo, save(1), Call::Undo];
+        let squeezes = [squeeze(2, 2), squeeze(2, 3), squeeze(used / 3 - 4, 3), squeeze(2, 3), Call::Redo, Call::Undo];
+        let turns = turns.into_iter().chain(squeezes);
         calls(State { page, text: vec![0; 5], history: vec![0; LIMIT] }, turns)
     })
 }
@@ -85,6 +88,7 @@ fn on_zeros(kind: Kind, page: Page, cells: usize, words: usize) -> List {
     let moves = [Call::Undo, Call::Redo, replace(1), replace(LIMIT), replace(LIMIT + 1), save(1), save(LIMIT + 1)];
     let append = Call::Replace { place: 0, count: 0, cells: vec![cell(kind)] };
     let start = State { page, text: vec![0; cells], history: vec![0; words] };
-    let keepings = [keep(0, 200), keep(1, 0), keep(LIMIT, 200), keep(LIMIT + 1, 200)];
+    let squeeze = Call::Squeeze { steps: 2, work: LIMIT + 1 };
+    let keepings = [keep(0, 200), keep(1, 0), keep(LIMIT, 200), keep(LIMIT + 1, 200), squeeze];
     calls(start, keepings.clone().into_iter().chain(moves).chain([append, save(0), save(LIMIT + 1)]).chain(keepings))
 }

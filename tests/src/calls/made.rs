@@ -13,6 +13,8 @@ struct Making {
     writable: bool,
     /// The greatest length that its records reach: that of its text buffer, or a little more.
     greatest: usize,
+    /// The most cells that a record removes.
+    removed: usize,
     history: Vec<u32>,
     /// The words and the length at the start, and at the end of each record.
     ends: Vec<(usize, usize)>,
@@ -21,14 +23,39 @@ struct Making {
 /// A draft that starts with a page made by hand. Most are sound.
 pub fn draft(rng: &mut Rng, kind: Kind) -> Draft {
     let (cells, words) = (rng.between(0, 40), rng.between(0, 60));
+    let shape = Shape { cells, opening: cells, words, records: rng.below(12), removed: 4, late: false };
+    page(rng, kind, shape)
+}
+
+/// A draft that starts with a page made by hand on a short text, with many steps, most of which stand.
+pub fn stepped(rng: &mut Rng, kind: Kind) -> Draft {
+    let (cells, words) = (rng.between(1, 14), rng.between(20, 140));
+    let (records, removed) = (rng.between(2, 16), rng.pick(&[1, 1, 4]));
+    page(rng, kind, Shape { cells, opening: cells.min(9), words, records, removed, late: true })
+}
+
+/// What a page made by hand has: so many cells in its text buffer, an opening length of at most so many, so many words
+/// in its history, as many records as fit of so many, each of which removes at most so many cells; and whether most of
+/// them stand.
+struct Shape {
+    cells: usize,
+    opening: usize,
+    words: usize,
+    records: usize,
+    removed: usize,
+    late: bool,
+}
+
+fn page(rng: &mut Rng, kind: Kind, shape: Shape) -> Draft {
+    let Shape { cells, words, removed, .. } = shape;
     let greatest = cells + rng.pick(&[0, 0, 0, 0, 0, 1, 2]);
-    let opening = rng.below(greatest + 1);
+    let opening = rng.below(shape.opening + greatest - cells + 1);
     let ends = vec![(0, opening)];
-    let mut making = Making { kind, writable: rng.one_in(2), greatest, history: Vec::new(), ends };
-    for _ in 0..rng.below(12) {
+    let mut making = Making { kind, writable: rng.one_in(2), greatest, removed, history: Vec::new(), ends };
+    for _ in 0..shape.records {
         making.add_record(rng, words);
     }
-    let (done, length) = rng.pick(&making.ends);
+    let (done, length) = making.end(rng, shape.late);
     let used = making.history.len();
     let mut text = making.contents(rng, length);
     let arrived = kind.write(&text).unwrap_or_default();
@@ -63,11 +90,17 @@ fn any_number(rng: &mut Rng, near: usize) -> u64 {
 }
 
 impl Making {
+    /// One of the ends; a late one, or any.
+    fn end(&self, rng: &mut Rng, late: bool) -> (usize, usize) {
+        let first = if late { self.ends.len() / 2 } else { 0 };
+        rng.pick(&self.ends[first..])
+    }
+
     /// Adds a record, if it fits so many words. A few lie one cell too far, which may be beyond the text.
     fn add_record(&mut self, rng: &mut Rng, words: usize) {
         let (_, length) = self.ends[self.ends.len() - 1];
         let place = rng.below(length + 1);
-        let removed = rng.below(5).min(length - place);
+        let removed = rng.below(self.removed + 1).min(length - place);
         let added = rng.below(5).min(self.greatest - (length - removed));
         if self.history.len() + 3 + removed + added > words {
             return;

@@ -6,6 +6,7 @@ pub mod limit;
 mod made;
 pub mod marks;
 pub mod seeded;
+pub mod squeezes;
 
 use std::fmt::{self, Display, Formatter};
 use std::ops::Range;
@@ -39,6 +40,7 @@ pub enum Sort {
     Redo,
     Save,
     Keep,
+    Squeeze,
 }
 
 /// A change that no call makes.
@@ -166,6 +168,7 @@ impl Display for Call {
             Call::Redo => write!(f, "redo"),
             Call::Save { arrived, room } => write!(f, "save, lent {} and room for {room}", quote(arrived)),
             Call::Keep { arrived, room } => write!(f, "keep, lent {} and room for {room}", quote(arrived)),
+            Call::Squeeze { steps, work } => write!(f, "squeeze {steps}, with {work} words to work in"),
         }
     }
 }

@@ -15,6 +15,8 @@ pub struct Size {
 }
 
 pub const SMALL: Size = Size { cells: 40, words: 60, turns: 14 };
+/// For many steps on a short text.
+const SHORT: Size = Size { cells: 10, words: 200, turns: 20 };
 pub const LARGE: Size = Size { cells: 600, words: 900, turns: 30 };
 
 /// So many lists of calls after an accepted open.
@@ -41,6 +43,40 @@ pub fn kept(seed: u64, kind: Kind, size: Size, count: usize) -> impl Iterator<It
             draft.add_open();
             for _ in 0..rng.between(1, size.turns) {
                 draft.add_actions(rng);
+            }
+        }
+        draft
+    })
+}
+
+/// So many lists of calls and squeezes after an accepted open of a short text; a few keep it in files, and read them.
+pub fn squeezed(seed: u64, kind: Kind, count: usize) -> impl Iterator<Item = List> {
+    seeded(seed, format!("squeezed {}", kind.name()), count, move |rng| stepped(rng, kind))
+}
+
+/// A draft in which a short text is opened and edited in many steps, of which some are squeezed.
+pub(super) fn stepped(rng: &mut Rng, kind: Kind) -> Draft {
+    let mut draft = open(rng, kind, SHORT);
+    for _ in 0..rng.between(4, SHORT.turns) {
+        match rng.below(10) {
+            0..=2 => draft.add_some(rng, Sort::Squeeze, 2),
+            3 => draft.add_actions(rng),
+            4..=6 => draft.add_some(rng, Sort::Replace, 4),
+            _ => draft.add_calls(rng),
+        }
+    }
+    draft
+}
+
+/// So many lists of calls and squeezes on pages made by hand, on which undoing need not give back what was there.
+pub fn squeezed_made(seed: u64, kind: Kind, count: usize) -> impl Iterator<Item = List> {
+    seeded(seed, format!("squeezed made {}", kind.name()), count, move |rng| {
+        let mut draft = made::stepped(rng, kind);
+        for _ in 0..rng.between(1, 8) {
+            match rng.below(4) {
+                0 => draft.add_calls(rng),
+                1 => draft.add_some(rng, Sort::Undo, 3),
+                _ => draft.add_some(rng, Sort::Squeeze, 2),
             }
         }
         draft
@@ -84,8 +120,21 @@ pub fn alone(seed: u64, sort: Sort, count: usize) -> impl Iterator<Item = List> 
     let mut rng = Rng::new(seed, "calls by themselves");
     (0..count).map(move |_| {
         let kind = if let Sort::Open(kind) = sort { kind } else { rng.pick(&Kind::ALL) };
-        some_page(&mut rng, kind).alone(&mut rng, sort)
+        let draft = match sort {
+            Sort::Squeeze => stepped_page(&mut rng, kind),
+            _ => some_page(&mut rng, kind),
+        };
+        draft.alone(&mut rng, sort)
     })
+}
+
+/// A page that most often has many steps.
+fn stepped_page(rng: &mut Rng, kind: Kind) -> Draft {
+    match rng.below(4) {
+        0..=1 => made::stepped(rng, kind),
+        2 => stepped(rng, kind),
+        _ => some_page(rng, kind),
+    }
 }
 
 /// So many of the pages that such calls are made on, with no call.
@@ -240,7 +289,8 @@ mod tests {
     #[test]
     fn calls_by_themselves_are_accepted_now_and_then() {
         let opens = Kind::ALL.map(Sort::Open);
-        for sort in opens.into_iter().chain([Sort::Replace, Sort::Undo, Sort::Redo, Sort::Save]) {
+        let others = [Sort::Replace, Sort::Undo, Sort::Redo, Sort::Save, Sort::Keep, Sort::Squeeze];
+        for sort in opens.into_iter().chain(others) {
             let is_accepted = |list: &List| match &list.moves[..] {
                 [Move::Call(call)] => left(&list.start, call, &vec![0; call.room()]).answer.number == 0,
                 _ => panic!("one call"),

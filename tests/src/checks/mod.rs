@@ -13,6 +13,7 @@ mod page_file;
 mod peers;
 mod reading;
 mod spelling;
+mod squeeze;
 mod stepping;
 mod subject;
 mod tally;
@@ -42,6 +43,7 @@ pub fn parts(settings: Settings) -> Vec<Part> {
     parts.push(Part::new("mailbox-spelling", move |report| spelling::run(report, seed)));
     parts.extend(page::parts(seed));
     parts.extend(page_file::parts(seed));
+    parts.extend(squeeze::parts(seed));
     parts.extend(memory::parts(settings));
     parts.extend(desk::parts(seed));
     parts.push(Part::aside("peers", move |report| peers::run(report, seed)));

@@ -5,6 +5,7 @@ pub mod jp2;
 pub mod mailbox;
 pub mod page;
 pub mod page_file;
+pub mod squeeze;
 pub mod utf7;
 
 use std::fmt::{self, Display, Formatter, UpperHex};

@@ -70,7 +70,7 @@ fn save(arrived: &[u8], room: usize) -> Call {
 
 /// What a call leaves that fills the whole of its output, or none of it.
 fn leaves(number: u32, place: usize, state: &State, output: &[u8]) -> Left {
-    Left { answer: Answer { number, place }, state: state.clone(), output: output.to_vec() }
+    Left { answer: Answer { number, place }, state: state.clone(), output: output.to_vec(), work: vec![] }
 }
 
 /// A call after which the page is as it was saved.
@@ -301,7 +301,8 @@ fn question(name: &'static str, state: State, number: u32, place: usize, unchang
 pub fn judged() -> Vec<Judged> {
     let not_sound = NOT_SOUND.iter().flat_map(|&(name, changes)| {
         let keep = Call::Keep { arrived: P2.to_vec(), room: 400 };
-        let calls = [Call::Undo, Call::Redo, replace(0, 0, &[]), save(P2, 9), keep];
+        let squeeze = Call::Squeeze { steps: 2, work: 20 };
+        let calls = [Call::Undo, Call::Redo, replace(0, 0, &[]), save(P2, 9), keep, squeeze];
         calls.map(|call| judge(name, with(changes), call, 14, 0))
     });
     not_sound.chain(sound_pages()).chain(replacements()).collect()

@@ -2,6 +2,7 @@
 
 pub mod page;
 pub mod page_file;
+pub mod squeeze;
 pub mod steps;
 
 use crate::second::Answer;

@@ -1,6 +1,7 @@
 //! The calls on a page.
 
 use super::page_file::{self, KEEP};
+use super::squeeze::{squeeze, SQUEEZE};
 use super::RawAnswer;
 use crate::second::page::{mark_of, Page};
 use crate::second::{Answer, Call, Kind};
@@ -124,6 +125,7 @@ pub fn name(call: &Call) -> &'static str {
         Call::Redo => REDO,
         Call::Save { .. } => SAVE,
         Call::Keep { .. } => KEEP,
+        Call::Squeeze { .. } => SQUEEZE,
     }
 }
 
@@ -142,7 +144,14 @@ pub const SAVE: &str = "qalithonda_save";
 pub const UNCHANGED: &str = "qalithonda_unchanged";
 
 /// Makes a call, and gives its answer and the page that it gives back.
-pub fn make(call: &Call, page: Page, text: &mut [u32], history: &mut [u32], output: &mut [u8]) -> (Answer, Page) {
+pub fn make(
+    call: &Call,
+    page: Page,
+    text: &mut [u32],
+    history: &mut [u32],
+    output: &mut [u8],
+    work: &mut [u32],
+) -> (Answer, Page) {
     match call {
         Call::Open { kind, arrived } => open(*kind, arrived, text, history),
         Call::Replace { place, count, cells } => replace(page, *place, *count, cells, text, history),
@@ -151,6 +160,7 @@ pub fn make(call: &Call, page: Page, text: &mut [u32], history: &mut [u32], outp
         Call::Save { arrived, .. } => save(page, text, history, arrived, output),
         // It gives no page back: the caller goes on with its own.
         Call::Keep { arrived, .. } => (page_file::keep(page, text, history, arrived, output), page),
+        Call::Squeeze { steps, .. } => squeeze(page, *steps, text, history, work),
     }
 }
 

@@ -12,9 +12,18 @@ pub enum Call {
     Redo,
     Save { arrived: Vec<u8>, room: usize },
     Keep { arrived: Vec<u8>, room: usize },
+    Squeeze { steps: usize, work: usize },
 }
 
 impl Call {
+    /// The length of the work buffer lent to it.
+    pub fn work(&self) -> usize {
+        match self {
+            Call::Squeeze { work, .. } => *work,
+            _ => 0,
+        }
+    }
+
     /// The length of the output lent to it.
     pub fn room(&self) -> usize {
         match self {

@@ -14,6 +14,11 @@ pub struct Step {
 }
 
 impl Step {
+    /// "3 for each standing step and one for each cell that it removes or adds"
+    pub fn words(&self) -> usize {
+        3 + self.count + self.cells.len()
+    }
+
     /// The text with this step done.
     fn done_on(&self, text: &[u32]) -> Vec<u32> {
         let before = text.iter().take(self.place);
@@ -68,13 +73,37 @@ impl Ledger {
             Call::Redo if !self.undone.is_empty() => self.standing.push(self.undone.remove(0)),
             // "an accepted save sets it to the words done"
             Call::Save { .. } => self.saved = Some(done),
+            Call::Squeeze { steps, .. } => self.squeeze(*steps),
             Call::Redo | Call::Open { .. } | Call::Keep { .. } => {}
         }
     }
 
+    /// Order 8: "an accepted one puts that one step into the ledger for the folded ones." "A saved mark, the ledger's
+    /// too, strictly inside the fold becomes none; one at its end or later moves along."
+    fn squeeze(&mut self, steps: usize) {
+        let (fold, end) = (self.fold(steps), self.words_of(steps));
+        self.saved = match self.saved {
+            Some(mark) if mark >= end => Some(mark - end + fold.words()),
+            mark => mark.filter(|&mark| mark == 0),
+        };
+        self.standing.splice(..steps.min(self.standing.len()), [fold]);
+    }
+
+    /// The step that stands for the oldest ones: "at place 0 it removes the whole opening text and adds the whole text
+    /// as it was after those k".
+    pub fn fold(&self, steps: usize) -> Step {
+        let cells = self.standing.iter().take(steps).fold(self.reading.clone(), |text, step| step.done_on(&text));
+        Step { place: 0, count: self.reading.len(), cells }
+    }
+
+    /// The words of the oldest steps.
+    pub fn words_of(&self, steps: usize) -> usize {
+        self.standing.iter().take(steps).map(Step::words).sum()
+    }
+
     /// "The ledger's words done are 3 for each standing step and one for each cell that it removes or adds."
     pub fn words_done(&self) -> usize {
-        self.standing.iter().map(|step| 3 + step.count + step.cells.len()).sum()
+        self.words_of(self.standing.len())
     }
 
     /// '"unchanged" exactly when the mark equals the words done'
@@ -164,6 +193,32 @@ mod tests {
         assert_eq!(after(replace(0, 1, &[]), true), (13, None, false));
         assert_eq!(after(Call::Undo, true), (9, None, false));
         assert_eq!(after(save, true), (9, Some(9), true));
+    }
+
+    #[test]
+    fn a_squeeze_puts_one_step_for_the_folded_ones() {
+        let mut ledger = Ledger::new(Kind::Utf7Body, b"abc").expect("a whole text");
+        let steps = [replace(0, 1, &[0x58]), replace(1, 2, &[0x59]), replace(2, 0, &[0x5A]), replace(0, 3, &[])];
+        steps.iter().for_each(|step| ledger.hear(step, true));
+        ledger.hear(&Call::Undo, true);
+        let squeezed = |mark, steps, accepted| {
+            let mut ledger = Ledger { saved: mark, ..ledger.clone() };
+            let text = ledger.text();
+            ledger.hear(&Call::Squeeze { steps, work: 0 }, accepted);
+            assert_eq!((ledger.text(), ledger.undone.len()), (text, 1));
+            (ledger.standing.len(), ledger.standing[0].clone(), ledger.saved)
+        };
+        // The steps have 5, 6 and 4 words, and the undone one 6; the folds 3 + 3 + 2 and 3 + 3 + 3.
+        let two = Step { place: 0, count: 3, cells: vec![0x58, 0x59] };
+        let three = Step { place: 0, count: 3, cells: vec![0x58, 0x59, 0x5A] };
+        let marks = [(None, None), (Some(0), Some(0)), (Some(5), None), (Some(11), Some(8)), (Some(15), Some(12))];
+        for (before, after) in marks.into_iter().chain([(Some(21), Some(18))]) {
+            assert_eq!(squeezed(before, 2, true), (2, two.clone(), after));
+        }
+        for (before, after) in [(Some(11), None), (Some(15), Some(9)), (Some(21), Some(15))] {
+            assert_eq!(squeezed(before, 3, true), (1, three.clone(), after));
+        }
+        assert_eq!(squeezed(Some(5), 2, false), (3, Step { place: 0, count: 1, cells: vec![0x58] }, Some(5)));
     }
 
     #[test]

@@ -4,7 +4,8 @@
 
 use std::fmt::{self, Display, Formatter};
 
-use super::{outcome, page_file, refuse, within_limit, Answer, Call, Elements, Kind};
+use super::squeeze::{squeeze, Squeezed};
+use super::{outcome, page_file, refuse, within_limit, Answer, Call, Elements, Kind, Outcome};
 
 /// "A page has a kind (..), an opening length, a length, words used and words done." The kind is a number, which may be
 /// that of no kind. Order 5: "The page gains a saved mark: the words done at the last accepted save, or none."
@@ -43,12 +44,14 @@ pub struct State {
     pub history: Vec<u32>,
 }
 
-/// What a call leaves: its answer, the page with both buffers, and the whole of the output lent to it.
+/// What a call leaves: its answer, the page with both buffers, and the whole of the output and of the work buffer lent
+/// to it.
 #[derive(Clone, Debug, PartialEq, Eq)]
 pub struct Left {
     pub answer: Answer,
     pub state: State,
     pub output: Vec<u8>,
+    pub work: Vec<u32>,
 }
 
 impl Left {
@@ -74,9 +77,15 @@ impl Display for Asked {
     }
 }
 
-/// What a call leaves that is lent this state and this output.
+/// What a call leaves that is lent this state and this output, and a work buffer of zeros.
 pub fn left(state: &State, call: &Call, output: &[u8]) -> Left {
-    match call {
+    left_of_all(state, call, output, &vec![0; call.work()])
+}
+
+/// What a call leaves that is lent this state, this output and this work buffer.
+pub fn left_of_all(state: &State, call: &Call, output: &[u8], work: &[u32]) -> Left {
+    let left = match call {
+        Call::Squeeze { steps, .. } => return squeezed(state, squeeze(state, *steps), output, work),
         Call::Open { kind, arrived } => {
             let blank = State { page: Page::refused(*kind), ..state.clone() };
             edited(&blank, open(&blank, *kind, arrived), output)
@@ -89,12 +98,28 @@ pub fn left(state: &State, call: &Call, output: &[u8]) -> Left {
             // Order 5: "an accepted save sets it to the words done", and "Save now gives a page back."
             let mark = if saved.answer.number == 0 { Some(state.page.done) } else { state.page.saved };
             let state = State { page: Page { saved: mark, ..state.page }, ..state.clone() };
-            Left { answer: saved.answer, state, output: saved.output }
+            Left { answer: saved.answer, state, output: saved.output, work: vec![] }
         }
         Call::Keep { arrived, .. } => {
             let kept = outcome(&page_file::keep(state, arrived), output);
-            Left { answer: kept.answer, state: state.clone(), output: kept.output }
+            Left { answer: kept.answer, state: state.clone(), output: kept.output, work: vec![] }
         }
+    };
+    Left { work: work.to_vec(), ..left }
+}
+
+/// What a squeeze leaves. Order 8: "The new words used are answered." "9 when a lent work buffer, of any length, cannot
+/// hold the new record; accepted, that record stands first in it, its rest untouched."
+fn squeezed(before: &State, after: Result<Squeezed, Answer>, output: &[u8], work: &[u32]) -> Left {
+    let (record, state) = match after {
+        Ok(Squeezed { record, state }) => (Ok(record), state),
+        Err(answer) => (Err(answer), before.clone()),
+    };
+    let Outcome { answer, output: work } = outcome(&record, work);
+    let left = |answer, state| Left { answer, state, output: output.to_vec(), work };
+    match answer.number {
+        0 => left(Answer { number: 0, place: state.page.used }, state),
+        _ => left(answer, before.clone()),
     }
 }
 
@@ -115,7 +140,7 @@ fn edited(before: &State, after: Result<State, Answer>, output: &[u8]) -> Left {
         // "A refusal changes no page and no buffer."
         Err(answer) => (answer, before.clone()),
     };
-    Left { answer, state, output: output.to_vec() }
+    Left { answer, state, output: output.to_vec(), work: vec![] }
 }
 
 /// "A step's record is: place, count removed, count added, the removed cells, the added cells."
@@ -127,18 +152,18 @@ pub struct Record {
 }
 
 impl Record {
-    fn words(&self) -> Vec<u32> {
+    pub fn words(&self) -> Vec<u32> {
         let counts = [self.place, self.removed.len(), self.added.len()].map(|number| number as u32);
         [&counts, &self.removed[..], &self.added].concat()
     }
 
     /// The text with this step done.
-    fn done_on(&self, text: &[u32]) -> Vec<u32> {
+    pub fn done_on(&self, text: &[u32]) -> Vec<u32> {
         [&text[..self.place], &self.added, &text[self.place + self.removed.len()..]].concat()
     }
 
     /// The step that takes this one back.
-    fn reversed(&self) -> Record {
+    pub fn reversed(&self) -> Record {
         Record { place: self.place, removed: self.added.clone(), added: self.removed.clone() }
     }
 }
@@ -212,7 +237,7 @@ fn reached(opening: usize, records: &[Record]) -> Option<Vec<(usize, usize)>> {
 /// What a sound page says to a call that is lent a list of this length, or the refusal that comes before all others:
 /// "16 comes first: any lent text or list (cells to add, save's arrived bytes even if unused), text buffer or history
 /// longer than 65,536". "14 | page not sound | 0"
-fn accepted_page(state: &State, list: usize) -> Result<Sound, Answer> {
+pub(super) fn accepted_page(state: &State, list: usize) -> Result<Sound, Answer> {
     all_within_limit(state, list)?;
     sound(state).ok_or(Answer { number: 14, place: 0 })
 }
@@ -317,10 +342,11 @@ pub fn save(state: &State, arrived: &[u8]) -> Elements<u8> {
 mod tests {
     use super::*;
     use crate::examples::page::{courses, judged, questions, Turn};
+    use crate::examples::squeeze;
 
     #[test]
     fn follows_the_courses() {
-        for course in courses() {
+        for course in courses().into_iter().chain(squeeze::courses()) {
             let mut state = course.start.clone();
             for Turn { call, left: expected, unchanged } in &course.turns {
                 let found = left(&state, call, &vec![0; call.room()]);
@@ -341,7 +367,7 @@ mod tests {
 
     #[test]
     fn answers_the_examples() {
-        for example in judged() {
+        for example in judged().into_iter().chain(squeeze::judged()) {
             let output = vec![0; example.call.room()];
             let found = left(&example.state, &example.call, &output);
             assert_eq!(found.answer, example.answer, "{example}");

@@ -8,6 +8,7 @@ use crate::guarded::{Guarded, Side};
 use crate::lent::filled;
 use crate::library::page as library;
 use crate::library::page_file::{self, KEEP, READ};
+use crate::library::squeeze::{squeeze, SQUEEZE};
 use crate::report::{Report, Statuses};
 use crate::rng::Rng;
 use crate::second::page::{Left, State};
@@ -24,6 +25,7 @@ struct Memory {
     arrived: Guarded,
     output: Guarded,
     file: Guarded,
+    work: Guarded,
 }
 
 pub fn run(report: &mut Report, settings: Settings) {
@@ -36,6 +38,7 @@ pub fn run(report: &mut Report, settings: Settings) {
         (library::REDO, Sort::Redo),
         (library::SAVE, Sort::Save),
         (KEEP, Sort::Keep),
+        (SQUEEZE, Sort::Squeeze),
     ];
     for (function, sort) in opens.into_iter().chain(others) {
         report.check(&name(function), WHAT, |statuses| {
@@ -73,8 +76,8 @@ fn run_files(report: &mut Report, memory: &mut Memory, Settings { seed, rounds }
 
 impl Memory {
     fn new() -> Memory {
-        let [text, history, cells, arrived, output, file] = std::array::from_fn(|_| Guarded::new());
-        Memory { text, history, cells, arrived, output, file }
+        let [text, history, cells, arrived, output, file, work] = std::array::from_fn(|_| Guarded::new());
+        Memory { text, history, cells, arrived, output, file, work }
     }
 
     /// Makes the calls of a list, and asks the question after each.
@@ -127,7 +130,7 @@ impl Memory {
 
     /// Makes a call: what it has no business to write to is lent to be read.
     fn make(&mut self, state: &State, call: &Call, side: Side) -> Left {
-        let Memory { text, history, cells, arrived, output, .. } = self;
+        let Memory { text, history, cells, arrived, output, work, .. } = self;
         let State { page, text: all_cells, history: words } = state;
         let (answer, page) = match call {
             Call::Open { kind, arrived: bytes } => {
@@ -152,9 +155,13 @@ impl Memory {
                 let (text, history) = (text.lend_to_read(all_cells, side), history.lend_to_read(words, side));
                 (page_file::keep(*page, text, history, bytes, output), *page)
             }
+            Call::Squeeze { steps, work: room } => {
+                let work = work.lend(&filled(*room), side);
+                squeeze(*page, *steps, text.lend_to_read(all_cells, side), history.lend(words, side), work)
+            }
         };
         let state =
             State { page, text: text.contents(all_cells.len(), side), history: history.contents(words.len(), side) };
-        Left { answer, state, output: output.contents(call.room(), side) }
+        Left { answer, state, output: output.contents(call.room(), side), work: work.contents(call.work(), side) }
     }
 }

@@ -166,6 +166,7 @@ impl Opened {
             // else they are accepted."
             Call::Undo => number_is(if standing.is_empty() { 13 } else { 0 }, left),
             Call::Redo => number_is(if undone.is_empty() { 13 } else { 0 }, left),
+            Call::Squeeze { steps, work } => number_is(self.squeezing(*steps, *work), left),
             // "An accepted save gives the bytes lent to it as arrived if nothing stands, otherwise the writing of the
             // ledger's text in the page's kind."
             Call::Save { arrived, .. } if left.answer.number == 0 => {
@@ -177,6 +178,18 @@ impl Opened {
                 }
             }
             _ => Ok(()),
+        }
+    }
+
+    /// The number that a squeeze gives by the ledger's own words: "11 (..) for k under 2 or over the standing steps, 19
+    /// (..) when the words would not become fewer, 9 when a lent work buffer (..) cannot hold the new record".
+    fn squeezing(&self, steps: usize, work: usize) -> u32 {
+        let words = self.ledger.fold(steps).words();
+        match steps {
+            _ if steps < 2 || steps > self.ledger.standing.len() => 11,
+            _ if words >= self.ledger.words_of(steps) => 19,
+            _ if words > work => 9,
+            _ => 0,
         }
     }
 
@@ -245,7 +258,9 @@ mod tests {
 
     /// Whether demand 3 holds of a program on seeded lists.
     fn holds_of_program(program: &Program) -> bool {
-        let lists = |kind| seeded::opened(1, kind, seeded::SMALL, 100).chain(seeded::kept(1, kind, seeded::SMALL, 50));
+        let opened = |kind| seeded::opened(1, kind, seeded::SMALL, 100);
+        let lists =
+            |kind| opened(kind).chain(seeded::kept(1, kind, seeded::SMALL, 50)).chain(seeded::squeezed(1, kind, 50));
         Kind::ALL.into_iter().flat_map(lists).all(|list| follow(&list, program).is_ok())
     }
 
@@ -278,7 +293,7 @@ mod tests {
     }
 
     fn accept(state: State) -> Result<Left, String> {
-        Ok(Left { answer: Answer { number: 0, place: state.page.length }, state, output: vec![] })
+        Ok(Left { answer: Answer { number: 0, place: state.page.length }, state, output: vec![], work: vec![] })
     }
 
     #[test]
@@ -415,6 +430,52 @@ mod tests {
             |page| page.done == 0,
         ];
         assert!(others.into_iter().all(|other| !holds_of_answer(other)));
+    }
+
+    /// Whether demand 3 holds of a program whose accepted squeezes leave this instead.
+    fn holds_of_squeeze(change: fn(&State, &mut Left)) -> bool {
+        holds(|state, call| {
+            let mut left = second(state, call);
+            if matches!(call, Call::Squeeze { .. }) && left.answer.number == 0 {
+                change(state, &mut left);
+            }
+            Ok(left)
+        })
+    }
+
+    #[test]
+    fn a_squeeze_keeps_the_later_steps_the_texts_and_moves_the_mark() {
+        assert!(holds_of_squeeze(|_, _| {}));
+        let others: [fn(&State, &mut Left); 7] = [
+            |before, left| {
+                *left = Left { answer: Answer { number: 11, place: 0 }, state: before.clone(), ..left.clone() }
+            },
+            |before, left| left.state = before.clone(),
+            |_, left| left.state.text.reverse(),
+            |_, left| left.state.page.saved = None,
+            |before, left| left.state.page.saved = before.page.saved,
+            |before, left| left.state.page.saved = before.page.saved.map(|_| left.state.page.done),
+            |_, left| {
+                let State { page, history, .. } = &mut left.state;
+                history[page.done..].fill(0);
+                page.used = page.done;
+                page.saved = page.saved.filter(|&mark| mark <= page.done);
+            },
+        ];
+        assert!(others.into_iter().all(|other| !holds_of_squeeze(other)));
+    }
+
+    #[test]
+    fn a_fold_of_one_step_more_is_not() {
+        assert!(!holds(|state, call| match call {
+            Call::Squeeze { steps: steps @ 2.., work } if *steps < 1_000 => {
+                match second(state, &Call::Squeeze { steps: steps + 1, work: *work }) {
+                    left if left.answer.number == 0 => Ok(left),
+                    _ => Ok(second(state, call)),
+                }
+            }
+            _ => Ok(second(state, call)),
+        }));
     }
 
     #[test]

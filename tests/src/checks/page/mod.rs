@@ -10,6 +10,7 @@ use crate::formats;
 use crate::lent::{filled, Lent};
 use crate::library::page as library;
 use crate::library::page_file::KEEP;
+use crate::library::squeeze::SQUEEZE;
 use crate::parts::Part;
 use crate::report::{Report, Statuses};
 use crate::rng::Rng;
@@ -83,6 +84,7 @@ pub fn expect_statuses(report: &mut Report, kind: Kind) {
     report.expect_statuses(library::SAVE, &[0, 9, 10, 14, 15, 16]);
     report.expect_statuses(library::UNCHANGED, &[0, 14, 16]);
     report.expect_statuses(KEEP, &[0, 9, 14, 15, 16]);
+    report.expect_statuses(SQUEEZE, &[0, 9, 11, 14, 16, 19]);
 }
 
 /// A program that keeps a page: how a call is made on it, how it is asked the question, and how it reads a file into
@@ -98,19 +100,21 @@ pub const BUILT: Program = Program { make: &built, ask: &built_asked, read: &fil
 
 /// What the second program leaves, lent this state.
 fn second(state: &State, call: &Call) -> Left {
-    page::left(state, call, &filled::<u8>(call.room()))
+    page::left_of_all(state, call, &filled::<u8>(call.room()), &filled::<u32>(call.work()))
 }
 
 /// What the library leaves, lent this state; or what it did to the memory beside that.
 pub fn built(state: &State, call: &Call) -> Result<Left, String> {
     let (mut text, mut history) = (Lent::new(&state.text), Lent::new(&state.history));
-    let mut output = Lent::new(&filled(call.room()));
-    let (answer, page) = library::make(call, state.page, text.contents(), history.contents(), output.contents());
+    let (mut output, mut work) = (Lent::new(&filled(call.room())), Lent::new(&filled(call.work())));
+    let buffers = (text.contents(), history.contents());
+    let (answer, page) = library::make(call, state.page, buffers.0, buffers.1, output.contents(), work.contents());
     let beside = |what: &'static str| move |difference| format!("beside the {what}, {difference}");
     let text = text.take_back().map_err(beside("text buffer"))?;
     let history = history.take_back().map_err(beside("history"))?;
     let output = output.take_back().map_err(beside("output"))?;
-    Ok(Left { answer, state: State { page, text, history }, output })
+    let work = work.take_back().map_err(beside("work buffer"))?;
+    Ok(Left { answer, state: State { page, text, history }, output, work })
 }
 
 /// What the library answers to the question, lent this state; or what it did to the memory, which it is to leave.
@@ -164,7 +168,7 @@ fn follow_reading(reading: &Reading, kept: &[Vec<u8>], statuses: &mut Statuses) 
 }
 
 /// Makes the calls of an example, and compares what each leaves with what the paper says.
-fn follow_course(course: &Course, statuses: &mut Statuses) -> Result<(), String> {
+pub fn follow_course(course: &Course, statuses: &mut Statuses) -> Result<(), String> {
     let mut state = &course.start;
     for Turn { call, left, unchanged } in &course.turns {
         let after = |difference| format!("after {call}, {difference}");
@@ -177,7 +181,7 @@ fn follow_course(course: &Course, statuses: &mut Statuses) -> Result<(), String>
 }
 
 /// Compares the answer of a call with that of the example, and all that it leaves with what the second program leaves.
-fn compare_judged(example: &Judged, statuses: &mut Statuses) -> Result<(), String> {
+pub fn compare_judged(example: &Judged, statuses: &mut Statuses) -> Result<(), String> {
     compare_answered(&example.state, &example.call, example.answer, statuses)
 }
 
@@ -198,7 +202,8 @@ fn compare(state: &State, call: &Call, expected: &Left, statuses: &mut Statuses)
     let within = |what: &'static str| move |difference| format!("in the {what}, {difference}");
     same(&expected.state.text, &found.state.text, 0).map_err(within("text buffer"))?;
     same(&expected.state.history, &found.state.history, 0).map_err(within("history"))?;
-    same(&expected.output, &found.output, 0).map_err(within("output"))
+    same(&expected.output, &found.output, 0).map_err(within("output"))?;
+    same(&expected.work, &found.work, 0).map_err(within("work buffer"))
 }
 
 /// Asks the library the question, and compares what it gives with what it is to give.
