@@ -16,7 +16,7 @@ use Rattle.ledger.specs.declared.Page.{Page}
 use Rattle.host_numbers.specs.Numbers.{verdictIn}
 use Rattle.host_numbers.specs.declared.Numbers.{Numbers}
 use Rattle.host_pages.specs.Pages.{kindOf, kindNumber, never, markIn, markNumber, pageIn, hostPage}
-use Rattle.host_pages.specs.Pages.{HostOutcome, hosted, unsound, noKind, onPage, findsSaved}
+use Rattle.host_pages.specs.Pages.{HostOutcome, hosted, unsound, noKind, onPage, findsOutput}
 use Rattle.host_pages.specs.Pages.{HostReply, inReply, askedOn, hears}
 use Rattle.host_pages.specs.declared.HostPage.{HostPage}
 use Rattle.host_pages.specs.declared.HostEdited.{HostEdited}
@@ -26,7 +26,7 @@ use Rattle.host_pages.specs.declared.HostAsked.{HostAsked}
 pub edited-on :
     (r : HostEdited) (e : Edited) (text history out : List ℕ) (o : Outcome) →
     (verdictIn (r .answer) ≡ inNumbers (e .answer)) × (r .page ≡ hostPage (e .page)) →
-    keeps e text history out ≡ o → findsSaved r text history out ≡ hosted o
+    keeps e text history out ≡ o → findsOutput r text history out ≡ hosted o
 edited-on r e text history out o h q =
     (λ i. record { verdict = h .0 i; page = h .1 i; text = text; history = history; output = out }) ∙ ap hosted q
 
@@ -60,14 +60,14 @@ module _ (p : HostPage) (text history output list : List ℕ) (call : State → 
   -- a page of no kind is refused
   pub none-found :
       (n : Numbers) → 2 < p .kind → verdictIn n ≡ unsound list text history →
-      findsSaved (record { answer = n; page = p }) text history output ≡ asked
+      findsOutput (record { answer = n; page = p }) text history output ≡ asked
   none-found n h e =
       (λ i. record { verdict = e i; page = p; text = text; history = history; output = output }) ∙ on-none h
 
   pub edited-found :
       (r : HostEdited) (e : Edited) (page : Page) (text' history' out : List ℕ) → p .kind ≤ 2 → page ≡ pageIn p →
       (verdictIn (r .answer) ≡ inNumbers (e .answer)) × (r .page ≡ hostPage (e .page)) →
-      keeps e text' history' out ≡ call (stateOf page text history) → findsSaved r text' history' out ≡ asked
+      keeps e text' history' out ≡ call (stateOf page text history) → findsOutput r text' history' out ≡ asked
   edited-found r e page text' history' out h q w f = edited-on r e text' history' out _ w f ∙ on-kind h page q
 
 -- the question, likewise

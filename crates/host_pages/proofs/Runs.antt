@@ -20,8 +20,8 @@ use Rattle.editor.proofs.Promises.{Kept, kept-call, kept-calls, promised}
 use Rattle.ledger.specs.Words.{Entry, inWords, sizes}
 use Rattle.ledger.specs.Parts.{markWithin, cutIn, ends}
 use Rattle.ledger.specs.Page.{State, stateOf, Outcome}
-use Rattle.ledger.specs.Calls.{openOf, replaceOf, undoOf, redoOf, saveOf, unchangedOf}
-use Rattle.ledger.specs.Ledger.{Ledger, Call, replace, undo, redo, save, opened, fed}
+use Rattle.ledger.specs.Calls.{openOf, replaceOf, undoOf, redoOf, saveOf, squeezeOf, unchangedOf}
+use Rattle.ledger.specs.Ledger.{Ledger, Call, replace, undo, redo, save, squeeze, opened, fed}
 use Rattle.ledger.specs.Running.{outcomeOf, after, heard}
 use Rattle.ledger.specs.Demand.{Promised}
 use Rattle.ledger.proofs.Words.{length-words}
@@ -93,6 +93,7 @@ module _ (s : State) (own : markIn (markNumber (s .page .saved)) ≡ s .page .sa
   host-call undo = on-own [] [] undoOf
   host-call redo = on-own [] [] redoOf
   host-call (save arrived out) = on-own out arrived (λ x. saveOf x arrived out)
+  host-call (squeeze k work) = on-own work [] (λ x. squeezeOf x k work)
 
 -- along the calls of demand 3
 module _ {arrived : List ℕ} where
@@ -157,6 +158,7 @@ host-refused-same h (replace place count cells) = stays-on h cells (replace plac
 host-refused-same h undo = stays-on h [] undo
 host-refused-same h redo = stays-on h [] redo
 host-refused-same h (save arrived out) = stays-on h arrived (save arrived out)
+host-refused-same h (squeeze k work) = stays-on h [] (squeeze k work)
 
 pub host-open-refused : HostOpenRefused
 unfolding markNumber

@@ -90,14 +90,14 @@ unfoldable pub onPage : HostPage → List ℕ → List ℕ → List ℕ → List
 onPage p text history output list call =
     cond (ltb 2 (p .kind)) (noKind p text history output list) (hosted (call (stateOf (pageIn p) text history)))
 
--- what a host is given by save, and finds in its buffers
-abbrev pub findsSaved : HostEdited → List ℕ → List ℕ → List ℕ → HostOutcome
-findsSaved r text history out =
+-- what a host is given by save or squeeze, and finds in its buffers; the output is save's, or squeeze's work buffer
+abbrev pub findsOutput : HostEdited → List ℕ → List ℕ → List ℕ → HostOutcome
+findsOutput r text history out =
     record { verdict = verdictIn (r .answer); page = r .page; text = text; history = history; output = out }
 
 -- by the other calls
 abbrev pub finds : HostEdited → List ℕ → List ℕ → HostOutcome
-finds r text history = findsSaved r text history []
+finds r text history = findsOutput r text history []
 
 -- what the question answers a host: 1 for unchanged, else 0
 pub record HostReply : Type 0 where

@@ -8,9 +8,9 @@ use Rattle.answer.specs.Answer.{Verdict, numbered}
 use Rattle.codec.specs.declared.Kind.{Kind}
 use Rattle.editor.specs.Editor.{outputOf}
 use Rattle.ledger.specs.Page.{State}
-use Rattle.ledger.specs.Calls.{openOf, replaceOf, undoOf, redoOf, saveOf}
+use Rattle.ledger.specs.Calls.{openOf, replaceOf, undoOf, redoOf, saveOf, squeezeOf}
 use Rattle.ledger.specs.Words.{inWords}
-use Rattle.ledger.specs.Ledger.{Ledger, Call, replace, undo, redo, save, opened, fed, unchangedBy}
+use Rattle.ledger.specs.Ledger.{Ledger, Call, replace, undo, redo, save, squeeze, opened, fed, unchangedBy}
 use Rattle.ledger.specs.Demand.{Promised}
 use Rattle.host_pages.specs.Pages.{kindNumber, never, markIn, hostPage, HostOutcome, hosted, onPage, askedOn}
 use Rattle.host_pages.specs.declared.HostPage.{HostPage}
@@ -38,6 +38,7 @@ hostOutcome h (replace place count cells) =
 hostOutcome h undo = onPage (h .page) (h .text) (h .history) [] [] undoOf
 hostOutcome h redo = onPage (h .page) (h .text) (h .history) [] [] redoOf
 hostOutcome h (save arrived out) = onPage (h .page) (h .text) (h .history) out arrived (λ s. saveOf s arrived out)
+hostOutcome h (squeeze k work) = onPage (h .page) (h .text) (h .history) work [] (λ s. squeezeOf s k work)
 
 -- each call is given the page and the buffers as the last one left them
 abbrev pub hostAfter : HostState → List Call → HostState

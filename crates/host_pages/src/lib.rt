@@ -1,4 +1,4 @@
-// The page for hosts: its five calls and the question, with the kind and the mark as numbers.
+// The page for hosts: its six calls and the question, with the kind and the mark as numbers.
 use answer::Answer;
 use answer::Refusal;
 use codec::Kind;
@@ -14,10 +14,10 @@ ghost use lib.Dec.{ltb};
 ghost use mathlib.Core.List.{[]};
 ghost use Rattle.answer.specs.Answer.{inNumbers, numbered, limit, tooLong};
 ghost use Rattle.ledger.specs.Page.{replies};
-ghost use Rattle.ledger.specs.Calls.{openOf, replaceOf, undoOf, redoOf, saveOf};
+ghost use Rattle.ledger.specs.Calls.{openOf, replaceOf, undoOf, redoOf, saveOf, squeezeOf};
 ghost use Rattle.host_numbers.specs.Numbers.{verdictIn};
 ghost use Rattle.host_pages.specs.Pages.{kindOf, kindNumber, markIn, markNumber, pageIn, hostPage};
-ghost use Rattle.host_pages.specs.Pages.{hosted, onPage, finds, findsSaved, inReply, askedOn, hears};
+ghost use Rattle.host_pages.specs.Pages.{hosted, onPage, finds, findsOutput, inReply, askedOn, hears};
 
 // The number of no mark: C's SIZE_MAX.
 pub const NEVER: usize = 18446744073709551615;
@@ -33,7 +33,7 @@ pub struct HostPage {
     pub saved: usize,
 }
 
-// What open, replace, undo, redo and save give back.
+// What open, replace, undo, redo, save and squeeze give back.
 #[repr(C)]
 pub struct HostEdited {
     pub answer: Numbers,
@@ -214,7 +214,7 @@ pub fn save(
     arrived: &[u8],
     out: &mut [u8],
 ) -> HostEdited
-    ensures { λ r. ⌜ findsSaved r (now (text .entry)) (now (history .entry)) (now (out .exit))
+    ensures { λ r. ⌜ findsOutput r (now (text .entry)) (now (history .entry)) (now (out .exit))
         ≡ onPage p (now (text .entry)) (now (history .entry)) (now (out .entry)) (now (arrived .entry))
         (λ s. saveOf s (now (arrived .entry)) (now (out .entry))) ⌝ }
 {
@@ -223,6 +223,25 @@ pub fn save(
         return HostEdited { answer, page: p };
     }
     edited(page::save(page_in(p), text, history, arrived, out))
+}
+
+// The work buffer may have any length: 16 does not look at it.
+pub fn squeeze(
+    p: HostPage,
+    k: usize,
+    text: &[u32],
+    history: &mut [u32],
+    work: &mut [u32],
+) -> HostEdited
+    ensures { λ r. ⌜ findsOutput r (now (text .entry)) (now (history .exit)) (now (work .exit))
+        ≡ onPage p (now (text .entry)) (now (history .entry)) (now (work .entry)) []
+        (λ s. squeezeOf s k (now (work .entry))) ⌝ }
+{
+    if 2 < p.kind {
+        let answer = no_kind(0, text.len(), history.len());
+        return HostEdited { answer, page: p };
+    }
+    edited(squeeze::squeeze(page_in(p), k, text, history, work))
 }
 
 pub fn unchanged(p: HostPage, text: &[u32], history: &[u32]) -> HostAsked

@@ -1,13 +1,13 @@
-// The page for hosts: its five calls and the question, with the kind and the mark as numbers.
+// The page for hosts: its six calls and the question, with the kind and the mark as numbers.
 use codec::Kind;
 use host_pages::HostAsked;
 use host_pages::HostEdited;
 use host_pages::HostPage;
 ghost use mathlib.Core.Path.{_≡_};
 ghost use mathlib.Core.List.{[]};
-ghost use Rattle.ledger.specs.Calls.{openOf, replaceOf, undoOf, redoOf, saveOf};
+ghost use Rattle.ledger.specs.Calls.{openOf, replaceOf, undoOf, redoOf, saveOf, squeezeOf};
 ghost use Rattle.codec.specs.declared.Kind.the-variants.{Utf7Header, Utf7Body, Jp2};
-ghost use Rattle.host_pages.specs.Pages.{hosted, onPage, finds, findsSaved, askedOn, hears};
+ghost use Rattle.host_pages.specs.Pages.{hosted, onPage, finds, findsOutput, askedOn, hears};
 
 #[no_mangle]
 pub extern "C" fn qalithonda_utf7_header_open(
@@ -85,11 +85,26 @@ pub extern "C" fn qalithonda_save(
     arrived: &[u8],
     out: &mut [u8],
 ) -> HostEdited
-    ensures { λ r. ⌜ findsSaved r (now (text .entry)) (now (history .entry)) (now (out .exit))
+    ensures { λ r. ⌜ findsOutput r (now (text .entry)) (now (history .entry)) (now (out .exit))
         ≡ onPage p (now (text .entry)) (now (history .entry)) (now (out .entry)) (now (arrived .entry))
         (λ s. saveOf s (now (arrived .entry)) (now (out .entry))) ⌝ }
 {
     host_pages::save(p, text, history, arrived, out)
+}
+
+#[no_mangle]
+pub extern "C" fn qalithonda_squeeze(
+    p: HostPage,
+    steps: usize,
+    text: &[u32],
+    history: &mut [u32],
+    work: &mut [u32],
+) -> HostEdited
+    ensures { λ r. ⌜ findsOutput r (now (text .entry)) (now (history .exit)) (now (work .exit))
+        ≡ onPage p (now (text .entry)) (now (history .entry)) (now (work .entry)) []
+        (λ s. squeezeOf s steps (now (work .entry))) ⌝ }
+{
+    host_pages::squeeze(p, steps, text, history, work)
 }
 
 #[no_mangle]
