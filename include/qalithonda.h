@@ -10,12 +10,13 @@
  * set's registration number times 65536, plus the code as sent (of a pair: first byte times 256
  * plus second).
  *
- * Answers. A call is accepted with number 0 and a count, or refused with one of the numbers 1 to 17
+ * Answers. A call is accepted with number 0 and a count, or refused with one of the numbers below
  * and a place; both are in `place`. The numbers that a function can give are listed with it, those
  * that are looked for first in front. In reading, the fault at the earliest place decides.
  *
  * What a call leaves. A refused call changes no buffer (only a tally's nine counts become zeros).
- * An accepted read, write or save fills the first `count` elements of its output and no others.
+ * An accepted read, write or save fills the first `count` elements of its output and no others, a
+ * squeeze the first elements of its work buffer.
  *
  * What the caller owes. A length is a number of elements, not of bytes.
  *   - Every pointer is valid for its length, aligned for its type, and not null, not even for a
@@ -38,8 +39,8 @@
 extern "C" {
 #endif
 
-/* The most elements that a lent text or list, a text buffer or a history may have. An output may
-   have more. */
+/* The most elements that a lent text or list, a text buffer or a history may have. An output or a
+   work buffer may have more. */
 #define QALITHONDA_LIMIT 65536
 
 /* The numbers, each with the place that is given with it. */
@@ -61,16 +62,18 @@ enum qalithonda_number {
     QALITHONDA_NOT_ASCII = 8,       /* text ends with G0 not ASCII: the text's length */
     QALITHONDA_NO_ROOM = 9,         /* too little room: the elements needed in all */
     QALITHONDA_UNWRITABLE = 10,     /* cell not writable in this kind: its index */
-    QALITHONDA_BEYOND_LENGTH = 11,  /* place plus count beyond the page's length: that length */
+    QALITHONDA_BEYOND_LENGTH = 11,  /* place plus count beyond the page's length: that length. Steps
+                                       to squeeze under 2 or more than stand: 0 */
     QALITHONDA_HISTORY_FULL = 12,   /* record does not fit the history: the words needed in all */
     QALITHONDA_NOTHING_LEFT = 13,   /* nothing to undo or redo: 0 */
     QALITHONDA_UNSOUND = 14,        /* page not sound: 0 */
     QALITHONDA_NOT_THE_TEXT = 15,   /* arrived bytes do not read as the text: 0 */
     QALITHONDA_OVER_LIMIT = 16,     /* more than 65,536 elements lent: 65,536 */
-    QALITHONDA_NEEDLESS_SHIFT = 17  /* needless shift in a mailbox name. A unit of 32 to 126 in a
+    QALITHONDA_NEEDLESS_SHIFT = 17, /* needless shift in a mailbox name. A unit of 32 to 126 in a
                                        run: the letter that completes it. A run directly after a
                                        run: its first letter. Six or more left-over bits, all zero:
                                        the '-' that closes the run */
+    QALITHONDA_NO_GAIN = 19         /* squeezed, the history would not become shorter: 0 */
 };
 
 /* The kinds of page. */
@@ -276,8 +279,8 @@ qalithonda_mailbox_stepped qalithonda_mailbox_step(const uint8_t *text, size_t t
  * buffer is the most cells that the text can grow to. A step takes 3 words of history, and one for
  * each cell that it removes or adds.
  *
- * After an accepted open, replace, undo or redo the text is the first `length` cells of the text
- * buffer; the text buffer past `length` and the history past `used` are 0.
+ * After an accepted open, replace, undo, redo or squeeze the text is the first `length` cells of
+ * the text buffer; the text buffer past `length` and the history past `used` are 0.
  *
  * A page knows when it was saved last: its mark is the words done at that time. An open counts as a
  * save. `qalithonda_unchanged` asks whether the page is as it was then: ask before the page is
@@ -285,7 +288,7 @@ qalithonda_mailbox_stepped qalithonda_mailbox_step(const uint8_t *text, size_t t
  */
 
 /* The mark of a page that cannot be as it was saved: the steps that led there were dropped by a
-   replace. */
+   replace, or folded by a squeeze together with later ones. */
 #define QALITHONDA_NEVER_SAVED SIZE_MAX
 
 /* A page's numbers. There is a step to undo if done > 0, and one to redo if done < used. */
@@ -295,12 +298,13 @@ typedef struct {
     size_t length;   /* how many cells it has */
     size_t used;     /* words of history that hold steps */
     size_t done;     /* those of them whose steps stand; the others can be redone */
-    size_t saved;    /* its mark: `done` at the last save; or QALITHONDA_NEVER_SAVED, no mark */
+    size_t saved;    /* its mark: `done` at the last save, moved along by a squeeze; or
+                        QALITHONDA_NEVER_SAVED, no mark */
 } qalithonda_page;
 
-/* What open, replace, undo, redo and save give back. A refused replace, undo, redo or save gives
-   the page that was handed in; a refused open gives the kind with four zeros and no mark
-   (QALITHONDA_NEVER_SAVED), which is no page to go on with. */
+/* What open, replace, undo, redo, save and squeeze give back. Refused, an open gives the kind with
+   four zeros and no mark (QALITHONDA_NEVER_SAVED), which is no page to go on with; the others give
+   the page that was handed in. */
 typedef struct {
     qalithonda_numbers answer;
     qalithonda_page page;
@@ -371,6 +375,27 @@ qalithonda_edited qalithonda_save(qalithonda_page page,
                                   const uint32_t *history, size_t history_len,
                                   const uint8_t *arrived, size_t arrived_len,
                                   uint8_t *out, size_t out_len);
+
+/*
+ * Makes room in the history: folds the oldest `steps` standing steps into one, which removes the
+ * whole opening text and adds the whole text as it was after them: 3 words, one for each cell of
+ * the one text and one for each cell of the other. The present text stays as it is, and the later
+ * steps, undone ones too, follow unchanged. What was folded is then undone and redone at once.
+ *
+ * The new step is made in `work`, and after an accepted call it stands first there. Room for
+ * page.done words is always enough: the new step is shorter than what it stands for, else there is
+ * no gain (19), which is looked for before the room.
+ *
+ * A mark at the end of the fold or later moves along, and one at 0 stays; one between is lost, since
+ * no step leads there any more.
+ * Accepted: the words of history now used.
+ * Refused: 16 (text, history); 14; 11 (`steps` under 2, or more than stand); 19; 9 (work: the words
+ * of the new step).
+ */
+qalithonda_edited qalithonda_squeeze(qalithonda_page page, size_t steps,
+                                     const uint32_t *text, size_t text_len,
+                                     uint32_t *history, size_t history_len,
+                                     uint32_t *work, size_t work_len);
 
 /*
  * Asks whether the page is as it was saved last, or opened: whether its mark is at `done`. Steps
