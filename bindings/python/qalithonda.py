@@ -42,7 +42,8 @@ class Refusal(enum.IntEnum):
     NOT_ASCII = 8  #: the text ends with G0 not ASCII: the text's length
     NO_ROOM = 9  #: too little room: the elements needed in all
     UNWRITABLE = 10  #: a cell not writable in this kind: its index
-    BEYOND_LENGTH = 11  #: place plus count beyond the page's length: that length
+    #: place plus count beyond the page's length: that length. Steps to squeeze fewer than two, or more than stand: 0
+    BEYOND_LENGTH = 11
     HISTORY_FULL = 12  #: the step does not fit the history: the words needed in all
     NOTHING_LEFT = 13  #: nothing to undo or redo: 0
     UNSOUND = 14  #: the page is not sound: 0 (a Page always is)
@@ -51,6 +52,7 @@ class Refusal(enum.IntEnum):
     #: a needless shift in a mailbox name. A unit of 32 to 126 in a run: the letter that completes it. A run directly
     #: after a run: its first letter. Six or more left-over bits, all zero: the '-' that closes the run.
     NEEDLESS_SHIFT = 17
+    NO_GAIN = 19  #: squeezed, the history would not become shorter: 0
 
 
 _MESSAGES = {
@@ -64,13 +66,14 @@ _MESSAGES = {
     Refusal.NOT_ASCII: "the text ends at {} with G0 not ASCII",
     Refusal.NO_ROOM: "too little room, {} elements are needed",
     Refusal.UNWRITABLE: "the cell at {} is not writable in this kind",
-    Refusal.BEYOND_LENGTH: "place plus count is beyond the length, {}",
+    Refusal.BEYOND_LENGTH: "place plus count is beyond the length, {}, or there are not so many steps to squeeze",
     Refusal.HISTORY_FULL: "the step does not fit the history, {} words are needed",
     Refusal.NOTHING_LEFT: "there is nothing to undo or redo",
     Refusal.UNSOUND: "the page is not sound",
     Refusal.NOT_THE_TEXT: "the arrived bytes do not read as the text",
     Refusal.OVER_LIMIT: "there are more than {} elements",
     Refusal.NEEDLESS_SHIFT: "there is a needless shift, noticed at {}",
+    Refusal.NO_GAIN: "squeezed, the history would not become shorter",
 }
 
 
@@ -230,6 +233,7 @@ _replace = _function("replace", _Edited, _Page, _Size, _Size, *_WORDS, *_WORDS, 
 _undo = _function("undo", _Edited, _Page, *_WORDS, *_WORDS)
 _redo = _function("redo", _Edited, _Page, *_WORDS, *_WORDS)
 _save = _function("save", _Edited, _Page, *_WORDS, *_WORDS, *_BYTES, *_OUT)
+_squeeze = _function("squeeze", _Edited, _Page, _Size, *_WORDS, *_WORDS, *_WORDS)
 _unchanged = _function("unchanged", _Asked, _Page, *_WORDS, *_WORDS)
 
 
@@ -537,6 +541,29 @@ class Page:
             self._numbers = edited.page
         return given
 
+    def squeeze(self, steps: int) -> int:
+        """Folds the oldest standing steps, so many of them, into one, which makes room in the history, and gives the
+        words now used. The text stays as it is, and the later steps, undone ones too, follow unchanged; what was folded
+        is then undone and redone at once. The new step takes 3 words, and one for each cell of the text as it was
+        opened and of the text as it was after those steps.
+
+        A mark (`saved`) at the end of the fold or later moves along, and one at 0 stays; one between is lost, since no
+        step leads there any more.
+
+        Refused with 11 (fewer than two steps, or more than stand) or 19.
+
+        >>> page = Page.open(Kind.UTF7_BODY, b"Hi", 100, 100)
+        >>> for cells in ([0x21], [0x3F], [0x21]):
+        ...     length = page.replace(2, page.length - 2, cells)
+        >>> page.used
+        14
+        >>> page.squeeze(2)
+        13
+        """
+        # Where there is a gain, the new step is shorter than those that stand.
+        work = (_Word * self.done)()
+        return self._keep(_squeeze(self._numbers, _size(steps), *self._buffers(), work, len(work)))
+
     @property
     def unchanged(self) -> bool:
         """Whether it is as it was saved last, or opened if it was not saved since. Steps that were undone and done
@@ -586,8 +613,9 @@ class Page:
 
     @property
     def saved(self) -> Optional[int]:
-        """The mark: `done` when it was saved last, or 0 if it was only opened; None if a replacement dropped the steps
-        that led there. It is unchanged if this is what is done."""
+        """The mark: `done` when it was saved last, or 0 if it was only opened, moved along when steps before it are
+        squeezed; None if a replacement dropped the steps that led there, or a squeeze folded them together with later
+        ones. It is unchanged if this is what is done."""
         return None if self._numbers.saved == _NEVER_SAVED else self._numbers.saved
 
     def _buffers(self):

@@ -274,6 +274,57 @@ class Pages(Case):
         page.undo()
         self.assertTrue(page.unchanged)
 
+    def three_steps(self):
+        """'!' after "Hi", then '?' and '!' in its place; saved before the last of these steps."""
+        page = Page.open(Kind.UTF7_BODY, b"Hi", 9, 20)
+        page.replace(2, 0, [0x21])
+        page.replace(2, 1, [0x3F])
+        page.save()
+        page.replace(2, 1, [0x21])
+        self.assertEqual((self.numbers(page), page.saved), ((2, 3, 14, 14), 9))
+        return page
+
+    def test_the_oldest_steps_are_folded_into_one(self):
+        page = self.three_steps()
+        page.undo()
+        self.assertEqual(page.squeeze(2), 13)
+        self.assertEqual((self.numbers(page), page.text()), ((2, 3, 13, 8), [0x48, 0x69, 0x3F]))
+        self.assertEqual(page.history(), [0, 2, 3, 0x48, 0x69, 0x48, 0x69, 0x3F, 2, 1, 1, 0x3F, 0x21])
+        self.assertEqual((page.undo(), page.text()), (2, [0x48, 0x69]))
+        self.refused(13, 0, page.undo)
+        self.assertEqual((page.redo(), page.redo(), page.text()), (3, 3, [0x48, 0x69, 0x21]))
+        self.refused(13, 0, page.redo)
+
+    def test_a_mark_within_a_fold_is_lost_and_a_later_one_moves_along(self):
+        page = self.three_steps()
+        self.assertEqual((page.squeeze(3), page.saved, page.unchanged), (8, None, False))
+        page = self.three_steps()
+        self.assertEqual((page.squeeze(2), page.saved, page.unchanged), (13, 8, False))
+        page.undo()
+        self.assertTrue(page.unchanged)
+        page.undo()
+        page.save()
+        page.redo()
+        page.redo()
+        page.replace(0, 3, [])
+        self.assertEqual((page.squeeze(3), page.saved, page.history()), (5, 0, [0, 2, 0, 0x48, 0x69]))
+
+    def test_squeeze_is_refused_and_changes_nothing(self):
+        page = Page.open(Kind.UTF7_BODY, P2, 5, 20)
+        page.replace(0, 1, [])
+        page.replace(0, 0, [])
+        page.replace(0, 0, [])
+        for steps in (0, 1, 4, 2**64 - 1):
+            self.refused(11, 0, page.squeeze, steps)
+        for steps in (-1, 2**64):
+            with self.assertRaises(OverflowError):
+                page.squeeze(steps)
+        # Ten words would become ten.
+        self.refused(19, 0, page.squeeze, 3)
+        self.assertEqual((self.numbers(page), page.history()), ((4, 3, 10, 10), [0, 1, 0, 0x41, 0, 0, 0, 0, 0, 0]))
+        page.replace(0, 1, [])
+        self.assertEqual(page.squeeze(4), 9)
+
     def test_four_words_of_history(self):
         page = Page.open(Kind.UTF7_BODY, P2, 5, 4)
         self.refused(12, 5, page.replace, 1, 1, [0x3D])
@@ -339,11 +390,12 @@ class Pages(Case):
             self.follow(Kind.JP2, jp2.read, cells, rng)
 
     def follow(self, kind, read, cells, rng):
-        """Every text so far is kept, undo and redo go to and fro between them, and one of them may be the saved one."""
+        """Every text so far is kept, with the words of the step that led to each; undo and redo go to and fro between
+        them, a squeeze forgets those that it folds, and one of them may be the saved one."""
         page = Page.open(kind, P2, 12, 60)
-        texts, now, saved = [page.text()], 0, 0
+        texts, words, now, saved = [page.text()], [0], 0, 0
         for _ in range(100):
-            call = rng.choice(("undo", "redo", "save", "replace", "replace", "replace"))
+            call = rng.choice(("undo", "redo", "save", "squeeze", "replace", "replace", "replace"))
             if call == "replace":
                 place, count, added = rng.randrange(14), rng.randrange(4), rng.choices(cells, k=rng.randrange(4))
                 try:
@@ -352,28 +404,43 @@ class Pages(Case):
                     continue
                 text = texts[now]
                 texts[now + 1 :] = [text[:place] + added + text[place + count :]]
+                words[now + 1 :] = [3 + count + len(added)]
                 saved = None if saved is not None and saved > now else saved
                 now += 1
             elif call == "save":
                 self.assertEqual(read(page.save()), texts[now])
                 saved = now
+            elif call == "squeeze":
+                steps = rng.randrange(7)
+                if not 2 <= steps <= now:
+                    self.refused(11, 0, page.squeeze, steps)
+                elif sum(words[: steps + 1]) <= 3 + len(texts[0]) + len(texts[steps]):
+                    self.refused(19, 0, page.squeeze, steps)
+                else:
+                    words[1 : steps + 1] = [3 + len(texts[0]) + len(texts[steps])]
+                    self.assertEqual(page.squeeze(steps), sum(words))
+                    del texts[1:steps]
+                    now -= steps - 1
+                    if saved:
+                        saved = saved - (steps - 1) if saved >= steps else None
             elif now == (0 if call == "undo" else len(texts) - 1):
                 self.refused(13, 0, getattr(page, call))
             else:
                 getattr(page, call)()
                 now += -1 if call == "undo" else 1
             self.assertEqual(page.text(), texts[now])
-            self.assertEqual(page.done == 0, now == 0)
+            self.assertEqual((page.used, page.done), (sum(words), sum(words[: now + 1])))
             self.assertEqual((page.unchanged, page.saved is None), (saved == now, saved is None))
 
 
 class Refusals(Case):
     def test_each_number_has_its_name_and_message(self):
-        self.assertEqual([refusal.value for refusal in Refusal], list(range(1, 18)))
+        self.assertEqual([refusal.value for refusal in Refusal], [*range(1, 18), 19])
         for refusal in Refusal:
             message = str(Refused(int(refusal), 12))
             self.assertTrue(message.startswith("refused with {}: ".format(int(refusal))), message)
-            without_place = refusal in (Refusal.NOTHING_LEFT, Refusal.UNSOUND, Refusal.NOT_THE_TEXT)
+            placeless = (Refusal.NOTHING_LEFT, Refusal.UNSOUND, Refusal.NOT_THE_TEXT, Refusal.NO_GAIN)
+            without_place = refusal in placeless
             self.assertEqual("12" not in message.split(": ")[1], without_place, message)
 
     def test_a_refusal_can_be_pickled(self):

@@ -191,6 +191,16 @@ extern "C" {
         out: *mut u8,
         out_len: usize,
     ) -> Edited;
+    pub fn qalithonda_squeeze(
+        page: Page,
+        steps: usize,
+        text: *const u32,
+        text_len: usize,
+        history: *mut u32,
+        history_len: usize,
+        work: *mut u32,
+        work_len: usize,
+    ) -> Edited;
     pub fn qalithonda_unchanged(
         page: Page,
         text: *const u32,

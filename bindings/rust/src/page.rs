@@ -168,6 +168,52 @@ impl Page {
         Ok(given)
     }
 
+    /// Folds the oldest `steps` standing steps into one, which makes room in the history, and gives the words now used.
+    /// The text stays as it is, and the later steps, undone ones too, follow unchanged; what was folded is then undone
+    /// and redone at once. The new step takes 3 words, and one for each cell of the text as it was opened and of the
+    /// text as it was after those steps.
+    ///
+    /// A mark ([`saved`](Page::saved)) at the end of the fold or later moves along, and one at 0 stays; one between is
+    /// lost, since no step leads there any more.
+    ///
+    /// Refused with [`BeyondLength`] (fewer than two steps, or more than stand), or with [`NoGain`].
+    ///
+    /// ```
+    /// use qalithonda::{Kind, Page, Refusal};
+    ///
+    /// let mut page = Page::open(Kind::Utf7Body, b"Hi", 100, 16)?;
+    /// for cell in [0x21, 0x3F, 0x21] {
+    ///     page.replace(2, page.length() - 2, &[cell])?;
+    /// }
+    /// assert_eq!(page.used(), 14);
+    /// assert_eq!(page.replace(0, 0, &[]).unwrap_err().refusal, Refusal::HistoryFull);
+    /// assert_eq!(page.squeeze(2)?, 13);
+    /// page.replace(0, 0, &[])?;
+    /// # Ok::<(), qalithonda::Refused>(())
+    /// ```
+    ///
+    /// [`BeyondLength`]: crate::Refusal::BeyondLength
+    /// [`NoGain`]: crate::Refusal::NoGain
+    pub fn squeeze(&mut self, steps: usize) -> Result<usize, Refused> {
+        let (text, history) = (&self.text, &mut self.history);
+        // Where there is a gain, the new step is shorter than those that stand.
+        let mut work = vec![0; self.numbers.done];
+        // SAFETY: each pointer comes with the length of its vector.
+        let edited = unsafe {
+            ffi::qalithonda_squeeze(
+                self.numbers,
+                steps,
+                text.as_ptr(),
+                text.len(),
+                history.as_mut_ptr(),
+                history.len(),
+                work.as_mut_ptr(),
+                work.len(),
+            )
+        };
+        self.keep(edited)
+    }
+
     /// Whether it is as it was saved last, or opened if it was not saved since. Steps that were undone and done again
     /// make no difference; the same cells put by another step do. Good to ask before a page is dropped.
     pub fn is_unchanged(&self) -> bool {
@@ -221,8 +267,9 @@ impl Page {
         self.numbers.done
     }
 
-    /// The mark: [`done`](Page::done) when it was saved last, or 0 if it was only opened; none if a replacement dropped
-    /// the steps that led there. It [is unchanged](Page::is_unchanged) if this is what is done.
+    /// The mark: [`done`](Page::done) when it was saved last, or 0 if it was only opened, moved along when steps before
+    /// it are [squeezed](Page::squeeze); none if a replacement dropped the steps that led there, or a squeeze folded
+    /// them together with later ones. It [is unchanged](Page::is_unchanged) if this is what is done.
     pub fn saved(&self) -> Option<usize> {
         (self.numbers.saved != ffi::NEVER_SAVED).then_some(self.numbers.saved)
     }

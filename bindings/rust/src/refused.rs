@@ -28,7 +28,8 @@ pub enum Refusal {
     NoRoom = 9,
     /// A cell that is not writable in this kind. The place is its index.
     Unwritable = 10,
-    /// Place plus count is beyond the page's length. The place is that length.
+    /// Place plus count is beyond the page's length. The place is that length. In squeezing: fewer than two steps, or
+    /// more than stand. The place is 0.
     BeyondLength = 11,
     /// The step does not fit the history. The place is the number of words needed in all.
     HistoryFull = 12,
@@ -44,10 +45,12 @@ pub enum Refusal {
     /// for a run directly after a run its first letter, and for six or more left-over bits, all zero, the `-` that
     /// closes the run.
     NeedlessShift = 17,
+    /// Squeezed, the history would not become shorter. The place is 0.
+    NoGain = 19,
 }
 
 impl Refusal {
-    const ALL: [Refusal; 17] = [
+    const ALL: [Refusal; 18] = [
         Refusal::HighByte,
         Refusal::LoneSign,
         Refusal::StrayByte,
@@ -65,9 +68,10 @@ impl Refusal {
         Refusal::NotTheText,
         Refusal::OverLimit,
         Refusal::NeedlessShift,
+        Refusal::NoGain,
     ];
 
-    /// Its number, 1 to 17.
+    /// Its number, 1 to 17, or 19.
     pub fn number(self) -> u32 {
         self as u32
     }
@@ -113,13 +117,16 @@ impl Display for Refused {
             Refusal::NotAscii => write!(f, "the text ends at {place} with G0 not ASCII"),
             Refusal::NoRoom => write!(f, "too little room, {place} elements are needed"),
             Refusal::Unwritable => write!(f, "the cell at {place} is not writable in this kind"),
-            Refusal::BeyondLength => write!(f, "place plus count is beyond the length, {place}"),
+            Refusal::BeyondLength => {
+                write!(f, "place plus count is beyond the length, {place}, or there are not so many steps to squeeze")
+            }
             Refusal::HistoryFull => write!(f, "the step does not fit the history, {place} words are needed"),
             Refusal::NothingLeft => write!(f, "there is nothing to undo or redo"),
             Refusal::Unsound => write!(f, "the page is not sound"),
             Refusal::NotTheText => write!(f, "the arrived bytes do not read as the text"),
             Refusal::OverLimit => write!(f, "there are more than {place} elements"),
             Refusal::NeedlessShift => write!(f, "there is a needless shift, noticed at {place}"),
+            Refusal::NoGain => write!(f, "squeezed, the history would not become shorter"),
         }
     }
 }
@@ -132,14 +139,14 @@ mod tests {
 
     #[test]
     fn each_number_has_its_refusal() {
-        let numbers: Vec<u32> = (0..=18).filter_map(Refusal::of).map(Refusal::number).collect();
-        assert_eq!(numbers, (1..=17).collect::<Vec<_>>());
+        let numbers: Vec<u32> = (0..=20).filter_map(Refusal::of).map(Refusal::number).collect();
+        assert_eq!(numbers, (1..=17).chain([19]).collect::<Vec<_>>());
     }
 
     #[test]
     fn messages_say_number_and_place() {
         let message = |refusal| Refused { refusal, place: 12 }.to_string();
-        let without_place = [Refusal::NothingLeft, Refusal::Unsound, Refusal::NotTheText];
+        let without_place = [Refusal::NothingLeft, Refusal::Unsound, Refusal::NotTheText, Refusal::NoGain];
         for refusal in Refusal::ALL {
             assert!(message(refusal).starts_with(&format!("refused with {}: ", refusal.number())));
             let place_said = message(refusal).split(": ").nth(1).is_some_and(|why| why.contains("12"));

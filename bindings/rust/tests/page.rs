@@ -66,6 +66,66 @@ fn bytes_that_were_not_put_do_not_count_as_saved() {
     assert_eq!((page.saved(), page.is_unchanged(), put), (Some(5), true, b"A=+A5E-.".to_vec()));
 }
 
+/// Three steps: '!' after "Hi", then '?' and '!' in its place; saved before the last of them.
+fn three_steps() -> Page {
+    let mut page = Page::open(Kind::Utf7Body, b"Hi", 9, 20).unwrap();
+    page.replace(2, 0, &[0x21]).unwrap();
+    page.replace(2, 1, &[0x3F]).unwrap();
+    page.save_to_vec().unwrap();
+    page.replace(2, 1, &[0x21]).unwrap();
+    assert_eq!((numbers(&page), page.saved()), ([2, 3, 14, 14], Some(9)));
+    page
+}
+
+#[test]
+fn the_oldest_steps_are_folded_into_one() {
+    let mut page = three_steps();
+    page.undo().unwrap();
+    assert_eq!(page.squeeze(2), Ok(13));
+    assert_eq!((numbers(&page), page.text()), ([2, 3, 13, 8], &[0x48, 0x69, 0x3F][..]));
+    assert_eq!(page.history(), [0, 2, 3, 0x48, 0x69, 0x48, 0x69, 0x3F, 2, 1, 1, 0x3F, 0x21]);
+    assert_eq!(page.undo(), Ok(2));
+    assert_eq!(page.text(), [0x48, 0x69]);
+    assert_eq!(page.undo(), refused(Refusal::NothingLeft, 0));
+    assert_eq!((page.redo(), page.redo(), page.redo()), (Ok(3), Ok(3), refused(Refusal::NothingLeft, 0)));
+    assert_eq!(page.text(), [0x48, 0x69, 0x21]);
+}
+
+#[test]
+fn a_mark_within_a_fold_is_lost_and_a_later_one_moves_along() {
+    let mut page = three_steps();
+    assert_eq!(page.squeeze(3), Ok(8));
+    assert_eq!((page.saved(), page.is_unchanged()), (None, false));
+    let mut page = three_steps();
+    assert_eq!(page.squeeze(2), Ok(13));
+    assert_eq!((page.saved(), page.is_unchanged()), (Some(8), false));
+    page.undo().unwrap();
+    assert!(page.is_unchanged());
+    page.undo().unwrap();
+    page.save_to_vec().unwrap();
+    page.redo().unwrap();
+    page.redo().unwrap();
+    page.replace(0, 3, &[]).unwrap();
+    assert_eq!(page.squeeze(3), Ok(5));
+    assert_eq!((page.saved(), page.history()), (Some(0), &[0, 2, 0, 0x48, 0x69][..]));
+}
+
+#[test]
+fn squeeze_is_refused_and_changes_nothing() {
+    let mut page = Page::open(Kind::Utf7Body, P2, 5, 20).unwrap();
+    page.replace(0, 1, &[]).unwrap();
+    page.replace(0, 0, &[]).unwrap();
+    page.replace(0, 0, &[]).unwrap();
+    for steps in [0, 1, 4, usize::MAX] {
+        assert_eq!(page.squeeze(steps), refused(Refusal::BeyondLength, 0));
+    }
+    // Ten words would become ten.
+    assert_eq!(page.squeeze(3), refused(Refusal::NoGain, 0));
+    assert_eq!((numbers(&page), page.history()), ([4, 3, 10, 10], &[0, 1, 0, 0x41, 0, 0, 0, 0, 0, 0][..]));
+    page.replace(0, 1, &[]).unwrap();
+    assert_eq!(page.squeeze(4), Ok(9));
+}
+
 #[test]
 fn four_words_of_history() {
     let mut page = Page::open(Kind::Utf7Body, P2, 5, 4).unwrap();
@@ -158,14 +218,28 @@ fn below(seed: &mut u64, bound: usize) -> usize {
     (*seed % bound as u64) as usize
 }
 
-/// Every text so far is kept, undo and redo go to and fro between them, and one of them may be the saved one.
+/// The answer to a squeeze, by the texts so far and the words of the step that led to each.
+fn squeezed(texts: &[Vec<u32>], words: &[usize], now: usize, steps: usize) -> Result<usize, Refused> {
+    if steps < 2 || steps > now {
+        return refused(Refusal::BeyondLength, 0);
+    }
+    let (old, new) = (words[..=steps].iter().sum::<usize>(), 3 + texts[0].len() + texts[steps].len());
+    if old <= new {
+        return refused(Refusal::NoGain, 0);
+    }
+    Ok(words.iter().sum::<usize>() - old + new)
+}
+
+/// Every text so far is kept, with the words of the step that led to each; undo and redo go to and fro between them, a
+/// squeeze forgets those that it folds, and one of them may be the saved one.
 fn follow(kind: Kind, cells: &[u32], seed: &mut u64) {
     let mut page = Page::open(kind, P2, 12, 60).unwrap();
     let read = if kind == Kind::Jp2 { jp2::read_to_vec } else { utf7::read_to_vec };
     let mut texts = vec![page.text().to_vec()];
+    let mut words = vec![0];
     let (mut now, mut saved) = (0, Some(0));
     for _ in 0..200 {
-        match below(seed, 6) {
+        match below(seed, 7) {
             0 => {
                 assert_eq!(page.undo().is_ok(), now > 0);
                 now -= usize::from(now > 0);
@@ -179,10 +253,24 @@ fn follow(kind: Kind, cells: &[u32], seed: &mut u64) {
                 assert_eq!(read(&page.save_to_vec().unwrap()).unwrap(), texts[now]);
                 saved = Some(now);
             }
+            3 => {
+                let steps = below(seed, 7);
+                let answer = page.squeeze(steps);
+                assert_eq!(answer, squeezed(&texts, &words, now, steps));
+                if answer.is_ok() {
+                    words.splice(1..=steps, [3 + texts[0].len() + texts[steps].len()]);
+                    texts.drain(1..steps);
+                    now -= steps - 1;
+                    saved = saved.filter(|saved| !(1..steps).contains(saved));
+                    saved = saved.map(|saved| if saved == 0 { 0 } else { saved - (steps - 1) });
+                }
+            }
             _ => {
                 let (place, count) = (below(seed, 14), below(seed, 4));
                 let added: Vec<u32> = (0..below(seed, 4)).map(|_| cells[below(seed, cells.len())]).collect();
                 if page.replace(place, count, &added).is_ok() {
+                    words.truncate(now + 1);
+                    words.push(3 + count + added.len());
                     let mut text = texts[now].clone();
                     text.splice(place..place + count, added);
                     texts.truncate(now + 1);
@@ -193,7 +281,7 @@ fn follow(kind: Kind, cells: &[u32], seed: &mut u64) {
             }
         }
         assert_eq!(page.text(), texts[now]);
-        assert_eq!(now == 0, page.done() == 0);
+        assert_eq!((page.used(), page.done()), (words.iter().sum(), words[..=now].iter().sum()));
         assert_eq!((page.is_unchanged(), page.saved().is_some()), (saved == Some(now), saved.is_some()));
         assert_eq!(read(&page.clone().save_to_vec().unwrap()).unwrap(), texts[now]);
     }
