@@ -68,9 +68,13 @@ loop-again c =
     let l = c .before .before .before .before .before .loop in
     let h = c .before .before .head-at in
     let b = seen (l .at) (a .done) (a .history .now) (a .text .now) (l .inv .0) (omega (arith, l .inv .0 .order))
-    (h .result) (h .ensures) in
-    (b .leads, omega (arith, b .after, l .inv .1), omega arith, fold-next b (l .len) (l .count) (a .k) (omega arith)
-    ∙ l .inv .3)
+    (h .result) (h .ensures) in (
+      b .leads,
+      omega (arith, b .after, l .inv .1),
+      omega arith,
+      fold-next b (l .len) (l .count) (a .k) (omega arith)
+          ∙ l .inv .3,
+    )
 
 returns-2 : tie.Need-returns-2 Inv-loop μ-loop
 returns-2 c =

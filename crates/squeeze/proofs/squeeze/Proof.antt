@@ -18,8 +18,9 @@ enum-known-found-2 : tie.Need-enum-known-found-2
 enum-known-found-2 c = search needs
 
 squeeze-sound-requires : tie.Need-squeeze-sound-requires
-squeeze-sound-requires c κs = sym (c .before .before .before .before .before .judge .ensures)
-∙ c .before .before .before .found2 .given .1
+squeeze-sound-requires c κs =
+    sym (c .before .before .before .before .before .judge .ensures)
+    ∙ c .before .before .before .found2 .given .1
 
 same-length : tie.Need-same-length
 same-length c = search needs

@@ -31,9 +31,11 @@ oldest-requires : tie.Need-oldest-requires
 oldest-requires c κs =
     let a = c .before .before .before .before .before .before .args in
     let s : State = stateOf (a .page) (a .text .now) (a .history .now) in
-    let f = fit s refl (c .before .before .before .before .before .before .pre) in
-    (leads-standing s (f .parted) (f .sound) (f .short) (f .found) (f .short-text) (a .k)
-    (a .work .now), opens-standing s (f .parted) (f .sound) (f .short) (f .found) (f .short-text) (a .k) (a .work .now))
+    let f = fit s refl (c .before .before .before .before .before .before .pre) in (
+      leads-standing s (f .parted) (f .sound) (f .short) (f .found) (f .short-text) (a .k)
+          (a .work .now),
+      opens-standing s (f .parted) (f .sound) (f .short) (f .found) (f .short-text) (a .k) (a .work .now),
+    )
 
 refused-requires-2 : tie.Need-refused-requires-2
 refused-requires-2 c κs = search needs

@@ -23,9 +23,13 @@ add-end c = search needs
 loop-holds : tie.Need-loop-holds Inv-loop μ-loop
 loop-holds c =
     let a = c .before .before .before .args in
-    let none : a .start - a .start ≡ 0 = omega arith in
-    (omega arith, omega arith, refl, rw none
-    (paste-zero (a .work .now) (a .start) (textSince (a .from) (a .to) (a .history .now) (a .text .now))))
+    let none : a .start - a .start ≡ 0 = omega arith in (
+      omega arith,
+      omega arith,
+      refl,
+      rw none
+          (paste-zero (a .work .now) (a .start) (textSince (a .from) (a .to) (a .history .now) (a .text .now))),
+    )
 
 sub-follow : tie.Need-sub-follow Inv-loop μ-loop
 sub-follow c = search needs
