@@ -1,4 +1,5 @@
--- What 15 asks of a sound page, as the code asks it: where nothing stands, the opening length is the text's. proofs/Belonging.antt: it is the same.
+-- What 15 asks of a sound page, as the code asks it: where nothing stands, the opening length is the text's.
+-- proofs/Belonging.antt: it is the same.
 use Prim.Native.Nat.{ℕ}
 use mathlib.Core.Bool.{Bool, cond}
 use mathlib.Core.List.{List}

@@ -9,22 +9,13 @@ use native.Mathlib.Omega.{arith}
 use native.Mathlib.Nat.{zero-add}
 use lib.ListN.{length, take, drop, length-append}
 use lib.Seq.{sets, sets-eq, length-take-le}
-use lib.Dec.{eqb}
 use borrow.Author.Tests.{lt-ltb, le-ltb}
-use Rattle.answer.specs.Answer.{Verdict, limit, numbered, numberOf, inNumbers, tooLong}
+use Rattle.answer.specs.Answer.{numbered, inNumbers, tooLong}
 use Rattle.answer.specs.declared.Answer.{Answer}
 use Rattle.answer.specs.declared.Answer.the-variants.{Accepted, Refused}
-use Rattle.answer.specs.declared.Refusal.{Refusal}
-use Rattle.answer.specs.declared.Refusal.the-variants.{NoRoom, NotTheText}
+use Rattle.answer.specs.declared.Refusal.the-variants.{NoRoom}
 use Rattle.answer.specs.Bytes.{bytes}
 use Rattle.answer.specs.Output.{Outcome, leaves, refusing, filled, deliver}
-use Rattle.reading.specs.Reading.{Reading, Ending, accepted, fault, closing, verdictOf}
-use Rattle.reading.proofs.Laws.{SoundEnd, good-reading}
-use Rattle.utf7.proofs.Kept.{utf7-kept}
-use Rattle.jp2.proofs.Kept.{jp2-kept}
-use Rattle.codec.specs.Kinds.{formatOf, readingOf, readingIn}
-use Rattle.codec.specs.declared.Kind.the-variants.{Utf7Header, Utf7Body, Jp2}
-use Rattle.answer.proofs.Once.{number-pos}
 use Rattle.codec.specs.declared.Kind.{Kind}
 use Rattle.editor.specs.declared.Mark.{Mark}
 use Rattle.editor.specs.declared.Mark.the-variants.{None, At}
@@ -112,31 +103,6 @@ file-size page cells words arrived =
 -- put whole, from the front
 pub put-whole : (out file : List ℕ) → length file ≤ length out → sets out 0 file ≡ filled file out
 put-whole out file h = sets-eq file out 0 (omega arith) ∙ rw zero-add
-
--- the count of cells, by the answer of reading
-module _ (r : Reading) (sound : SoundEnd (r .ending)) (n : ℕ) where
-  numbers : {k m : ℕ} {p q : ℕ} → numbered k p ≡ numbered m q → (k ≡ m) × (p ≡ q)
-  numbers e = (ap (λ (v : Verdict). v .number) e, ap (λ (v : Verdict). v .place) e)
-
-  yes-by : (e : Ending) → SoundEnd e → (m : ℕ) → numbered 0 m ≡ closing e (length (r .cells)) → eqb m n ≡ countIs n e (r .cells)
-  yes-by accepted h m q = rw (numbers q .1)
-  yes-by (fault k place) h m q = absurd (omega (arith, numbers q .0))
-
-  no-by : (e : Ending) (k p : ℕ) → 0 < k → numbered k p ≡ closing e (length (r .cells)) → false ≡ countIs n e (r .cells)
-  no-by accepted k p h q = absurd (omega (arith, numbers q .0))
-  no-by (fault j place) k p h q = refl
-
-  pub count-yes : {a : Answer} {m : ℕ} → inNumbers a ≡ verdictOf r → a ≡ Accepted m → eqb m n ≡ counted n r
-  count-yes {a} {m} e q = yes-by (r .ending) sound m (sym (ap inNumbers q) ∙ e)
-
-  pub count-no : {a : Answer} {why : Refusal} {place : ℕ} → inNumbers a ≡ verdictOf r → a ≡ Refused why place → false ≡ counted n r
-  count-no {a} {why} {place} e q = no-by (r .ending) (numberOf why) place (number-pos why) (sym (ap inNumbers q) ∙ e)
-
-pub sound-end : (kind : Kind) (text : List ℕ) → SoundEnd (readingIn kind text .ending)
-unfolding formatOf readingOf
-sound-end Utf7Header text = good-reading utf7-kept text .1
-sound-end Utf7Body text = good-reading utf7-kept text .1
-sound-end Jp2 text = good-reading jp2-kept text .1
 
 -- the file in an output
 module _ (file out : List ℕ) {n : ℕ} (e : n ≡ length file) where

@@ -20,7 +20,10 @@ too-long-requires c κs = search needs
 returns : tie.Need-returns
 returns c =
     let a = c .before .before .before .before .before .before .before .args in
-    keep-long (stateOf (a .page) (a .text .now) (a .history .now)) (a .arrived .now) (a .out .now) (c .too-long .result) (sym (c .before .before .over-limit .ensures) ∙ c .before .if1 .taken) (c .too-long .ensures)
+    let over-limit′ = c .before .before .over-limit in
+    let if1′ = c .before .if1 in
+    let too-long′ = c .too-long in
+    keep-long (stateOf (a .page) (a .text .now) (a .history .now)) (a .arrived .now) (a .out .now) (too-long′ .result) (sym (over-limit′ .ensures) ∙ if1′ .taken) (too-long′ .ensures)
 
 judge-requires : tie.Need-judge-requires
 judge-requires c κs = search needs
@@ -34,23 +37,32 @@ enum-told c = search needs
 slice-aggregate-keep-sound : tie.Need-slice-aggregate-keep-sound
 slice-aggregate-keep-sound c =
     let a = c .before .before .before .before .before .before .before .before .before .before .args in
+    let judge′ = c .before .before .before .judge in
+    let enum-told′ = c .before .enum-told in
     let s : State = stateOf (a .page) (a .text .now) (a .history .now) in
-    let f = fit s (c .before .before .before .judge .ensures) (c .before .enum-told .given .1) in
+    let f = fit s (judge′ .ensures) (enum-told′ .given .1) in
     sym (length-take-le (a .page .length) (a .text .now) (f .frame .fits))
 
 slice-aggregate-keep-sound-2 : tie.Need-slice-aggregate-keep-sound-2
 slice-aggregate-keep-sound-2 c =
     let a = c .before .before .before .before .before .before .before .before .before .before .before .args in
+    let judge′ = c .before .before .before .before .judge in
+    let enum-told′ = c .before .before .enum-told in
     let s : State = stateOf (a .page) (a .text .now) (a .history .now) in
-    let f = fit s (c .before .before .before .before .judge .ensures) (c .before .before .enum-told .given .1) in
+    let f = fit s (judge′ .ensures) (enum-told′ .given .1) in
     sym (length-take-le (a .page .used) (a .history .now) (f .frame .uses))
 
 keep-sound-requires : tie.Need-keep-sound-requires
 keep-sound-requires c κs =
     let a = c .before .before .before .before .before .before .before .before .before .before .before .before .args in
+    let over-limit′ = c .before .before .before .before .before .before .before .over-limit in
+    let if1′ = c .before .before .before .before .before .before .if1 in
+    let judge′ = c .before .before .before .before .before .judge in
+    let enum-told′ = c .before .before .before .enum-told in
     let s : State = stateOf (a .page) (a .text .now) (a .history .now) in
-    let f = fit s (c .before .before .before .before .before .judge .ensures) (c .before .before .before .enum-told .given .1) in (
-      ltb-false limit (length (a .arrived .now)) (sym (c .before .before .before .before .before .before .before .over-limit .ensures) ∙ c .before .before .before .before .before .before .if1 .left),
+    let f = fit s (judge′ .ensures) (enum-told′ .given .1) in
+    (
+      ltb-false limit (length (a .arrived .now)) (sym (over-limit′ .ensures) ∙ if1′ .left),
       omega (arith, length-take-le (a .page .length) (a .text .now) (f .frame .fits), f .frame .fits, f .short-text),
       omega (arith, length-take-le (a .page .used) (a .history .now) (f .frame .uses), f .frame .uses, f .short-history),
     )
@@ -58,7 +70,11 @@ keep-sound-requires c κs =
 returns-2 : tie.Need-returns-2
 returns-2 c =
     let a = c .before .before .before .before .before .before .before .before .before .before .args in
-    keep-unfit (stateOf (a .page) (a .text .now) (a .history .now)) (a .arrived .now) (a .out .now) (sym (c .before .before .before .before .before .over-limit .ensures) ∙ c .before .before .before .before .if1 .left) (c .before .before .before .judge .ensures) (c .before .found .given .1)
+    let over-limit′ = c .before .before .before .before .before .over-limit in
+    let if1′ = c .before .before .before .before .if1 in
+    let judge′ = c .before .before .before .judge in
+    let found′ = c .before .found in
+    keep-unfit (stateOf (a .page) (a .text .now) (a .history .now)) (a .arrived .now) (a .out .now) (sym (over-limit′ .ensures) ∙ if1′ .left) (judge′ .ensures) (found′ .given .1)
 
 same-length : tie.Need-same-length
 same-length c = search needs
@@ -66,8 +82,13 @@ same-length c = search needs
 returns-3 : tie.Need-returns-3
 returns-3 c =
     let a = c .before .before .before .before .before .before .before .before .before .before .before .before .before .before .before .args in
+    let over-limit′ = c .before .before .before .before .before .before .before .before .before .before .over-limit in
+    let if1′ = c .before .before .before .before .before .before .before .before .before .if1 in
+    let judge′ = c .before .before .before .before .before .before .before .before .judge in
+    let enum-told′ = c .before .before .before .before .before .before .enum-told in
+    let keep-sound′ = c .before .before .keep-sound in
     let s : State = stateOf (a .page) (a .text .now) (a .history .now) in
-    c .before .before .keep-sound .ensures ∙ sym (keep-fit s (a .arrived .now) (a .out .now) (sym (c .before .before .before .before .before .before .before .before .before .before .over-limit .ensures) ∙ c .before .before .before .before .before .before .before .before .before .if1 .left) (fit s (c .before .before .before .before .before .before .before .before .judge .ensures) (c .before .before .before .before .before .before .enum-told .given .1)))
+    keep-sound′ .ensures ∙ sym (keep-fit s (a .arrived .now) (a .out .now) (sym (over-limit′ .ensures) ∙ if1′ .left) (fit s (judge′ .ensures) (enum-told′ .given .1)))
 
 pub keep-spec : {M : Type 1} → statement M
 keep-spec =

@@ -12,7 +12,10 @@ belongs-requires : tie.Need-belongs-requires
 belongs-requires c κs = search needs
 
 returns : tie.Need-returns
-returns c = rw (sym (c .before .belongs .ensures) ∙ not-true _ (c .if1 .taken))
+returns c =
+    let belongs′ = c .before .belongs in
+    let if1′ = c .if1 in
+    rw (sym (belongs′ .ensures) ∙ not-true _ (if1′ .taken))
 
 size-of-requires : tie.Need-size-of-requires
 size-of-requires c κs = search needs
@@ -20,10 +23,15 @@ size-of-requires c κs = search needs
 returns-2 : tie.Need-returns-2
 returns-2 c =
     let a = c .before .before .before .before .before .before .before .before .args in
-    rw (sym (c .before .before .before .belongs .ensures) ∙ not-false _ (c .before .before .if1 .left)) (no-room (fileOf (contentBy (a .page) (a .cells .now) (a .words .now) (a .arrived .now))) (a .out .now) (c .before .size-of .ensures) (omega arith))
+    let belongs′ = c .before .before .before .belongs in
+    let if1′ = c .before .before .if1 in
+    let size-of′ = c .before .size-of in
+    rw (sym (belongs′ .ensures) ∙ not-false _ (if1′ .left)) (no-room (fileOf (contentBy (a .page) (a .cells .now) (a .words .now) (a .arrived .now))) (a .out .now) (size-of′ .ensures) (omega arith))
 
 put-file-requires : tie.Need-put-file-requires
-put-file-requires c κs = omega (arith, c .before .before .size-of .ensures)
+put-file-requires c κs =
+    let size-of′ = c .before .before .size-of in
+    omega (arith, size-of′ .ensures)
 
 same-length : tie.Need-same-length
 same-length c = search needs
@@ -31,7 +39,11 @@ same-length c = search needs
 returns-3 : tie.Need-returns-3
 returns-3 c =
     let a = c .before .before .before .before .before .before .before .before .before .before .before .before .args in
-    rw (sym (c .before .before .before .before .before .before .before .belongs .ensures) ∙ not-false _ (c .before .before .before .before .before .before .if1 .left)) (has-room (fileOf (contentBy (a .page) (a .cells .now) (a .words .now) (a .arrived .now))) (a .out .now) (c .before .before .before .before .before .size-of .ensures) (omega arith) (c .before .before .put-file .ensures))
+    let belongs′ = c .before .before .before .before .before .before .before .belongs in
+    let if1′ = c .before .before .before .before .before .before .if1 in
+    let size-of′ = c .before .before .before .before .before .size-of in
+    let put-file′ = c .before .before .put-file in
+    rw (sym (belongs′ .ensures) ∙ not-false _ (if1′ .left)) (has-room (fileOf (contentBy (a .page) (a .cells .now) (a .words .now) (a .arrived .now))) (a .out .now) (size-of′ .ensures) (omega arith) (put-file′ .ensures))
 
 pub keep-sound-spec : {M : Type 1} → statement M
 keep-sound-spec =

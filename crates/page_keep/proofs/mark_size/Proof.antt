@@ -15,7 +15,9 @@ returns : tie.Need-returns
 returns c = search needs
 
 returns-2 : tie.Need-returns-2
-returns-2 c = (rw (c .enum-told .given .1) (sym (length-digits 10 5 (c .enum-told .given .0 .0))), lit≤ tt)
+returns-2 c =
+    let enum-told′ = c .enum-told in
+    (rw (enum-told′ .given .1) (sym (length-digits 10 5 (enum-told′ .given .0 .0))), lit≤ tt)
 
 pub mark-size-spec : {M : Type 1} → statement M
 mark-size-spec = tie.close (tie.spec enum-told enum-told-2 returns returns-2)

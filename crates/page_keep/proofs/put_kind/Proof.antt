@@ -9,7 +9,10 @@ slice-aggregate-put-bytes : tie.Need-slice-aggregate-put-bytes
 slice-aggregate-put-bytes c = search needs
 
 put-bytes-requires : tie.Need-put-bytes-requires
-put-bytes-requires c κs = rw (c .before .before .enum-told .given .1) at (c .before .before .before .before .before .pre)
+put-bytes-requires c κs =
+    let pre′ = c .before .before .before .before .before .pre in
+    let enum-told′ = c .before .before .enum-told in
+    rw (enum-told′ .given .1) at (pre′)
 
 enum-told-2 : tie.Need-enum-told-2
 enum-told-2 c = search needs
@@ -18,7 +21,10 @@ slice-aggregate-put-bytes-2 : tie.Need-slice-aggregate-put-bytes-2
 slice-aggregate-put-bytes-2 c = search needs
 
 put-bytes-requires-2 : tie.Need-put-bytes-requires-2
-put-bytes-requires-2 c κs = rw (c .before .before .enum-told2 .given .1) at (c .before .before .before .before .before .pre)
+put-bytes-requires-2 c κs =
+    let pre′ = c .before .before .before .before .before .pre in
+    let enum-told2′ = c .before .before .enum-told2 in
+    rw (enum-told2′ .given .1) at (pre′)
 
 enum-told-3 : tie.Need-enum-told-3
 enum-told-3 c = search needs
@@ -27,25 +33,37 @@ slice-aggregate-put-bytes-3 : tie.Need-slice-aggregate-put-bytes-3
 slice-aggregate-put-bytes-3 c = search needs
 
 put-bytes-requires-3 : tie.Need-put-bytes-requires-3
-put-bytes-requires-3 c κs = rw (c .before .before .enum-told3 .given .1) at (c .before .before .before .before .before .pre)
+put-bytes-requires-3 c κs =
+    let pre′ = c .before .before .before .before .before .pre in
+    let enum-told3′ = c .before .before .enum-told3 in
+    rw (enum-told3′ .given .1) at (pre′)
 
 same-length : tie.Need-same-length
 same-length c = search needs
 
 returns : tie.Need-returns
-returns c = rw (c .before .before .before .before .before .enum-told .given .1) (c .before .before .put-bytes .ensures)
+returns c =
+    let enum-told′ = c .before .before .before .before .before .enum-told in
+    let put-bytes′ = c .before .before .put-bytes in
+    rw (enum-told′ .given .1) (put-bytes′ .ensures)
 
 same-length-2 : tie.Need-same-length-2
 same-length-2 c = search needs
 
 returns-2 : tie.Need-returns-2
-returns-2 c = rw (c .before .before .before .before .before .enum-told2 .given .1) (c .before .before .put-bytes2 .ensures)
+returns-2 c =
+    let enum-told2′ = c .before .before .before .before .before .enum-told2 in
+    let put-bytes2′ = c .before .before .put-bytes2 in
+    rw (enum-told2′ .given .1) (put-bytes2′ .ensures)
 
 same-length-3 : tie.Need-same-length-3
 same-length-3 c = search needs
 
 returns-3 : tie.Need-returns-3
-returns-3 c = rw (c .before .before .before .before .before .enum-told3 .given .1) (c .before .before .put-bytes3 .ensures)
+returns-3 c =
+    let enum-told3′ = c .before .before .before .before .before .enum-told3 in
+    let put-bytes3′ = c .before .before .put-bytes3 in
+    rw (enum-told3′ .given .1) (put-bytes3′ .ensures)
 
 pub put-kind-spec : {M : Type 1} → statement M
 put-kind-spec =

@@ -14,25 +14,37 @@ slice-aggregate-put-bytes : tie.Need-slice-aggregate-put-bytes
 slice-aggregate-put-bytes c = search needs
 
 put-bytes-requires : tie.Need-put-bytes-requires
-put-bytes-requires c κs = rw (c .before .before .enum-told .given .1) at (c .before .before .before .before .before .pre)
+put-bytes-requires c κs =
+    let pre′ = c .before .before .before .before .before .pre in
+    let enum-told′ = c .before .before .enum-told in
+    rw (enum-told′ .given .1) at (pre′)
 
 same-length : tie.Need-same-length
 same-length c = search needs
 
 returns : tie.Need-returns
-returns c = rw (c .before .before .before .before .before .enum-told .given .1) (c .before .before .put-bytes .ensures)
+returns c =
+    let enum-told′ = c .before .before .before .before .before .enum-told in
+    let put-bytes′ = c .before .before .put-bytes in
+    rw (enum-told′ .given .1) (put-bytes′ .ensures)
 
 slice-aggregate-put-number : tie.Need-slice-aggregate-put-number
 slice-aggregate-put-number c = search needs
 
 put-number-requires : tie.Need-put-number-requires
-put-number-requires c κs = omega (arith, rw (c .before .before .before .mark .given .1) at (c .before .before .before .before .before .before .pre), number-size "saved" (c .before .before .before .mark .given .0 .0))
+put-number-requires c κs =
+    let pre′ = c .before .before .before .before .before .before .pre in
+    let mark′ = c .before .before .before .mark in
+    omega (arith, rw (mark′ .given .1) at (pre′), number-size "saved" (mark′ .given .0 .0))
 
 same-length-2 : tie.Need-same-length-2
 same-length-2 c = search needs
 
 returns-2 : tie.Need-returns-2
-returns-2 c = rw (c .before .before .before .before .before .before .mark .given .1) (omega (arith, number-size "saved" (c .before .before .before .before .before .before .mark .given .0 .0)), c .before .before .put-number .ensures .1)
+returns-2 c =
+    let mark′ = c .before .before .before .before .before .before .mark in
+    let put-number′ = c .before .before .put-number in
+    rw (mark′ .given .1) (omega (arith, number-size "saved" (mark′ .given .0 .0)), put-number′ .ensures .1)
 
 pub put-saved-spec : {M : Type 1} → statement M
 put-saved-spec =

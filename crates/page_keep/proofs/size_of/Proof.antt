@@ -36,7 +36,9 @@ add-result-4 : tie.Need-add-result-4
 add-result-4 c = omega (arith, limit-small)
 
 returns : tie.Need-returns
-returns c = omega (arith, file-size (c .before .before .before .before .before .args .page) (c .before .before .before .before .before .args .cells .now) (c .before .before .before .before .before .args .words .now) (c .before .before .before .before .before .args .arrived .now))
+returns c =
+    let a = c .before .before .before .before .before .args in
+    omega (arith, file-size (a .page) (a .cells .now) (a .words .now) (a .arrived .now))
 
 pub size-of-spec : {M : Type 1} → statement M
 size-of-spec =

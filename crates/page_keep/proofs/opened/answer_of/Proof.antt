@@ -23,15 +23,24 @@ jp2-answer-requires c κs = search needs
 
 returns : tie.Need-returns
 unfolding formatOf readingOf
-returns c = rw (c .before .enum-told .given .1) (c .utf7-answer .ensures)
+returns c =
+    let enum-told′ = c .before .enum-told in
+    let utf7-answer′ = c .utf7-answer in
+    rw (enum-told′ .given .1) (utf7-answer′ .ensures)
 
 returns-2 : tie.Need-returns-2
 unfolding formatOf readingOf
-returns-2 c = rw (c .before .enum-told2 .given .1) (c .utf7-answer2 .ensures)
+returns-2 c =
+    let enum-told2′ = c .before .enum-told2 in
+    let utf7-answer2′ = c .utf7-answer2 in
+    rw (enum-told2′ .given .1) (utf7-answer2′ .ensures)
 
 returns-3 : tie.Need-returns-3
 unfolding formatOf readingOf
-returns-3 c = rw (c .before .enum-told3 .given .1) (c .jp2-answer .ensures)
+returns-3 c =
+    let enum-told3′ = c .before .enum-told3 in
+    let jp2-answer′ = c .jp2-answer in
+    rw (enum-told3′ .given .1) (jp2-answer′ .ensures)
 
 pub answer-of-spec : {M : Type 1} → statement M
 answer-of-spec =

@@ -11,13 +11,22 @@ reads-as-requires : tie.Need-reads-as-requires
 reads-as-requires c κs = search needs
 
 returns : tie.Need-returns
-returns c = rw (eq-eqb (c .before .before .before .before .before .before .args .page .done) 0 (c .before .before .if1 .taken), ← c .before .format .ensures) (c .reads-as .ensures)
+returns c =
+    let a = c .before .before .before .before .before .before .args in
+    let if1′ = c .before .before .if1 in
+    let format′ = c .before .format in
+    let reads-as′ = c .reads-as in
+    rw (eq-eqb (a .page .done) 0 (if1′ .taken), ← format′ .ensures) (reads-as′ .ensures)
 
 has-cells-requires : tie.Need-has-cells-requires
 has-cells-requires c κs = search needs
 
 returns-2 : tie.Need-returns-2
-returns-2 c = rw (ne-eqb (c .before .before .before .before .before .args .page .done) 0 (c .before .if1 .left)) (c .has-cells .ensures)
+returns-2 c =
+    let a = c .before .before .before .before .before .args in
+    let if1′ = c .before .if1 in
+    let has-cells′ = c .has-cells in
+    rw (ne-eqb (a .page .done) 0 (if1′ .left)) (has-cells′ .ensures)
 
 pub belongs-spec : {M : Type 1} → statement M
 belongs-spec =

@@ -1,5 +1,6 @@
 use Rattle.codec.specs.Kinds.{readingIn}
-use Rattle.page_keep.proofs.Keeping.{count-yes, count-no, sound-end}
+use Rattle.codec.proofs.ByKind.{fault-numbered}
+use Rattle.page_file.proofs.Belonging.{count-yes, count-no}
 use borrow.Author.Needs.{needs}
 use Rattle.page_keep.proofs.opened.has_cells.Statement.{statement}
 use Rattle.page_keep.proofs.opened.has_cells.Tie as tie
@@ -14,10 +15,18 @@ enum-told : tie.Need-enum-told
 enum-told c = search needs
 
 returns : tie.Need-returns
-returns c = count-no (readingIn (c .before .before .before .before .args .kind) (c .before .before .before .before .args .text .now)) (sound-end (c .before .before .before .before .args .kind) (c .before .before .before .before .args .text .now)) (c .before .before .before .before .args .n) (c .before .before .answer-of .ensures) (c .enum-told .given .1)
+returns c =
+    let a = c .before .before .before .before .args in
+    let answer-of′ = c .before .before .answer-of in
+    let enum-told′ = c .enum-told in
+    count-no (readingIn (a .kind) (a .text .now)) (fault-numbered (a .kind) (a .text .now)) (a .n) (answer-of′ .ensures) (enum-told′ .given .1)
 
 returns-2 : tie.Need-returns-2
-returns-2 c = count-yes (readingIn (c .before .before .before .before .before .args .kind) (c .before .before .before .before .before .args .text .now)) (sound-end (c .before .before .before .before .before .args .kind) (c .before .before .before .before .before .args .text .now)) (c .before .before .before .before .before .args .n) (c .before .before .before .answer-of .ensures) (c .before .answer .given .1)
+returns-2 c =
+    let a = c .before .before .before .before .before .args in
+    let answer-of′ = c .before .before .before .answer-of in
+    let answer′ = c .before .answer in
+    count-yes (readingIn (a .kind) (a .text .now)) (fault-numbered (a .kind) (a .text .now)) (a .n) (answer-of′ .ensures) (answer′ .given .1)
 
 pub has-cells-spec : {M : Type 1} → statement M
 has-cells-spec =

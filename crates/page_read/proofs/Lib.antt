@@ -1,0 +1,4 @@
+pub mod Values
+pub mod Finds
+pub mod Sounds
+pub mod Answers
