@@ -26,7 +26,8 @@ and-true true = refl
 and-true false = refl
 
 pub belongs-by :
-    (c : Content) (standing : List Entry) → sizes standing ≡ c .page .done → reached (c .page .opening) (reverse standing) ≡ c .page .length →
+    (c : Content) (standing : List Entry) → sizes standing ≡ c .page .done → reached (c .page .opening)
+    (reverse standing) ≡ c .page .length →
     length (c .text) ≡ c .page .length → belongs c standing ≡ belongsBy (c .page) (c .text) (c .arrived)
 unfolding belongs reached
 belongs-by c [] e r h =
@@ -41,7 +42,8 @@ module _ (r : Reading) (sound : SoundEnd (r .ending)) (n : ℕ) where
   numbers : {k m : ℕ} {p q : ℕ} → numbered k p ≡ numbered m q → (k ≡ m) × (p ≡ q)
   numbers e = (ap (λ (v : Verdict). v .number) e, ap (λ (v : Verdict). v .place) e)
 
-  yes-by : (e : Ending) → SoundEnd e → (m : ℕ) → numbered 0 m ≡ closing e (length (r .cells)) → eqb m n ≡ countIs n e (r .cells)
+  yes-by : (e : Ending) → SoundEnd e → (m : ℕ) → numbered 0 m ≡ closing e (length (r .cells)) → eqb m n ≡ countIs n e
+      (r .cells)
   yes-by accepted h m q = rw (numbers q .1)
   yes-by (fault k place) h m q = absurd (omega (arith, numbers q .0))
 
@@ -52,5 +54,6 @@ module _ (r : Reading) (sound : SoundEnd (r .ending)) (n : ℕ) where
   pub count-yes : {a : Answer} {m : ℕ} → inNumbers a ≡ verdictOf r → a ≡ Accepted m → eqb m n ≡ counted n r
   count-yes {a} {m} e q = yes-by (r .ending) sound m (sym (ap inNumbers q) ∙ e)
 
-  pub count-no : {a : Answer} {why : Refusal} {place : ℕ} → inNumbers a ≡ verdictOf r → a ≡ Refused why place → false ≡ counted n r
+  pub count-no : {a : Answer} {why : Refusal} {place : ℕ} → inNumbers a ≡ verdictOf r → a ≡ Refused why place → false ≡
+      counted n r
   count-no {a} {why} {place} e q = no-by (r .ending) (numberOf why) place (number-pos why) (sym (ap inNumbers q) ∙ e)

@@ -57,16 +57,20 @@ line-size key value = simp length-append (omega arith)
 pub number-size : (key : String) (n : ℕ) → length (line key (decimal n)) ≡ length (bytes key) + 7
 number-size key n = line-size key (decimal n) ∙ omega (arith, length-digits 10 5 n)
 
-six : (a b c d e f : List ℕ) → length (a ++ (b ++ (c ++ (d ++ (e ++ f))))) ≡ length a + length b + length c + length d + length e + length f
+six : (a b c d e f : List ℕ) → length (a ++ (b ++ (c ++ (d ++ (e ++ f))))) ≡ length a + length b + length c + length d
+    + length e + length f
 six a b c d e f = simp length-append (omega arith)
 
 pub kind-size : (kind : Kind) → length (kindLines kind) ≡ 13 + length (nameOf kind)
-kind-size kind = length-append (line "form" (bytes "1")) (line "kind" (nameOf kind)) ∙ omega (arith, line-size "kind" (nameOf kind))
+kind-size kind = length-append (line "form" (bytes "1")) (line "kind" (nameOf kind)) ∙ omega
+    (arith, line-size "kind" (nameOf kind))
 
-pub head-size : (page : Page) → length (headOf page) ≡ 69 + (length (nameOf (page .kind)) + length (markOf form1 (page .saved)))
+pub head-size : (page : Page) → length (headOf page) ≡ 69 + (length (nameOf (page .kind)) + length
+    (markOf form1 (page .saved)))
 head-size page =
     six (kindLines (page .kind)) (line "opening" (decimal (page .opening))) (line "length" (decimal (page .length)))
-    (line "used" (decimal (page .used))) (line "done" (decimal (page .done))) (line "saved" (markOf form1 (page .saved)))
+    (line "used" (decimal (page .used))) (line "done" (decimal (page .done)))
+    (line "saved" (markOf form1 (page .saved)))
     ∙ omega (
       arith,
       kind-size (page .kind),
@@ -77,7 +81,8 @@ head-size page =
       line-size "saved" (markOf form1 (page .saved)),
     )
 
-pub lists-size : (arrived cells words : List ℕ) → length (listsOf arrived cells words) ≡ 24 + (length arrived * 2 + length cells * 8 + length words * 8)
+pub lists-size : (arrived cells words : List ℕ) → length (listsOf arrived cells words) ≡ 24 +
+    (length arrived * 2 + length cells * 8 + length words * 8)
 lists-size arrived cells words =
     length-append (line "arrived" (groups 2 arrived)) (line "text" (groups 8 cells) ++ line "history" (groups 8 words))
     ∙ omega (
@@ -94,7 +99,8 @@ lists-size arrived cells words =
 pub file-size :
     (page : Page) (cells words arrived : List ℕ) →
     length (fileOf (contentBy page cells words arrived))
-    ≡ 93 + (length (nameOf (page .kind)) + length (markOf form1 (page .saved))) + length arrived * 2 + length cells * 8 + length words * 8
+    ≡ 93 + (length (nameOf (page .kind)) + length (markOf form1 (page .saved))) + length arrived * 2 + length cells * 8
+    + length words * 8
 file-size page cells words arrived =
     ap length (file-is page cells words arrived)
     ∙ length-append (headOf page) (listsOf arrived cells words)
@@ -123,7 +129,8 @@ module _ (s : State) (arrived out : List ℕ) where
   module _ (few : over arrived ≡ false) where
     pub keep-unfit : {j : Judged} {a : Answer} → j ≡ judgeOf s → j ≡ Unfit a → leaves a out ≡ keepOf s arrived out
     unfolding keepOf keepParted
-    keep-unfit {j} {a} d e = rw few (sym (unfit s a (λ v. refusing v out) (keepParted (contentOf s arrived) out) refl d e))
+    keep-unfit {j} {a} d e = rw few (sym (unfit s a (λ v. refusing v out) (keepParted (contentOf s arrived) out) refl d
+        e))
 
     pub keep-fit :
         {last : ℕ} → Fit s last →

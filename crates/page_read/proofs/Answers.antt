@@ -53,18 +53,22 @@ refused-as a r arrived text history e = rw e
 
 module _ (arrived text history : List ℕ) (c : Content) where
   -- 14 and 15
-  parted-by : (x : Option Parted) → isSome x ≡ false → readParted arrived text history c x ≡ unread arrived text history (numbered 14 0)
+  parted-by : (x : Option Parted) → isSome x ≡ false → readParted arrived text history c x ≡ unread arrived text
+      history (numbered 14 0)
   unfolding readParted
   parted-by none e = refl
   parted-by (some v) e = let z : _≡_ {A = ℕ} 0 1 = cc in absurd (omega arith)
 
-  pub is-unsound : false ≡ isSome (records (stateFrom arrived text history c)) → readParted arrived text history c (records (stateFrom arrived text history c)) ≡ unread arrived text history (numbered 14 0)
+  pub is-unsound : false ≡ isSome (records (stateFrom arrived text history c)) → readParted arrived text history c
+      (records (stateFrom arrived text history c)) ≡ unread arrived text history (numbered 14 0)
   is-unsound e = parted-by (records (stateFrom arrived text history c)) (sym e)
 
   sound-by :
-      (x : Option Parted) → isSome x ≡ true → Whole (sound.Sound (stateFrom arrived text history c)) x → length (c .text) ≡ c .page .length →
+      (x : Option Parted) → isSome x ≡ true → Whole (sound.Sound (stateFrom arrived text history c)) x → length
+      (c .text) ≡ c .page .length →
       readParted arrived text history c x
-      ≡ cond (belongsBy (c .page) (c .text) (c .arrived)) (given arrived text history c) (unread arrived text history (numbered 15 0))
+      ≡ cond (belongsBy (c .page) (c .text) (c .arrived)) (given arrived text history c)
+      (unread arrived text history (numbered 15 0))
   unfolding readParted
   sound-by none e w h = let z : _≡_ {A = ℕ} 0 1 = cc in absurd (omega arith)
   sound-by (some v) e w h =
@@ -74,30 +78,51 @@ module _ (arrived text history : List ℕ) (c : Content) where
   pub is-sound :
       true ≡ isSome (records (stateFrom arrived text history c)) → length (c .text) ≡ c .page .length →
       readParted arrived text history c (records (stateFrom arrived text history c))
-      ≡ cond (belongsBy (c .page) (c .text) (c .arrived)) (given arrived text history c) (unread arrived text history (numbered 15 0))
-  is-sound e h = sound-by (records (stateFrom arrived text history c)) (sym e) (sound.records-sound (stateFrom arrived text history c)) h
+      ≡ cond (belongsBy (c .page) (c .text) (c .arrived)) (given arrived text history c)
+      (unread arrived text history (numbered 15 0))
+  is-sound e h = sound-by (records (stateFrom arrived text history c)) (sym e)
+      (sound.records-sound (stateFrom arrived text history c)) h
 
   -- 9
   module _ {a t h : ℕ} (ea : length (c .arrived) ≡ a) (et : length (c .text) ≡ t) (eh : length (c .history) ≡ h) where
-    pub no-arrived : length arrived < a → readFitting arrived text history c ≡ unread arrived text history (numbered 9 a)
+    pub no-arrived : length arrived < a → readFitting arrived text history c ≡ unread arrived text history
+        (numbered 9 a)
     unfolding readFitting
     no-arrived q = rw (lt-ltb (length arrived) (length (c .arrived)) (omega arith), ea)
 
     module _ (ra : a ≤ length arrived) where
       pub no-text : length text < t → readFitting arrived text history c ≡ unread arrived text history (numbered 9 t)
       unfolding readFitting
-      no-text q = rw (le-ltb (length arrived) (length (c .arrived)) (omega arith), lt-ltb (length text) (length (c .text)) (omega arith), et)
+      no-text q = rw (
+        le-ltb (length arrived) (length (c .arrived)) (omega arith),
+        lt-ltb (length text)
+            (length (c .text)) (omega arith),
+        et,
+      )
 
       module _ (rt : t ≤ length text) where
-        pub no-history : length history < h → readFitting arrived text history c ≡ unread arrived text history (numbered 9 h)
+        pub no-history : length history < h → readFitting arrived text history c ≡ unread arrived text history
+            (numbered 9 h)
         unfolding readFitting
         no-history q =
-            rw (le-ltb (length arrived) (length (c .arrived)) (omega arith), le-ltb (length text) (length (c .text)) (omega arith), lt-ltb (length history) (length (c .history)) (omega arith), eh)
+            rw (
+              le-ltb (length arrived) (length (c .arrived)) (omega arith),
+              le-ltb (length text) (length (c .text))
+                  (omega arith),
+              lt-ltb (length history) (length (c .history)) (omega arith),
+              eh,
+            )
 
-        pub all-fit : h ≤ length history → readFitting arrived text history c ≡ readParted arrived text history c (records (stateFrom arrived text history c))
+        pub all-fit : h ≤ length history → readFitting arrived text history c ≡ readParted arrived text history c
+            (records (stateFrom arrived text history c))
         unfolding readFitting
         all-fit q =
-            rw (le-ltb (length arrived) (length (c .arrived)) (omega arith), le-ltb (length text) (length (c .text)) (omega arith), le-ltb (length history) (length (c .history)) (omega arith))
+            rw (
+              le-ltb (length arrived) (length (c .arrived)) (omega arith),
+              le-ltb (length text) (length (c .text))
+                  (omega arith),
+              le-ltb (length history) (length (c .history)) (omega arith),
+            )
 
 -- 16 and 18
 module _ (arrived text history file : List ℕ) where
@@ -116,10 +141,12 @@ module _ (arrived text history file : List ℕ) where
       long-history q = rw (qa, qt, q)
 
       module _ (qh : over history ≡ false) where
-        pub bad-file : {place : ℕ} → broken place ≡ parse file → readOf arrived text history file ≡ unread arrived text history (numbered 18 place)
+        pub bad-file : {place : ℕ} → broken place ≡ parse file → readOf arrived text history file ≡ unread arrived text
+            history (numbered 18 place)
         unfolding readOf readParsed
         bad-file e = rw (qa, qt, qh, ← e)
 
-        pub good-file : (c : Content) → whole c ≡ parse file → readOf arrived text history file ≡ readFitting arrived text history c
+        pub good-file : (c : Content) → whole c ≡ parse file → readOf arrived text history file ≡ readFitting arrived
+            text history c
         unfolding readOf readParsed
         good-file c e = rw (qa, qt, qh, ← e)

@@ -33,7 +33,8 @@ not-no true e = refl
 not-no false e = sym e
 
 -- what is found, and what is not
-module _ {A : Type 0} (a : A) (s : List ℕ) (ok : Bool) (at : ℕ) {x : Parsed A} (e : cond ok (found a (drop at s) at) (failed at) ≡ x) where
+module _ {A : Type 0} (a : A) (s : List ℕ) (ok : Bool) (at : ℕ) {x : Parsed A}
+    (e : cond ok (found a (drop at s) at) (failed at) ≡ x) where
   pub is-found : ok ≡ true → x ≡ found a (drop at s) at
   is-found h = sym e ∙ rw h
 
@@ -49,14 +50,17 @@ module _ {A : Type 0} (a : A) (s : List ℕ) (r : Found) {x : Parsed A} (e : fou
   failed-if h = is-failed a s (r .ok) (r .at) e (not-yes (r .ok) h)
 
 -- a refusal handed on
-pub handed : {A : Type 0} (a : A) (s : List ℕ) (r : Found) {at : ℕ} → (r .ok ≡ false) × (r .at ≡ at) → foundAs a s r ≡ failed at
+pub handed : {A : Type 0} (a : A) (s : List ℕ) (r : Found) {at : ℕ} → (r .ok ≡ false) × (r .at ≡ at) → foundAs a s r ≡
+    failed at
 handed a s r (e, f) = rw (e, f)
 
-same-on : {A B : Type 0} (x : Parsed A) (f g : A → Parser B) → ((a : A) (bs : List ℕ) (at : ℕ) → f a bs at ≡ g a bs at) → onParsed x f ≡ onParsed x g
+same-on : {A B : Type 0} (x : Parsed A) (f g : A → Parser B) → ((a : A) (bs : List ℕ) (at : ℕ) → f a bs at ≡ g a bs at)
+    → onParsed x f ≡ onParsed x g
 same-on (found a rest at) f g h = h a rest at
 same-on (failed at) f g h = refl
 
-on-on : {A B C : Type 0} (x : Parsed A) (f : A → Parser B) (g : B → Parser C) → onParsed (onParsed x f) g ≡ onParsed x (λ a bs at. onParsed (f a bs at) g)
+on-on : {A B C : Type 0} (x : Parsed A) (f : A → Parser B) (g : B → Parser C) → onParsed (onParsed x f) g ≡ onParsed x
+    (λ a bs at. onParsed (f a bs at) g)
 on-on (found a rest at) f g = refl
 on-on (failed at) f g = refl
 
@@ -71,15 +75,19 @@ literal-on : (xs ys bs : List ℕ) (at : ℕ) → literal (xs ++ ys) bs at ≡ o
 unfolding literal
 literal-on [] ys bs at = refl
 literal-on (x ∷ xs) ys [] at = refl
-literal-on (x ∷ xs) ys (b ∷ bs) at = one-more (eqb b x) ys at (literal (xs ++ ys) bs (at + 1)) (literal xs bs (at + 1)) (literal-on xs ys bs (at + 1))
+literal-on (x ∷ xs) ys (b ∷ bs) at = one-more (eqb b x) ys at (literal (xs ++ ys) bs (at + 1)) (literal xs bs (at + 1))
+    (literal-on xs ys bs (at + 1))
 
 pub keyed-is : (key : String) (bs : List ℕ) (at : ℕ) → keyed key bs at ≡ literal (bytes key ++ bytes "=") bs at
 keyed-is key bs at = sym (literal-on (bytes key) (bytes "=") bs at)
 
-pub line-is : {A : Type 0} (key : String) (value : Parser A) (bs : List ℕ) (at : ℕ) → lineOf key value bs at ≡ keyLine (bytes key ++ bytes "=") value bs at
-line-is key value bs at = ap (λ (x : Parsed Unit). onParsed x (λ _ bs at. onParsed (value bs at) (λ v bs at. onParsed (literal LF bs at) (λ _. done v)))) (keyed-is key bs at)
+pub line-is : {A : Type 0} (key : String) (value : Parser A) (bs : List ℕ) (at : ℕ) → lineOf key value bs at ≡ keyLine
+    (bytes key ++ bytes "=") value bs at
+line-is key value bs at = ap (λ (x : Parsed Unit). onParsed x
+    (λ _ bs at. onParsed (value bs at) (λ v bs at. onParsed (literal LF bs at) (λ _. done v)))) (keyed-is key bs at)
 
-pub list-is : (key : String) (k least most : ℕ) (bs : List ℕ) (at : ℕ) → listOf key k least most bs at ≡ keyList (bytes key ++ bytes "=") k least most bs at
+pub list-is : (key : String) (k least most : ℕ) (bs : List ℕ) (at : ℕ) → listOf key k least most bs at ≡ keyList
+    (bytes key ++ bytes "=") k least most bs at
 list-is key k least most bs at = ap (λ (x : Parsed Unit). onParsed x (λ _. list k least most)) (keyed-is key bs at)
 
 -- nothing more behind it
@@ -91,10 +99,12 @@ ends-so (failed at) v = refl
 pub form-is : (bs : List ℕ) (at : ℕ) → lineOf "form" (literal (bytes "1")) bs at ≡ literal (bytes "form=1␊") bs at
 form-is bs at =
     line-is "form" (literal (bytes "1")) bs at
-    ∙ same-on (literal (bytes "form=") bs at) (λ _ bs at. onParsed (literal (bytes "1") bs at) (λ v bs at. onParsed (literal LF bs at) (λ _. done v)))
+    ∙ same-on (literal (bytes "form=") bs at) (λ _ bs at. onParsed (literal (bytes "1") bs at)
+    (λ v bs at. onParsed (literal LF bs at) (λ _. done v)))
     (λ _. literal (bytes "1␊"))
     (λ _ bs at.
-    same-on (literal (bytes "1") bs at) (λ v bs at. onParsed (literal LF bs at) (λ _. done v)) (λ _. literal LF) (λ v bs at. ends-so (literal LF bs at) v)
+    same-on (literal (bytes "1") bs at) (λ v bs at. onParsed (literal LF bs at) (λ _. done v)) (λ _. literal LF)
+    (λ v bs at. ends-so (literal LF bs at) v)
     ∙ sym (literal-on (bytes "1") LF bs at))
     ∙ sym (literal-on (bytes "form=") (bytes "1␊") bs at)
 
@@ -102,13 +112,15 @@ form-is bs at =
 passing : List ℕ → Bool → ℕ → Parsed (Unit {0})
 passing s ok at = cond ok (found tt (drop at s) at) (failed at)
 
-end-by : {A : Type 0} (a : A) (s : List ℕ) (ok : Bool) (at : ℕ) → cond ok (found a (drop at s) at) (failed at) ≡ onParsed (passing s ok at) (λ _. done a)
+end-by : {A : Type 0} (a : A) (s : List ℕ) (ok : Bool) (at : ℕ) → cond ok (found a (drop at s) at) (failed at) ≡
+    onParsed (passing s ok at) (λ _. done a)
 unfolding passing
 end-by a s true at = refl
 end-by a s false at = refl
 
 pub end-as :
-    {A : Type 0} (a : A) (s : List ℕ) (ok : Bool) (at : ℕ) {x : Parsed (Unit {0})} → cond ok (found tt (drop at s) at) (failed at) ≡ x →
+    {A : Type 0} (a : A) (s : List ℕ) (ok : Bool) (at : ℕ) {x : Parsed (Unit {0})} → cond ok (found tt (drop at s) at)
+    (failed at) ≡ x →
     cond ok (found a (drop at s) at) (failed at) ≡ onParsed x (λ _. done a)
 unfolding passing
 end-as a s ok at e = end-by a s ok at ∙ ap (λ (x : Parsed (Unit {0})). onParsed x (λ _. done a)) e
@@ -130,7 +142,8 @@ module _ (s : List ℕ) (h : Head) (e : headThen s h ≡ linesOf form1 s 0) wher
 pub ends-here : (c : Content) (s : List ℕ) (at : ℕ) → at ≡ length s → wholly (found c (drop at s) at) ≡ whole c
 ends-here c s at e = rw (drop-of-length-le s {i = at} (omega arith))
 
-pub goes-on : (c : Content) (s : List ℕ) (at : ℕ) → at ≤ length s → (at ≡ length s → ⊥) → wholly (found c (drop at s) at) ≡ broken at
+pub goes-on : (c : Content) (s : List ℕ) (at : ℕ) → at ≤ length s → (at ≡ length s → ⊥) → wholly
+    (found c (drop at s) at) ≡ broken at
 goes-on c s at h n = rw (drop-cons s at 0 (omega arith))
 
 -- a plan tells what the file is

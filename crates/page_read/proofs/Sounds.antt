@@ -1,4 +1,5 @@
--- Buffers that begin with a page's lists and hold zeros past them, and whether the page is sound with them. Assumes nothing.
+-- Buffers that begin with a page's lists and hold zeros past them, and whether the page is sound with them. Assumes
+-- nothing.
 use Prim.Native.Nat.{ℕ, zero, suc, _+_, _-_, _≤_, _<_}
 use mathlib.Core.Path.{_≡_, refl, sym, ap, _∙_}
 use mathlib.Core.Bool.{Bool, true, false, _&&_}
@@ -28,7 +29,8 @@ some-judged done (some v) l e = refl
 
 module _ {p : Page} {room : ℕ} {words t h : List ℕ} (f : Frames p room words t h) where
   words-same : (from to : ℕ) → to ≤ p .used → slice from to words ≡ slice from to h
-  words-same from to q = ap (λ (l : List ℕ). drop from (take to l)) (sym (f .begins)) ∙ ap (drop from) (take-take to (p .used) h q)
+  words-same from to q = ap (λ (l : List ℕ). drop from (take to l)) (sym (f .begins)) ∙ ap (drop from)
+      (take-take to (p .used) h q)
 
   -- the tests before the records are looked at
   pub no-opening : room < p .opening → bounded (stateOf p t h) ≡ false
@@ -39,13 +41,29 @@ module _ {p : Page} {room : ℕ} {words t h : List ℕ} (f : Frames p room words
     pub no-done : p .used < p .done → bounded (stateOf p t h) ≡ false
     unfolding framed
     no-done q =
-        rw (le-leb (p .opening) (length t) (omega (arith, f .same)), le-leb (p .length) (length t) (f .size), le-leb (p .used) (length h) (f .used), f .blank-text, f .blank-history, lt-leb (p .done) (p .used) q)
+        rw (
+          le-leb (p .opening) (length t) (omega (arith, f .same)),
+          le-leb (p .length) (length t) (f .size),
+          le-leb
+              (p .used) (length h) (f .used),
+          f .blank-text,
+          f .blank-history,
+          lt-leb (p .done) (p .used) q,
+        )
 
     module _ (stands : p .done ≤ p .used) where
       by-mark : (m : Bool) → markWithin (p .used) (p .saved) ≡ m → bounded (stateOf p t h) ≡ m
       unfolding framed
       by-mark m e =
-          rw (le-leb (p .opening) (length t) (omega (arith, f .same)), le-leb (p .length) (length t) (f .size), le-leb (p .used) (length h) (f .used), f .blank-text, f .blank-history, le-leb (p .done) (p .used) stands) e
+          rw (
+            le-leb (p .opening) (length t) (omega (arith, f .same)),
+            le-leb (p .length) (length t) (f .size),
+            le-leb
+                (p .used) (length h) (f .used),
+            f .blank-text,
+            f .blank-history,
+            le-leb (p .done) (p .used) stands,
+          ) e
 
       pub no-mark : markWithin (p .used) (p .saved) ≡ false → bounded (stateOf p t h) ≡ false
       no-mark e = by-mark false e
@@ -61,8 +79,10 @@ module _ {p : Page} {room : ℕ} {words t h : List ℕ} (f : Frames p room words
 
       pub undone-walk :
           {w : Walk} →
-          w ≡ walkCut room (p .done) (p .length) (p .done) (cutIn (p .saved) (p .done) (p .used) - p .done) (slice (p .done) (p .used) words) →
-          w ≡ walkCut (length t) (p .done) (p .length) (p .done) (cutIn (p .saved) (p .done) (p .used) - p .done) (slice (p .done) (p .used) h)
+          w ≡ walkCut room (p .done) (p .length) (p .done) (cutIn (p .saved) (p .done) (p .used) - p .done)
+          (slice (p .done) (p .used) words) →
+          w ≡ walkCut (length t) (p .done) (p .length) (p .done) (cutIn (p .saved) (p .done) (p .used) - p .done)
+          (slice (p .done) (p .used) h)
       undone-walk e = e ∙ rw (← f .same, words-same (p .done) (p .used) (omega arith))
 
 -- zeros in place of what is past the end
@@ -72,9 +92,11 @@ zeros-blank zero = refl
 zeros-blank (suc n) = zeros-blank n
 
 length-pad : (n : ℕ) (l : List ℕ) → length l ≤ n → length (pad n l) ≡ n
-length-pad n l h = length-append l (replicate (n - length l) 0) ∙ omega (arith, length-replicate {A = ℕ} (n - length l) 0)
+length-pad n l h = length-append l (replicate (n - length l) 0) ∙ omega
+    (arith, length-replicate {A = ℕ} (n - length l) 0)
 
-pub padded : (p : Page) (room space : ℕ) (cells words : List ℕ) → length cells ≡ p .length → length words ≡ p .used → p .length ≤ room → p .used ≤ space → Frames p room words (pad room cells) (pad space words)
+pub padded : (p : Page) (room space : ℕ) (cells words : List ℕ) → length cells ≡ p .length → length words ≡ p .used → p
+    .length ≤ room → p .used ≤ space → Frames p room words (pad room cells) (pad space words)
 padded p room space cells words e f h g =
     let n : length (pad room cells) ≡ room = length-pad room cells (omega arith) in
     let m : length (pad space words) ≡ space = length-pad space words (omega arith) in
@@ -83,6 +105,8 @@ padded p room space cells words e f h g =
       size = omega arith;
       used = omega arith;
       begins = take-at words (replicate (space - length words) 0) (p .used) f;
-      blank-text = ap zeros (drop-at cells (replicate (room - length cells) 0) (p .length) e) ∙ zeros-blank (room - length cells);
-      blank-history = ap zeros (drop-at words (replicate (space - length words) 0) (p .used) f) ∙ zeros-blank (space - length words);
+      blank-text = ap zeros (drop-at cells (replicate (room - length cells) 0) (p .length) e) ∙ zeros-blank
+          (room - length cells);
+      blank-history = ap zeros (drop-at words (replicate (space - length words) 0) (p .used) f) ∙ zeros-blank
+          (space - length words);
     }

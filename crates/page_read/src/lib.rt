@@ -59,7 +59,13 @@ fn fill_words(file: &[u8], from: usize, n: usize, out: &mut [u32])
 }
 
 // Fills the three buffers.
-fn take_in(file: &[u8], plan: Plan, arrived: &mut [u8], text: &mut [u32], history: &mut [u32]) -> Edited
+fn take_in(
+    file: &[u8],
+    plan: Plan,
+    arrived: &mut [u8],
+    text: &mut [u32],
+    history: &mut [u32],
+) -> Edited
     requires { ⌜ Lists (now file) plan × (plan .count ≤ length (now arrived)) × (plan .page .length ≤ length (now text)) × (plan .page .used ≤ length (now history)) ⌝ }
     ensures { λ r. ⌜ keeps r (now (text .exit)) (now (history .exit)) (now (arrived .exit))
         ≡ given (now (arrived .entry)) (now (text .entry)) (now (history .entry)) (contentIn (now (file .entry)) plan) ⌝ }
@@ -76,7 +82,13 @@ fn take_in(file: &[u8], plan: Plan, arrived: &mut [u8], text: &mut [u32], histor
 }
 
 // 14, then 15.
-fn read_sound(file: &[u8], plan: Plan, arrived: &mut [u8], text: &mut [u32], history: &mut [u32]) -> Edited
+fn read_sound(
+    file: &[u8],
+    plan: Plan,
+    arrived: &mut [u8],
+    text: &mut [u32],
+    history: &mut [u32],
+) -> Edited
     requires { ⌜ Lists (now file) plan × (plan .count ≤ length (now arrived)) × (plan .page .length ≤ length (now text)) × (plan .page .used ≤ length (now history))
         × (length (now text) ≤ limit) × (length (now history) ≤ limit) ⌝ }
     ensures { λ r. ⌜ keeps r (now (text .exit)) (now (history .exit)) (now (arrived .exit))
@@ -94,7 +106,13 @@ fn read_sound(file: &[u8], plan: Plan, arrived: &mut [u8], text: &mut [u32], his
 }
 
 // 9 for the first list that lacks room.
-fn read_fitting(file: &[u8], plan: Plan, arrived: &mut [u8], text: &mut [u32], history: &mut [u32]) -> Edited
+fn read_fitting(
+    file: &[u8],
+    plan: Plan,
+    arrived: &mut [u8],
+    text: &mut [u32],
+    history: &mut [u32],
+) -> Edited
     requires { ⌜ Lists (now file) plan × (length (now text) ≤ limit) × (length (now history) ≤ limit) ⌝ }
     ensures { λ r. ⌜ keeps r (now (text .exit)) (now (history .exit)) (now (arrived .exit))
         ≡ readFitting (now (arrived .entry)) (now (text .entry)) (now (history .entry)) (contentIn (now (file .entry)) plan) ⌝ }

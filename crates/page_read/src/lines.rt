@@ -287,7 +287,15 @@ fn first_lines(file: &[u8]) -> Head
     }
     let name = kind_of(kind.value);
     let mark = saved.mark;
-    head_of(name, opening.value, length.value, used.value, done.value, mark, saved.at)
+    head_of(
+        name,
+        opening.value,
+        length.value,
+        used.value,
+        done.value,
+        mark,
+        saved.at,
+    )
 }
 
 fn no_list(at: usize) -> Listed

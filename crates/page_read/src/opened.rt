@@ -1,4 +1,5 @@
-// Whether a file's arrived bytes belong to its page, read by their hex digits one by one: nothing is written before all is judged.
+// Whether a file's arrived bytes belong to its page, read by their hex digits one by one: nothing is written before all
+// is judged.
 use crate::hex;
 use crate::lines::Plan;
 use answer::Answer;

@@ -1,4 +1,5 @@
-// Whether a page's records are sound, walked over by their hex digits in a file: what the crate records does over words.
+// Whether a page's records are sound, walked over by their hex digits in a file: what the crate records does over
+// words.
 use crate::hex;
 use editor::Mark;
 use ledger::Page;
@@ -23,7 +24,8 @@ fn word_of(file: &[u8], base: usize, n: usize, i: usize) -> usize
     records::wide(hex::word_at(file, base + i * 8))
 }
 
-// The records from one word to another of the n words from a place on, from a length on, where the record before begins at a word.
+// The records from one word to another of the n words from a place on, from a length on, where the record before begins
+// at a word.
 fn walk_records(
     file: &[u8],
     base: usize,
@@ -102,14 +104,32 @@ pub fn is_sound(file: &[u8], base: usize, page: Page, room: usize) -> bool
     if !records::mark_within(saved, page.used) {
         return false;
     }
-    let standing = walk_marked(file, base, page.used, 0, page.done, page.opening, room, saved);
+    let standing = walk_marked(
+        file,
+        base,
+        page.used,
+        0,
+        page.done,
+        page.opening,
+        room,
+        saved,
+    );
     let Walk::Led(reached, _) = standing else {
         return false;
     };
     if reached != page.length {
         return false;
     }
-    let undone = walk_marked(file, base, page.used, page.done, page.used, page.length, room, saved);
+    let undone = walk_marked(
+        file,
+        base,
+        page.used,
+        page.done,
+        page.used,
+        page.length,
+        room,
+        saved,
+    );
     let Walk::Led(_, _) = undone else {
         return false;
     };

@@ -6,7 +6,8 @@ use mathlib.Core.List.{List, [], _∷_}
 use mathlib.Core.Logic.{_⊎_, inl, inr, ⊎-elim}
 use native.Mathlib.Omega.{arith}
 use native.Mathlib.Numerals.{add-one}
-use native.Mathlib.Nat.{add-zero, sub-zero, pow-succ', mul-assoc, mul-le-mul-right, one-mul, suc-mul, zero-mul, add-mul, one-le-pow, div-add-mod', mod-lt}
+use native.Mathlib.Nat.{add-zero, sub-zero, pow-succ', mul-assoc, mul-le-mul-right, one-mul, suc-mul, zero-mul, add-mul}
+use native.Mathlib.Nat.{one-le-pow, div-add-mod', mod-lt}
 use lib.ListN.{length, getD, drop, drop-of-length-le}
 use lib.Dec.{ltb, leb, eqb, lit<, lit≤}
 use borrow.Author.Tests.{leb-true, leb-false, ltb-true, ltb-false, lt-ltb, le-ltb, le-leb, eqb-true, eq-eqb, ne-eqb}
@@ -37,7 +38,8 @@ module _ (s : List ℕ) (k from : ℕ) where
   -- the digits that are still to come keep the number within its bound
   room-left : (v d j : ℕ) → d < 16 → (v + 1) * 16 ^ suc j ≤ 16 ^ k → (v * 16 + d + 1) * 16 ^ j ≤ 16 ^ k
   room-left v d j h r =
-      let e : (v + 1) * 16 ^ suc j ≡ (v + 1) * 16 * 16 ^ j = ap (λ (n : ℕ). (v + 1) * n) (pow-succ' 16 j) ∙ sym (mul-assoc (v + 1) 16 (16 ^ j)) in
+      let e : (v + 1) * 16 ^ suc j ≡ (v + 1) * 16 * 16 ^ j = ap (λ (n : ℕ). (v + 1) * n) (pow-succ' 16 j) ∙ sym
+      (mul-assoc (v + 1) 16 (16 ^ j)) in
       let g : (v * 16 + d + 1) * 16 ^ j ≤ (v + 1) * 16 * 16 ^ j = mul-le-mul-right (16 ^ j) (omega arith) in
       omega arith
 
@@ -75,11 +77,13 @@ module _ (s : List ℕ) (k from : ℕ) where
       let r : (hexAt s from i + 1) * 16 ^ suc (k - suc i) ≤ 16 ^ k = rw e at (o .left) in
       record {
         so = o .so ∙ ap (after i) e ∙ digit-on i (k - suc i) (omega arith) d r;
-        left = rw (nibble-value (getD s (from + i) 0) d) (room-left (hexAt s from i) (valueOf (getD s (from + i) 0)) (k - suc i) d r);
+        left = rw (nibble-value (getD s (from + i) 0) d) (room-left (hexAt s from i) (valueOf (getD s (from + i) 0))
+            (k - suc i) d r);
       }
 
   -- a number is found
-  pub hex-found : from + k ≤ length s → Ahead IsDigit s from k → number 16 k bound (drop from s) from ≡ found (hexAt s from k) (drop (from + k) s) (from + k)
+  pub hex-found : from + k ≤ length s → Ahead IsDigit s from k → number 16 k bound (drop from s) from ≡ found
+      (hexAt s from k) (drop (from + k) s) (from + k)
   unfolding numberFrom
   hex-found l f =
       let z : k - k ≡ 0 = omega arith in
@@ -101,13 +105,15 @@ module _ (s : List ℕ) (k from : ℕ) where
       go true e = other i j (ltb-true (from + i) (length s) e) (q (ltb-true (from + i) (length s) e))
       go false e = ended i j (ltb-false (from + i) (length s) e)
 
-  pub hex-fails : (r : ℕ) → r < k → from + r ≤ length s → Ahead IsDigit s from r → Stop s (from + r) → number 16 k bound (drop from s) from ≡ failed (from + r)
+  pub hex-fails : (r : ℕ) → r < k → from + r ≤ length s → Ahead IsDigit s from r → Stop s (from + r) → number 16 k
+      bound (drop from s) from ≡ failed (from + r)
   hex-fails r h l f q =
       let e : k - r ≡ suc (k - suc r) = omega arith in
       digits-on r (omega arith) l f .so ∙ ap (after r) e ∙ no-digit r (k - suc r) q
 
 -- the end of the line
-line-ends : (s : List ℕ) (at : ℕ) → at < length s → getD s at 0 ≡ 10 → lineEnd (drop at s) at ≡ found [] (drop (at + 1) s) (at + 1)
+line-ends : (s : List ℕ) (at : ℕ) → at < length s → getD s at 0 ≡ 10 → lineEnd (drop at s) at ≡ found []
+    (drop (at + 1) s) (at + 1)
 unfolding literal
 line-ends s at l e = rw (here s at l, e)
 
@@ -141,7 +147,8 @@ module _ (s : List ℕ) (k : ℕ) (digital : 0 < k) where
 
   -- a number, and what follows it
   more-found :
-      (from : ℕ) (more : List ℕ → ℕ → Parsed (List ℕ)) (xs : List ℕ) (to : ℕ) → from + k ≤ length s → Ahead IsDigit s from k →
+      (from : ℕ) (more : List ℕ → ℕ → Parsed (List ℕ)) (xs : List ℕ) (to : ℕ) → from + k ≤ length s → Ahead IsDigit s
+      from k →
       more (drop (from + k) s) (from + k) ≡ found xs (drop to s) to →
       withMore k more (drop from s) from ≡ found (hexAt s from k ∷ xs) (drop to s) to
   more-found from more xs to l f e = rw (hex-found s k from l f, e)
@@ -152,7 +159,8 @@ module _ (s : List ℕ) (k : ℕ) (digital : 0 < k) where
   more-fails from more to l f e = rw (hex-found s k from l f, e)
 
   -- one group, and those behind it
-  first-group : (n from : ℕ) → Ahead IsDigit s from (suc n * k) → Ahead IsDigit s from k × Ahead IsDigit s (from + k) (n * k)
+  first-group : (n from : ℕ) → Ahead IsDigit s from (suc n * k) → Ahead IsDigit s from k × Ahead IsDigit s (from + k)
+      (n * k)
   first-group n from f = (
     (λ m h. f m (omega (arith, suc-mul n k))),
     (λ m h. let e : from + (k + m) ≡ from + k + m = omega arith in rw e at (f (k + m) (omega (arith, suc-mul n k)))),
@@ -188,12 +196,14 @@ module _ (s : List ℕ) (k : ℕ) (digital : 0 < k) where
       let g = first-group n from (p .0) in
       let r = list-found n zero most (from + k) (omega arith) (omega arith) (next-line n from p) in
       rw (no-line s from (starts-digit from (g .0)), behind n from)
-      (ap (further from) (more-found from (list k zero most) (hexesAt s (from + k) k n) (from + k + n * k + 1) (omega (arith, p .1, suc-mul n k)) (g .0) r))
+      (ap (further from) (more-found from (list k zero most) (hexesAt s (from + k) k n) (from + k + n * k + 1)
+      (omega (arith, p .1, suc-mul n k)) (g .0) r))
   list-found (suc n) (suc least) (suc most) from a b p =
       let g = first-group n from (p .0) in
       let r = list-found n least most (from + k) (omega arith) (omega arith) (next-line n from p) in
       rw (behind n from)
-      (more-found from (list k least most) (hexesAt s (from + k) k n) (from + k + n * k + 1) (omega (arith, p .1, suc-mul n k)) (g .0) r)
+      (more-found from (list k least most) (hexesAt s (from + k) k n) (from + k + n * k + 1)
+      (omega (arith, p .1, suc-mul n k)) (g .0) r)
 
   -- digits that end inside a group, or where no line may end
   pub record Ends (g r least most from : ℕ) : Type 0 where
@@ -206,7 +216,8 @@ module _ (s : List ℕ) (k : ℕ) (digital : 0 < k) where
     pub stop : g < most → Stop s (from + (g * k + r))
     pub going : from + (g * k + r) < length s → getD s (from + (g * k + r)) 0 ≡ 10 → (0 < r) ⊎ (g < least)
 
-  next-ends : (g r least least' most from : ℕ) → Ends (suc g) r least (suc most) from → (least ≤ suc least') → least' ≤ most → (suc g < least → g < least') → Ends g r least' most (from + k)
+  next-ends : (g r least least' most from : ℕ) → Ends (suc g) r least (suc most) from → (least ≤ suc least') → least' ≤
+      most → (suc g < least → g < least') → Ends g r least' most (from + k)
   next-ends g r least least' most from p h q t =
       let e : from + (suc g * k + r) ≡ from + k + (g * k + r) = omega (arith, suc-mul g k) in
       record {
@@ -215,7 +226,8 @@ module _ (s : List ℕ) (k : ℕ) (digital : 0 < k) where
         need = q;
         full = λ z. p .full (omega arith);
         inside = omega (arith, p .inside);
-        digits = λ m h. let z : from + (k + m) ≡ from + k + m = omega arith in rw z at (p .digits (k + m) (omega (arith, suc-mul g k)));
+        digits = λ m h. let z : from + (k + m) ≡ from + k + m = omega arith in rw z at
+            (p .digits (k + m) (omega (arith, suc-mul g k)));
         stop = λ z. rw e at (p .stop (omega arith));
         going = λ l z. ⊎-elim inl (λ y. inr (t y)) (p .going (omega arith) (rw e z));
       }
@@ -230,24 +242,29 @@ module _ (s : List ℕ) (k : ℕ) (digital : 0 < k) where
       ⊎-elim (λ h. omega arith) (λ h. omega arith) (p .going (omega arith) (rw z e))
   none-ends (suc r) most from p l e = digit-goes (getD s (from + 0) 0) (p .digits 0 (omega arith)) (rw add-zero e)
 
-  none-fails : (r least most from : ℕ) (more : List ℕ → ℕ → Parsed (List ℕ)) → Ends 0 r least (suc most) from → withMore k more (drop from s) from ≡ failed (from + r)
+  none-fails : (r least most from : ℕ) (more : List ℕ → ℕ → Parsed (List ℕ)) → Ends 0 r least (suc most) from →
+      withMore k more (drop from s) from ≡ failed (from + r)
   none-fails r least most from more p =
       let z : end 0 r from ≡ from + r = omega (arith, zero-mul k) in
       let y : 0 * k + r ≡ r = omega (arith, zero-mul k) in
-      rw (hex-fails s k from r (p .part) (omega (arith, p .inside)) (rw y at (p .digits)) (rw z at (p .stop (omega arith))))
+      rw (hex-fails s k from r (p .part) (omega (arith, p .inside)) (rw y at (p .digits))
+      (rw z at (p .stop (omega arith))))
 
   group-fails :
       (g r least most from to : ℕ) (more : List ℕ → ℕ → Parsed (List ℕ)) → Ends (suc g) r least most from →
       more (drop (from + k) s) (from + k) ≡ failed to → withMore k more (drop from s) from ≡ failed to
   group-fails g r least most from to more p e =
-      more-fails from more to (omega (arith, p .inside, suc-mul g k)) (λ m h. p .digits m (omega (arith, suc-mul g k))) e
+      more-fails from more to (omega (arith, p .inside, suc-mul g k)) (λ m h. p .digits m (omega (arith, suc-mul g k)))
+      e
 
-  pub list-fails : (g r least most from : ℕ) → Ends g r least most from → list k least most (drop from s) from ≡ failed (end g r from)
+  pub list-fails : (g r least most from : ℕ) → Ends g r least most from → list k least most (drop from s) from ≡ failed
+      (end g r from)
   unfolding list
   list-fails zero r least zero from p =
       let y : r ≡ 0 = p .full refl in
       let z : end 0 r from ≡ from = omega (arith, zero-mul k) in
-      rw z (no-line s from (λ l e. ⊎-elim (λ h. omega arith) (λ h. omega (arith, p .need)) (p .going (omega arith) (rw z e))))
+      rw z (no-line s from (λ l e. ⊎-elim (λ h. omega arith) (λ h. omega (arith, p .need))
+      (p .going (omega arith) (rw z e))))
   list-fails zero r zero (suc most) from p =
       let z : end 0 r from ≡ from + r = omega (arith, zero-mul k) in
       let m : max from (from + r) ≡ from + r = omega arith in
@@ -260,12 +277,14 @@ module _ (s : List ℕ) (k : ℕ) (digital : 0 < k) where
       let q = next-ends g r 0 0 most from p (omega arith) (omega arith) (λ h. absurd (omega arith)) in
       let z : end g r (from + k) ≡ end (suc g) r from = omega (arith, suc-mul g k) in
       let m : max from (end (suc g) r from) ≡ end (suc g) r from = omega arith in
-      let f = group-fails g r 0 (suc most) from (end (suc g) r from) (list k zero most) p (list-fails g r zero most (from + k) q ∙ ap failed z) in
+      let f = group-fails g r 0 (suc most) from (end (suc g) r from) (list k zero most) p
+      (list-fails g r zero most (from + k) q ∙ ap failed z) in
       rw (no-line s from (starts-digit from (λ i h. p .digits i (omega (arith, suc-mul g k)))), f, m)
   list-fails (suc g) r (suc least) (suc most) from p =
       let q = next-ends g r (suc least) least most from p (omega arith) (omega (arith, p .need)) (λ h. omega arith) in
       let z : end g r (from + k) ≡ end (suc g) r from = omega (arith, suc-mul g k) in
-      group-fails g r (suc least) (suc most) from (end (suc g) r from) (list k least most) p (list-fails g r least most (from + k) q ∙ ap failed z)
+      group-fails g r (suc least) (suc most) from (end (suc g) r from) (list k least most) p
+      (list-fails g r least most (from + k) q ∙ ap failed z)
 
 -- as code has it: the digits end at `end`, at most at `to`
 pub record Scanned (s : List ℕ) (k least most from to end : ℕ) : Type 0 where
@@ -297,7 +316,15 @@ module _ {s : List ℕ} {k least most from to end : ℕ} (p : Scanned s k least 
     where
       go : (t : Bool) → leb (size / k) most ≡ t → size / k ≤ most
       go true e = leb-true (size / k) most e
-      go false e = absurd (omega (arith, more-groups (size / k) (leb-false (size / k) most e), parts, p .end-to, p .cap, p .digital))
+      go false e = absurd (omega (
+        arith,
+        more-groups (size / k) (leb-false (size / k) most e),
+        parts,
+        p .end-to,
+        p
+            .cap,
+        p .digital,
+      ))
 
   all-groups : size / k ≡ most → size % k ≡ 0
   all-groups e = let z : size / k * k ≡ most * k = ap (λ (n : ℕ). n * k) e in omega (arith, parts, p .end-to, p .cap)
@@ -315,7 +342,8 @@ module _ {s : List ℕ} {k least most from to end : ℕ} (p : Scanned s k least 
           let z = mod-lt size {m = k} (p .digital) in
           absurd (omega (arith, p .end-to, p .capped (omega (arith, p .end-to)), parts, fewer-groups (size / k) h))
 
-  ends : (end < length s → getD s end 0 ≡ 10 → (0 < size % k) ⊎ (size / k < least)) → Ends s k (p .digital) (size / k) (size % k) least most from
+  ends : (end < length s → getD s end 0 ≡ 10 → (0 < size % k) ⊎ (size / k < least)) → Ends s k (p .digital) (size / k)
+      (size % k) least most from
   ends why =
       let z : size / k * k + size % k ≡ size = div-add-mod' size k in
       record {
@@ -329,7 +357,8 @@ module _ {s : List ℕ} {k least most from to end : ℕ} (p : Scanned s k least 
         going = rw parts why;
       }
 
-  pub scan-fails : (end < length s → getD s end 0 ≡ 10 → (0 < size % k) ⊎ (size / k < least)) → failed end ≡ list k least most (drop from s) from
+  pub scan-fails : (end < length s → getD s end 0 ≡ 10 → (0 < size % k) ⊎ (size / k < least)) → failed end ≡ list k
+      least most (drop from s) from
   scan-fails why = sym (list-fails s k (p .digital) (size / k) (size % k) least most from (ends why) ∙ ap failed parts)
 
   pub scan-found :
@@ -355,6 +384,7 @@ none-there k least zero from = refl
 none-there k zero (suc most) from = let m : max from from ≡ from = omega arith in rw m
 none-there k (suc least) (suc most) from = refl
 
-pub list-past : (s : List ℕ) (k least most from : ℕ) → 0 < k → length s ≤ from → failed from ≡ list k least most (drop from s) from
+pub list-past : (s : List ℕ) (k least most from : ℕ) → 0 < k → length s ≤ from → failed from ≡ list k least most
+    (drop from s) from
 list-past s zero least most from d h = absurd (omega arith)
 list-past s (suc k) least most from d h = rw (drop-of-length-le s h) (sym (none-there k least most from))

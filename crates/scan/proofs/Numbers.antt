@@ -24,18 +24,30 @@ module _ (b : ℕ) (bs : List ℕ) (at v k : ℕ) where
   unfolding numberFrom digitWhere
   no-digit h =
       rw (le-ltb (valueOf b) 10 h)
-      (cond-case (λ (t : Parsed ℕ). onParsed t (λ d. numberFrom 10 limit k (v * 10 + d)) ≡ failed at) (ltb (valueOf b) 16 && false)
+      (cond-case (λ (t : Parsed ℕ). onParsed t (λ d. numberFrom 10 limit k (v * 10 + d)) ≡ failed at)
+      (ltb (valueOf b) 16 && false)
       (λ t. absurd (false≢true (sym (and-false (ltb (valueOf b) 16)) ∙ t))) (λ _. refl))
 
-  too-big : valueOf b < 10 → limit < (v * 10 + valueOf b) * 10 ^ k → numberFrom 10 limit (suc k) v (b ∷ bs) at ≡ failed at
+  too-big : valueOf b < 10 → limit < (v * 10 + valueOf b) * 10 ^ k → numberFrom 10 limit (suc k) v (b ∷ bs) at ≡ failed
+      at
   unfolding numberFrom digitWhere
-  too-big h g = rw (lt-ltb (valueOf b) 10 h, lt-ltb (valueOf b) 16 (omega arith), lt-leb ((v * 10 + valueOf b) * 10 ^ k) limit g)
+  too-big h g = rw (
+    lt-ltb (valueOf b) 10 h,
+    lt-ltb (valueOf b) 16 (omega arith),
+    lt-leb
+        ((v * 10 + valueOf b) * 10 ^ k) limit g,
+  )
 
   one-digit :
       valueOf b < 10 → (v * 10 + valueOf b) * 10 ^ k ≤ limit →
       numberFrom 10 limit (suc k) v (b ∷ bs) at ≡ numberFrom 10 limit k (v * 10 + valueOf b) bs (at + 1)
   unfolding numberFrom digitWhere
-  one-digit h g = rw (lt-ltb (valueOf b) 10 h, lt-ltb (valueOf b) 16 (omega arith), le-leb ((v * 10 + valueOf b) * 10 ^ k) limit g)
+  one-digit h g = rw (
+    lt-ltb (valueOf b) 10 h,
+    lt-ltb (valueOf b) 16 (omega arith),
+    le-leb
+        ((v * 10 + valueOf b) * 10 ^ k) limit g,
+  )
 
 -- k digits are left, behind those that make v
 pub record Reads (s : List ℕ) (from at v k : ℕ) : Type 0 where
@@ -47,7 +59,8 @@ pub reads-start : (s : List ℕ) (from : ℕ) → Reads s from from 0 5
 reads-start s from = record { so = refl; few = lit≤ tt; small = lit≤ tt }
 
 at-digit :
-    (s : List ℕ) (at v k : ℕ) (x : Parsed ℕ) → at < length s → numberFrom 10 limit k v (getD s at 0 ∷ drop (at + 1) s) at ≡ x →
+    (s : List ℕ) (at v k : ℕ) (x : Parsed ℕ) → at < length s → numberFrom 10 limit k v (getD s at 0 ∷ drop (at + 1) s)
+    at ≡ x →
     numberFrom 10 limit k v (drop at s) at ≡ x
 at-digit s at v k x l e = ap (λ (l : List ℕ). numberFrom 10 limit k v l at) (here s at l) ∙ e
 
@@ -57,22 +70,27 @@ module _ {s : List ℕ} {from at v : ℕ} where
   reads-end {k = zero} r h = r .so
   reads-end {k = suc k} r h = absurd (omega arith)
 
-  pub reads-short : {k : ℕ} → Reads s from at v k → 0 < k → length s ≤ at → failed at ≡ number 10 5 limit (drop from s) from
+  pub reads-short : {k : ℕ} → Reads s from at v k → 0 < k → length s ≤ at → failed at ≡ number 10 5 limit (drop from s)
+      from
   unfolding numberFrom digitWhere
   reads-short {k = zero} r h l = absurd (omega arith)
   reads-short {k = suc k} r h l = rw (drop-of-length-le s l) at (r .so)
 
   module _ (l : at < length s) where
-    reads-none : {k : ℕ} → Reads s from at v k → 0 < k → 10 ≤ valueOf (getD s at 0) → failed at ≡ number 10 5 limit (drop from s) from
+    reads-none : {k : ℕ} → Reads s from at v k → 0 < k → 10 ≤ valueOf (getD s at 0) → failed at ≡ number 10 5 limit
+        (drop from s) from
     reads-none {k = zero} r h d = absurd (omega arith)
-    reads-none {k = suc k} r h d = sym (at-digit s at v (suc k) (failed at) l (no-digit (getD s at 0) (drop (at + 1) s) at v k d)) ∙ r .so
+    reads-none {k = suc k} r h d = sym (at-digit s at v (suc k) (failed at) l
+        (no-digit (getD s at 0) (drop (at + 1) s) at v k d)) ∙ r .so
 
     module _ (few : valueOf (getD s at 0) < 10) where
-      reads-big : {k : ℕ} → Reads s from at v k → 0 < k → limit < (v * 10 + valueOf (getD s at 0)) * 10 ^ (k - 1) → failed at ≡ number 10 5 limit (drop from s) from
+      reads-big : {k : ℕ} → Reads s from at v k → 0 < k → limit < (v * 10 + valueOf (getD s at 0)) * 10 ^ (k - 1) →
+          failed at ≡ number 10 5 limit (drop from s) from
       reads-big {k = zero} r h b = absurd (omega arith)
       reads-big {k = suc k} r h b =
           let e : suc k - 1 ≡ k = omega arith in
-          sym (at-digit s at v (suc k) (failed at) l (too-big (getD s at 0) (drop (at + 1) s) at v k few (rw e at b))) ∙ r .so
+          sym (at-digit s at v (suc k) (failed at) l (too-big (getD s at 0) (drop (at + 1) s) at v k few (rw e at b)))
+          ∙ r .so
 
       reads-on :
           {k : ℕ} → Reads s from at v k → 0 < k → (v * 10 + valueOf (getD s at 0)) * 10 ^ (k - 1) ≤ limit →

@@ -58,7 +58,8 @@ value-ranged b h = eqb-true (ranged b) (valueOf b) (below (λ k. eqb (ranged k) 
 pub digits-none : (s : List ℕ) (at : ℕ) → Ahead IsDigit s at 0
 digits-none s at m h = absurd (omega arith)
 
-pub digits-next : (s : List ℕ) (at n : ℕ) → Ahead IsDigit s at n → IsDigit (getD s (at + n) 0) → Ahead IsDigit s at (n + 1)
+pub digits-next : (s : List ℕ) (at n : ℕ) → Ahead IsDigit s at n → IsDigit (getD s (at + n) 0) → Ahead IsDigit s at
+    (n + 1)
 digits-next s at n f d m h = go (eqb m n) refl
   where
     go : (t : Bool) → eqb m n ≡ t → IsDigit (getD s (at + m) 0)
@@ -66,13 +67,15 @@ digits-next s at n f d m h = go (eqb m n) refl
     go false e = f m (omega (arith, eqb-false m n e))
 
 pub digits-more :
-    (s : List ℕ) (at n : ℕ) {all : Bool} {v : ℕ} → (all ≡ true → Ahead IsDigit s at n) → v ≡ valueOf (getD s (at + n) 0) →
+    (s : List ℕ) (at n : ℕ) {all : Bool} {v : ℕ} → (all ≡ true → Ahead IsDigit s at n) → v ≡ valueOf
+    (getD s (at + n) 0) →
     (all && ltb v 16) ≡ true → Ahead IsDigit s at (n + 1)
 digits-more s at n {all} {v} f e t =
     let q = both all (ltb v 16) t in
     digits-next s at n (f (q .0)) (omega (arith, ltb-true v 16 (q .1)))
 
-pub digits-block : (s : List ℕ) (from at n : ℕ) → from ≤ at → Ahead IsDigit s from (at - from) → Ahead IsDigit s at n → Ahead IsDigit s from (at + n - from)
+pub digits-block : (s : List ℕ) (from at n : ℕ) → from ≤ at → Ahead IsDigit s from (at - from) → Ahead IsDigit s at n →
+    Ahead IsDigit s from (at + n - from)
 digits-block s from at n h f g m l = go (ltb m (at - from)) refl
   where
     go : (t : Bool) → ltb m (at - from) ≡ t → IsDigit (getD s (from + m) 0)

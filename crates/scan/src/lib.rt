@@ -1,4 +1,5 @@
-// Parts of a text, found as the parsers of the crate parsing find them: bytes that must stand there, decimal numbers, and lines of hex digits.
+// Parts of a text, found as the parsers of the crate parsing find them: bytes that must stand there, decimal numbers,
+// and lines of hex digits.
 ghost use mathlib.Core.Path.{_≡_};
 ghost use mathlib.Core.Bool.{true, cond, _&&_};
 ghost use Prim.Native.Nat.{_+_, _-_, _*_, _/_, _<_, _≤_, _^_};
@@ -126,7 +127,8 @@ pub fn decimal(s: &[u8], from: usize) -> Found
     }
 }
 
-// Whether the next 32 bytes are hex digits. The loop has a fixed count and no branch, so the machine takes it several bytes at a time.
+// Whether the next 32 bytes are hex digits. The loop has a fixed count and no branch, so the machine takes it several
+// bytes at a time.
 fn all_digits(s: &[u8], at: usize) -> bool
     requires { ⌜ at + 32 ≤ length (now s) ⌝ }
     ensures { λ r. ⌜ (r ≡ true → Ahead IsDigit (now (s .entry)) at 32) ⌝ }
@@ -156,7 +158,8 @@ fn past_digits(s: &[u8], from: usize, to: usize) -> usize
 // Where the hex digits from a place on end, at most at another.
 fn digits_end(s: &[u8], from: usize, to: usize) -> usize
     requires { ⌜ (from ≤ to) × (to ≤ length (now s)) ⌝ }
-    ensures { λ r. ⌜ (from ≤ r) × (r ≤ to) × Ahead IsDigit (now (s .entry)) from (r - from) × (r < to → 16 ≤ valueOf (getD (now (s .entry)) r 0)) ⌝ }
+    ensures { λ r. ⌜ (from ≤ r) × (r ≤ to) × Ahead IsDigit (now (s .entry)) from (r - from)
+        × (r < to → 16 ≤ valueOf (getD (now (s .entry)) r 0)) ⌝ }
 {
     let mut at = past_digits(s, from, to);
     while at < to {

@@ -23,7 +23,8 @@ returns c =
     let over-limit′ = c .before .before .over-limit in
     let if1′ = c .before .if1 in
     let too-long′ = c .too-long in
-    keep-long (stateOf (a .page) (a .text .now) (a .history .now)) (a .arrived .now) (a .out .now) (too-long′ .result) (sym (over-limit′ .ensures) ∙ if1′ .taken) (too-long′ .ensures)
+    keep-long (stateOf (a .page) (a .text .now) (a .history .now)) (a .arrived .now) (a .out .now) (too-long′ .result)
+    (sym (over-limit′ .ensures) ∙ if1′ .taken) (too-long′ .ensures)
 
 judge-requires : tie.Need-judge-requires
 judge-requires c κs = search needs
@@ -60,11 +61,16 @@ keep-sound-requires c κs =
     let judge′ = c .before .before .before .before .before .judge in
     let enum-told′ = c .before .before .before .enum-told in
     let s : State = stateOf (a .page) (a .text .now) (a .history .now) in
-    let f = fit s (judge′ .ensures) (enum-told′ .given .1) in
-    (
+    let f = fit s (judge′ .ensures) (enum-told′ .given .1) in (
       ltb-false limit (length (a .arrived .now)) (sym (over-limit′ .ensures) ∙ if1′ .left),
       omega (arith, length-take-le (a .page .length) (a .text .now) (f .frame .fits), f .frame .fits, f .short-text),
-      omega (arith, length-take-le (a .page .used) (a .history .now) (f .frame .uses), f .frame .uses, f .short-history),
+      omega (
+        arith,
+        length-take-le (a .page .used) (a .history .now) (f .frame .uses),
+        f .frame .uses,
+        f
+            .short-history,
+      ),
     )
 
 returns-2 : tie.Need-returns-2
@@ -74,21 +80,24 @@ returns-2 c =
     let if1′ = c .before .before .before .before .if1 in
     let judge′ = c .before .before .before .judge in
     let found′ = c .before .found in
-    keep-unfit (stateOf (a .page) (a .text .now) (a .history .now)) (a .arrived .now) (a .out .now) (sym (over-limit′ .ensures) ∙ if1′ .left) (judge′ .ensures) (found′ .given .1)
+    keep-unfit (stateOf (a .page) (a .text .now) (a .history .now)) (a .arrived .now) (a .out .now)
+    (sym (over-limit′ .ensures) ∙ if1′ .left) (judge′ .ensures) (found′ .given .1)
 
 same-length : tie.Need-same-length
 same-length c = search needs
 
 returns-3 : tie.Need-returns-3
 returns-3 c =
-    let a = c .before .before .before .before .before .before .before .before .before .before .before .before .before .before .before .args in
+    let a = c .before .before .before .before .before .before .before .before .before .before .before .before .before
+    .before .before .args in
     let over-limit′ = c .before .before .before .before .before .before .before .before .before .before .over-limit in
     let if1′ = c .before .before .before .before .before .before .before .before .before .if1 in
     let judge′ = c .before .before .before .before .before .before .before .before .judge in
     let enum-told′ = c .before .before .before .before .before .before .enum-told in
     let keep-sound′ = c .before .before .keep-sound in
     let s : State = stateOf (a .page) (a .text .now) (a .history .now) in
-    keep-sound′ .ensures ∙ sym (keep-fit s (a .arrived .now) (a .out .now) (sym (over-limit′ .ensures) ∙ if1′ .left) (fit s (judge′ .ensures) (enum-told′ .given .1)))
+    keep-sound′ .ensures ∙ sym (keep-fit s (a .arrived .now) (a .out .now) (sym (over-limit′ .ensures) ∙ if1′ .left)
+    (fit s (judge′ .ensures) (enum-told′ .given .1)))
 
 pub keep-spec : {M : Type 1} → statement M
 keep-spec =

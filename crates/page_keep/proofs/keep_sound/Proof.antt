@@ -26,7 +26,9 @@ returns-2 c =
     let belongs′ = c .before .before .before .belongs in
     let if1′ = c .before .before .if1 in
     let size-of′ = c .before .size-of in
-    rw (sym (belongs′ .ensures) ∙ not-false _ (if1′ .left)) (no-room (fileOf (contentBy (a .page) (a .cells .now) (a .words .now) (a .arrived .now))) (a .out .now) (size-of′ .ensures) (omega arith))
+    rw (sym (belongs′ .ensures) ∙ not-false _ (if1′ .left)) (no-room
+    (fileOf (contentBy (a .page) (a .cells .now) (a .words .now) (a .arrived .now))) (a .out .now)
+    (size-of′ .ensures) (omega arith))
 
 put-file-requires : tie.Need-put-file-requires
 put-file-requires c κs =
@@ -43,7 +45,9 @@ returns-3 c =
     let if1′ = c .before .before .before .before .before .before .if1 in
     let size-of′ = c .before .before .before .before .before .size-of in
     let put-file′ = c .before .before .put-file in
-    rw (sym (belongs′ .ensures) ∙ not-false _ (if1′ .left)) (has-room (fileOf (contentBy (a .page) (a .cells .now) (a .words .now) (a .arrived .now))) (a .out .now) (size-of′ .ensures) (omega arith) (put-file′ .ensures))
+    rw (sym (belongs′ .ensures) ∙ not-false _ (if1′ .left)) (has-room
+    (fileOf (contentBy (a .page) (a .cells .now) (a .words .now) (a .arrived .now))) (a .out .now)
+    (size-of′ .ensures) (omega arith) (put-file′ .ensures))
 
 pub keep-sound-spec : {M : Type 1} → statement M
 keep-sound-spec =

@@ -13,7 +13,8 @@ clear-bytes-requires : tie.Need-clear-bytes-requires
 clear-bytes-requires c κs =
     let a = c .before .before .before .before .before .before .before .args in
     let read-bytes′ = c .before .before .before .read-bytes in
-    still-room (hexesAt (a .file .now) (a .from) 2 (a .n)) (a .out .now) _ (a .n) (length-hexes (a .file .now) (a .from) 2 (a .n)) (omega arith) (read-bytes′ .ensures)
+    still-room (hexesAt (a .file .now) (a .from) 2 (a .n)) (a .out .now) _ (a .n)
+    (length-hexes (a .file .now) (a .from) 2 (a .n)) (omega arith) (read-bytes′ .ensures)
 
 same-length : tie.Need-same-length
 same-length c = search needs
@@ -23,7 +24,8 @@ returns c =
     let a = c .before .before .before .before .before .before .before .before .before .before .args in
     let read-bytes′ = c .before .before .before .before .before .before .read-bytes in
     let clear-bytes′ = c .before .before .clear-bytes in
-    pads-bytes (hexesAt (a .file .now) (a .from) 2 (a .n)) (a .out .now) _ (a .n) (length-hexes (a .file .now) (a .from) 2 (a .n)) (omega arith) (read-bytes′ .ensures) (clear-bytes′ .ensures)
+    pads-bytes (hexesAt (a .file .now) (a .from) 2 (a .n)) (a .out .now) _ (a .n)
+    (length-hexes (a .file .now) (a .from) 2 (a .n)) (omega arith) (read-bytes′ .ensures) (clear-bytes′ .ensures)
 
 pub fill-bytes-spec : {M : Type 1} → statement M
 fill-bytes-spec = tie.close (tie.spec read-bytes-requires clear-bytes-requires same-length returns)

@@ -20,7 +20,8 @@ returns c =
     let a = c .before .before .before .before .before .before .before .before .before .before .args in
     let read-words′ = c .before .before .before .before .before .before .read-words in
     let clear-from′ = c .before .before .clear-from in
-    pads-words (hexesAt (a .file .now) (a .from) 8 (a .n)) (a .out .now) _ (a .n) (length-hexes (a .file .now) (a .from) 8 (a .n)) (omega arith) (read-words′ .ensures) (clear-from′ .ensures)
+    pads-words (hexesAt (a .file .now) (a .from) 8 (a .n)) (a .out .now) _ (a .n)
+    (length-hexes (a .file .now) (a .from) 8 (a .n)) (omega arith) (read-words′ .ensures) (clear-from′ .ensures)
 
 pub fill-words-spec : {M : Type 1} → statement M
 fill-words-spec = tie.close (tie.spec read-words-requires clear-from-requires same-length returns)

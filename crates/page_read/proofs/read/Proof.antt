@@ -27,7 +27,10 @@ returns c =
     let if1′ = c .before .before .if1 in
     let too-long′ = c .before .too-long in
     let unread′ = c .unread in
-    refused-as _ (unread′ .result) (a .arrived .now) (a .text .now) (a .history .now) (unread′ .ensures) ∙ ap (unread (a .arrived .now) (a .text .now) (a .history .now)) (too-long′ .ensures) ∙ sym (long-arrived (a .arrived .now) (a .text .now) (a .history .now) (a .file .now) (sym (over-limit′ .ensures) ∙ if1′ .taken))
+    refused-as _ (unread′ .result) (a .arrived .now) (a .text .now) (a .history .now) (unread′ .ensures) ∙ ap
+    (unread (a .arrived .now) (a .text .now) (a .history .now)) (too-long′ .ensures) ∙ sym
+    (long-arrived (a .arrived .now) (a .text .now) (a .history .now) (a .file .now)
+    (sym (over-limit′ .ensures) ∙ if1′ .taken))
 
 over-limit-requires-2 : tie.Need-over-limit-requires-2
 over-limit-requires-2 c κs = search needs
@@ -47,7 +50,10 @@ returns-2 c =
     let if2′ = c .before .before .if2 in
     let too-long2′ = c .before .too-long2 in
     let unread2′ = c .unread2 in
-    refused-as _ (unread2′ .result) (a .arrived .now) (a .text .now) (a .history .now) (unread2′ .ensures) ∙ ap (unread (a .arrived .now) (a .text .now) (a .history .now)) (too-long2′ .ensures) ∙ sym (long-text (a .arrived .now) (a .text .now) (a .history .now) (a .file .now) (sym (over-limit′ .ensures) ∙ if1′ .left) (sym (over-limit2′ .ensures) ∙ if2′ .taken))
+    refused-as _ (unread2′ .result) (a .arrived .now) (a .text .now) (a .history .now) (unread2′ .ensures) ∙ ap
+    (unread (a .arrived .now) (a .text .now) (a .history .now)) (too-long2′ .ensures) ∙ sym
+    (long-text (a .arrived .now) (a .text .now) (a .history .now) (a .file .now)
+    (sym (over-limit′ .ensures) ∙ if1′ .left) (sym (over-limit2′ .ensures) ∙ if2′ .taken))
 
 over-limit-requires-3 : tie.Need-over-limit-requires-3
 over-limit-requires-3 c κs = search needs
@@ -69,7 +75,11 @@ returns-3 c =
     let if3′ = c .before .before .if3 in
     let too-long3′ = c .before .too-long3 in
     let unread3′ = c .unread3 in
-    refused-as _ (unread3′ .result) (a .arrived .now) (a .text .now) (a .history .now) (unread3′ .ensures) ∙ ap (unread (a .arrived .now) (a .text .now) (a .history .now)) (too-long3′ .ensures) ∙ sym (long-history (a .arrived .now) (a .text .now) (a .history .now) (a .file .now) (sym (over-limit′ .ensures) ∙ if1′ .left) (sym (over-limit2′ .ensures) ∙ if2′ .left) (sym (over-limit3′ .ensures) ∙ if3′ .taken))
+    refused-as _ (unread3′ .result) (a .arrived .now) (a .text .now) (a .history .now) (unread3′ .ensures) ∙ ap
+    (unread (a .arrived .now) (a .text .now) (a .history .now)) (too-long3′ .ensures) ∙ sym
+    (long-history (a .arrived .now) (a .text .now) (a .history .now) (a .file .now)
+    (sym (over-limit′ .ensures) ∙ if1′ .left) (sym (over-limit2′ .ensures) ∙ if2′ .left)
+    (sym (over-limit3′ .ensures) ∙ if3′ .taken))
 
 plan-of-requires : tie.Need-plan-of-requires
 plan-of-requires c κs = search needs
@@ -79,7 +89,8 @@ unread-requires-4 c κs = search needs
 
 returns-4 : tie.Need-returns-4
 returns-4 c =
-    let a = c .before .before .before .before .before .before .before .before .before .before .before .before .before .before .args in
+    let a = c .before .before .before .before .before .before .before .before .before .before .before .before .before
+    .before .args in
     let over-limit′ = c .before .before .before .before .before .before .before .before .before .over-limit in
     let if1′ = c .before .before .before .before .before .before .before .before .if1 in
     let over-limit2′ = c .before .before .before .before .before .before .before .over-limit2 in
@@ -89,18 +100,28 @@ returns-4 c =
     let plan-of′ = c .before .before .before .plan-of in
     let if4′ = c .before .if4 in
     let unread4′ = c .unread4 in
-    refused-as _ (unread4′ .result) (a .arrived .now) (a .text .now) (a .history .now) (unread4′ .ensures) ∙ sym (bad-file (a .arrived .now) (a .text .now) (a .history .now) (a .file .now) (sym (over-limit′ .ensures) ∙ if1′ .left) (sym (over-limit2′ .ensures) ∙ if2′ .left) (sym (over-limit3′ .ensures) ∙ if3′ .left) (plan-no (a .file .now) (plan-of′ .result) (plan-of′ .ensures .0) (not-yes _ (if4′ .taken))))
+    refused-as _ (unread4′ .result) (a .arrived .now) (a .text .now) (a .history .now) (unread4′ .ensures) ∙ sym
+    (bad-file (a .arrived .now) (a .text .now) (a .history .now) (a .file .now)
+    (sym (over-limit′ .ensures) ∙ if1′ .left) (sym (over-limit2′ .ensures) ∙ if2′ .left)
+    (sym (over-limit3′ .ensures) ∙ if3′ .left) (plan-no (a .file .now) (plan-of′ .result) (plan-of′ .ensures .0)
+    (not-yes _ (if4′ .taken))))
 
 read-fitting-requires : tie.Need-read-fitting-requires
 read-fitting-requires c κs =
-    let a = c .before .before .before .before .before .before .before .before .before .before .before .before .before .before .before .before .args in
+    let a = c .before .before .before .before .before .before .before .before .before .before .before .before .before
+    .before .before .before .args in
     let over-limit2′ = c .before .before .before .before .before .before .before .before .before .over-limit2 in
     let if2′ = c .before .before .before .before .before .before .before .before .if2 in
     let over-limit3′ = c .before .before .before .before .before .before .before .over-limit3 in
     let if3′ = c .before .before .before .before .before .before .if3 in
     let plan-of′ = c .before .before .before .before .before .plan-of in
-    let if4′ = c .before .before .before .if4 in
-    (plan-of′ .ensures .1 (not-no _ (if4′ .left)), ltb-false limit (length (a .text .now)) (sym (over-limit2′ .ensures) ∙ if2′ .left), ltb-false limit (length (a .history .now)) (sym (over-limit3′ .ensures) ∙ if3′ .left))
+    let if4′ = c .before .before .before .if4 in (
+      plan-of′ .ensures .1 (not-no _ (if4′ .left)),
+      ltb-false limit (length (a .text .now))
+          (sym (over-limit2′ .ensures) ∙ if2′ .left),
+      ltb-false limit (length (a .history .now))
+          (sym (over-limit3′ .ensures) ∙ if3′ .left),
+    )
 
 same-length : tie.Need-same-length
 same-length c = search needs
@@ -113,17 +134,28 @@ same-length-3 c = search needs
 
 returns-5 : tie.Need-returns-5
 returns-5 c =
-    let a = c .before .before .before .before .before .before .before .before .before .before .before .before .before .before .before .before .before .before .before .before .before .before .before .args in
-    let over-limit′ = c .before .before .before .before .before .before .before .before .before .before .before .before .before .before .before .before .before .before .over-limit in
-    let if1′ = c .before .before .before .before .before .before .before .before .before .before .before .before .before .before .before .before .before .if1 in
-    let over-limit2′ = c .before .before .before .before .before .before .before .before .before .before .before .before .before .before .before .before .over-limit2 in
-    let if2′ = c .before .before .before .before .before .before .before .before .before .before .before .before .before .before .before .if2 in
-    let over-limit3′ = c .before .before .before .before .before .before .before .before .before .before .before .before .before .before .over-limit3 in
-    let if3′ = c .before .before .before .before .before .before .before .before .before .before .before .before .before .if3 in
-    let plan-of′ = c .before .before .before .before .before .before .before .before .before .before .before .before .plan-of in
+    let a = c .before .before .before .before .before .before .before .before .before .before .before .before .before
+    .before .before .before .before .before .before .before .before .before .before .args in
+    let over-limit′ = c .before .before .before .before .before .before .before .before .before .before .before .before
+    .before .before .before .before .before .before .over-limit in
+    let if1′ = c .before .before .before .before .before .before .before .before .before .before .before .before
+    .before .before .before .before .before .if1 in
+    let over-limit2′ = c .before .before .before .before .before .before .before .before .before .before .before
+    .before .before .before .before .before .over-limit2 in
+    let if2′ = c .before .before .before .before .before .before .before .before .before .before .before .before
+    .before .before .before .if2 in
+    let over-limit3′ = c .before .before .before .before .before .before .before .before .before .before .before
+    .before .before .before .over-limit3 in
+    let if3′ = c .before .before .before .before .before .before .before .before .before .before .before .before
+    .before .if3 in
+    let plan-of′ = c .before .before .before .before .before .before .before .before .before .before .before .before
+    .plan-of in
     let if4′ = c .before .before .before .before .before .before .before .before .before .before .if4 in
     let read-fitting′ = c .before .before .before .before .before .before .read-fitting in
-    read-fitting′ .ensures ∙ sym (good-file (a .arrived .now) (a .text .now) (a .history .now) (a .file .now) (sym (over-limit′ .ensures) ∙ if1′ .left) (sym (over-limit2′ .ensures) ∙ if2′ .left) (sym (over-limit3′ .ensures) ∙ if3′ .left) (contentIn (a .file .now) (plan-of′ .result)) (plan-yes (a .file .now) (plan-of′ .result) (plan-of′ .ensures .0) (not-no _ (if4′ .left))))
+    read-fitting′ .ensures ∙ sym (good-file (a .arrived .now) (a .text .now) (a .history .now) (a .file .now)
+    (sym (over-limit′ .ensures) ∙ if1′ .left) (sym (over-limit2′ .ensures) ∙ if2′ .left)
+    (sym (over-limit3′ .ensures) ∙ if3′ .left) (contentIn (a .file .now) (plan-of′ .result))
+    (plan-yes (a .file .now) (plan-of′ .result) (plan-of′ .ensures .0) (not-no _ (if4′ .left))))
 
 pub read-spec : {M : Type 1} → statement M
 read-spec =

@@ -14,7 +14,11 @@ returns : tie.Need-returns
 returns c =
     let a = c .before .before .before .before .before .before .before .before .args in
     let unread′ = c .unread in
-    refused-as _ (unread′ .result) (a .arrived .now) (a .text .now) (a .history .now) (unread′ .ensures) ∙ sym (no-arrived (a .arrived .now) (a .text .now) (a .history .now) (contentIn (a .file .now) (a .plan)) (length-hexes (a .file .now) (a .plan .arrived) 2 (a .plan .count)) (length-hexes (a .file .now) (a .plan .text) 8 (a .plan .page .length)) (length-hexes (a .file .now) (a .plan .history) 8 (a .plan .page .used)) (omega arith))
+    refused-as _ (unread′ .result) (a .arrived .now) (a .text .now) (a .history .now) (unread′ .ensures) ∙ sym
+    (no-arrived (a .arrived .now) (a .text .now) (a .history .now) (contentIn (a .file .now) (a .plan))
+    (length-hexes (a .file .now) (a .plan .arrived) 2 (a .plan .count))
+    (length-hexes (a .file .now) (a .plan .text) 8 (a .plan .page .length))
+    (length-hexes (a .file .now) (a .plan .history) 8 (a .plan .page .used)) (omega arith))
 
 unread-requires-2 : tie.Need-unread-requires-2
 unread-requires-2 c κs = search needs
@@ -23,7 +27,11 @@ returns-2 : tie.Need-returns-2
 returns-2 c =
     let a = c .before .before .before .before .before .before .before .before .before .before .args in
     let unread2′ = c .unread2 in
-    refused-as _ (unread2′ .result) (a .arrived .now) (a .text .now) (a .history .now) (unread2′ .ensures) ∙ sym (no-text (a .arrived .now) (a .text .now) (a .history .now) (contentIn (a .file .now) (a .plan)) (length-hexes (a .file .now) (a .plan .arrived) 2 (a .plan .count)) (length-hexes (a .file .now) (a .plan .text) 8 (a .plan .page .length)) (length-hexes (a .file .now) (a .plan .history) 8 (a .plan .page .used)) (omega arith) (omega arith))
+    refused-as _ (unread2′ .result) (a .arrived .now) (a .text .now) (a .history .now) (unread2′ .ensures) ∙ sym
+    (no-text (a .arrived .now) (a .text .now) (a .history .now) (contentIn (a .file .now) (a .plan))
+    (length-hexes (a .file .now) (a .plan .arrived) 2 (a .plan .count))
+    (length-hexes (a .file .now) (a .plan .text) 8 (a .plan .page .length))
+    (length-hexes (a .file .now) (a .plan .history) 8 (a .plan .page .used)) (omega arith) (omega arith))
 
 unread-requires-3 : tie.Need-unread-requires-3
 unread-requires-3 c κs = search needs
@@ -32,11 +40,17 @@ returns-3 : tie.Need-returns-3
 returns-3 c =
     let a = c .before .before .before .before .before .before .before .before .before .before .before .before .args in
     let unread3′ = c .unread3 in
-    refused-as _ (unread3′ .result) (a .arrived .now) (a .text .now) (a .history .now) (unread3′ .ensures) ∙ sym (no-history (a .arrived .now) (a .text .now) (a .history .now) (contentIn (a .file .now) (a .plan)) (length-hexes (a .file .now) (a .plan .arrived) 2 (a .plan .count)) (length-hexes (a .file .now) (a .plan .text) 8 (a .plan .page .length)) (length-hexes (a .file .now) (a .plan .history) 8 (a .plan .page .used)) (omega arith) (omega arith) (omega arith))
+    refused-as _ (unread3′ .result) (a .arrived .now) (a .text .now) (a .history .now) (unread3′ .ensures) ∙ sym
+    (no-history (a .arrived .now) (a .text .now) (a .history .now) (contentIn (a .file .now) (a .plan))
+    (length-hexes (a .file .now) (a .plan .arrived) 2 (a .plan .count))
+    (length-hexes (a .file .now) (a .plan .text) 8 (a .plan .page .length))
+    (length-hexes (a .file .now) (a .plan .history) 8 (a .plan .page .used)) (omega arith) (omega arith)
+    (omega arith))
 
 read-sound-requires : tie.Need-read-sound-requires
 read-sound-requires c κs =
-    let pre′ = c .before .before .before .before .before .before .before .before .before .before .before .before .before .before .pre in
+    let pre′ = c .before .before .before .before .before .before .before .before .before .before .before .before
+    .before .before .pre in
     (pre′ .0, omega arith, omega arith, omega arith, omega arith, omega arith)
 
 same-length : tie.Need-same-length
@@ -50,9 +64,14 @@ same-length-3 c = search needs
 
 returns-4 : tie.Need-returns-4
 returns-4 c =
-    let a = c .before .before .before .before .before .before .before .before .before .before .before .before .before .before .before .before .before .before .before .before .before .args in
+    let a = c .before .before .before .before .before .before .before .before .before .before .before .before .before
+    .before .before .before .before .before .before .before .before .args in
     let read-sound′ = c .before .before .before .before .before .before .read-sound in
-    read-sound′ .ensures ∙ sym (all-fit (a .arrived .now) (a .text .now) (a .history .now) (contentIn (a .file .now) (a .plan)) (length-hexes (a .file .now) (a .plan .arrived) 2 (a .plan .count)) (length-hexes (a .file .now) (a .plan .text) 8 (a .plan .page .length)) (length-hexes (a .file .now) (a .plan .history) 8 (a .plan .page .used)) (omega arith) (omega arith) (omega arith))
+    read-sound′ .ensures ∙ sym (all-fit (a .arrived .now) (a .text .now) (a .history .now)
+    (contentIn (a .file .now) (a .plan)) (length-hexes (a .file .now) (a .plan .arrived) 2 (a .plan .count))
+    (length-hexes (a .file .now) (a .plan .text) 8 (a .plan .page .length))
+    (length-hexes (a .file .now) (a .plan .history) 8 (a .plan .page .used)) (omega arith) (omega arith)
+    (omega arith))
 
 pub read-fitting-spec : {M : Type 1} → statement M
 read-fitting-spec =

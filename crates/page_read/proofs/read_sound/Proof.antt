@@ -29,7 +29,12 @@ returns c =
     let if1′ = c .before .if1 in
     let unread′ = c .unread in
     refused-as _ (unread′ .result) (a .arrived .now) (a .text .now) (a .history .now) (unread′ .ensures)
-    ∙ sym (is-unsound (a .arrived .now) (a .text .now) (a .history .now) (contentIn (a .file .now) (a .plan)) (sym (not-true _ (if1′ .taken)) ∙ is-sound′ .ensures _ _ (padded (a .plan .page) (length (a .text .now)) (length (a .history .now)) ((contentIn (a .file .now) (a .plan)) .text) ((contentIn (a .file .now) (a .plan)) .history) (length-hexes (a .file .now) (a .plan .text) 8 (a .plan .page .length)) (length-hexes (a .file .now) (a .plan .history) 8 (a .plan .page .used)) (pre′ .2) (pre′ .3))))
+    ∙ sym (is-unsound (a .arrived .now) (a .text .now) (a .history .now) (contentIn (a .file .now) (a .plan))
+    (sym (not-true _ (if1′ .taken)) ∙ is-sound′ .ensures _ _
+    (padded (a .plan .page) (length (a .text .now)) (length (a .history .now))
+    ((contentIn (a .file .now) (a .plan)) .text) ((contentIn (a .file .now) (a .plan)) .history)
+    (length-hexes (a .file .now) (a .plan .text) 8 (a .plan .page .length))
+    (length-hexes (a .file .now) (a .plan .history) 8 (a .plan .page .used)) (pre′ .2) (pre′ .3))))
 
 belongs-requires : tie.Need-belongs-requires
 belongs-requires c κs =
@@ -49,7 +54,14 @@ returns-2 c =
     let if2′ = c .before .if2 in
     let unread2′ = c .unread2 in
     refused-as _ (unread2′ .result) (a .arrived .now) (a .text .now) (a .history .now) (unread2′ .ensures)
-    ∙ sym (is-sound (a .arrived .now) (a .text .now) (a .history .now) (contentIn (a .file .now) (a .plan)) (sym (not-false _ (if1′ .left)) ∙ is-sound′ .ensures _ _ (padded (a .plan .page) (length (a .text .now)) (length (a .history .now)) ((contentIn (a .file .now) (a .plan)) .text) ((contentIn (a .file .now) (a .plan)) .history) (length-hexes (a .file .now) (a .plan .text) 8 (a .plan .page .length)) (length-hexes (a .file .now) (a .plan .history) 8 (a .plan .page .used)) (pre′ .2) (pre′ .3))) (length-hexes (a .file .now) (a .plan .text) 8 (a .plan .page .length)) ∙ rw (sym (belongs′ .ensures) ∙ not-true _ (if2′ .taken)))
+    ∙ sym (is-sound (a .arrived .now) (a .text .now) (a .history .now) (contentIn (a .file .now) (a .plan))
+    (sym (not-false _ (if1′ .left)) ∙ is-sound′ .ensures _ _
+    (padded (a .plan .page) (length (a .text .now)) (length (a .history .now))
+    ((contentIn (a .file .now) (a .plan)) .text) ((contentIn (a .file .now) (a .plan)) .history)
+    (length-hexes (a .file .now) (a .plan .text) 8 (a .plan .page .length))
+    (length-hexes (a .file .now) (a .plan .history) 8 (a .plan .page .used)) (pre′ .2) (pre′ .3)))
+    (length-hexes (a .file .now) (a .plan .text) 8 (a .plan .page .length)) ∙ rw
+    (sym (belongs′ .ensures) ∙ not-true _ (if2′ .taken)))
 
 take-in-requires : tie.Need-take-in-requires
 take-in-requires c κs =
@@ -67,15 +79,25 @@ same-length-3 c = search needs
 
 returns-3 : tie.Need-returns-3
 returns-3 c =
-    let a = c .before .before .before .before .before .before .before .before .before .before .before .before .before .before .before .before .before .before .before .args in
-    let pre′ = c .before .before .before .before .before .before .before .before .before .before .before .before .before .before .before .before .before .before .before .pre in
-    let is-sound′ = c .before .before .before .before .before .before .before .before .before .before .before .before .before .is-sound in
+    let a = c .before .before .before .before .before .before .before .before .before .before .before .before .before
+    .before .before .before .before .before .before .args in
+    let pre′ = c .before .before .before .before .before .before .before .before .before .before .before .before
+    .before .before .before .before .before .before .before .pre in
+    let is-sound′ = c .before .before .before .before .before .before .before .before .before .before .before .before
+    .before .is-sound in
     let if1′ = c .before .before .before .before .before .before .before .before .before .before .before .before .if1 in
     let belongs′ = c .before .before .before .before .before .before .before .before .before .before .before .belongs in
     let if2′ = c .before .before .before .before .before .before .before .before .before .before .if2 in
     let take-in′ = c .before .before .before .before .before .before .take-in in
     take-in′ .ensures
-    ∙ sym (is-sound (a .arrived .now) (a .text .now) (a .history .now) (contentIn (a .file .now) (a .plan)) (sym (not-false _ (if1′ .left)) ∙ is-sound′ .ensures _ _ (padded (a .plan .page) (length (a .text .now)) (length (a .history .now)) ((contentIn (a .file .now) (a .plan)) .text) ((contentIn (a .file .now) (a .plan)) .history) (length-hexes (a .file .now) (a .plan .text) 8 (a .plan .page .length)) (length-hexes (a .file .now) (a .plan .history) 8 (a .plan .page .used)) (pre′ .2) (pre′ .3))) (length-hexes (a .file .now) (a .plan .text) 8 (a .plan .page .length)) ∙ rw (sym (belongs′ .ensures) ∙ not-false _ (if2′ .left)))
+    ∙ sym (is-sound (a .arrived .now) (a .text .now) (a .history .now) (contentIn (a .file .now) (a .plan))
+    (sym (not-false _ (if1′ .left)) ∙ is-sound′ .ensures _ _
+    (padded (a .plan .page) (length (a .text .now)) (length (a .history .now))
+    ((contentIn (a .file .now) (a .plan)) .text) ((contentIn (a .file .now) (a .plan)) .history)
+    (length-hexes (a .file .now) (a .plan .text) 8 (a .plan .page .length))
+    (length-hexes (a .file .now) (a .plan .history) 8 (a .plan .page .used)) (pre′ .2) (pre′ .3)))
+    (length-hexes (a .file .now) (a .plan .text) 8 (a .plan .page .length)) ∙ rw
+    (sym (belongs′ .ensures) ∙ not-false _ (if2′ .left)))
 
 pub read-sound-spec : {M : Type 1} → statement M
 read-sound-spec =

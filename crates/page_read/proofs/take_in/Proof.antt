@@ -17,7 +17,8 @@ fill-words-requires c κs =
 
 fill-words-requires-2 : tie.Need-fill-words-requires-2
 fill-words-requires-2 c κs =
-    let pre′ = c .before .before .before .before .before .before .before .before .before .before .before .before .before .before .pre in
+    let pre′ = c .before .before .before .before .before .before .before .before .before .before .before .before
+    .before .before .pre in
     (pre′ .0 .history, omega arith)
 
 same-length : tie.Need-same-length
@@ -31,11 +32,18 @@ same-length-3 c = search needs
 
 returns : tie.Need-returns
 returns c =
-    let a = c .before .before .before .before .before .before .before .before .before .before .before .before .before .before .before .before .before .args in
+    let a = c .before .before .before .before .before .before .before .before .before .before .before .before .before
+    .before .before .before .before .args in
     let fill-bytes′ = c .before .before .before .before .before .before .before .before .before .before .fill-bytes in
     let fill-words′ = c .before .before .before .before .before .before .fill-words in
     let fill-words2′ = c .before .before .fill-words2 in
-    rw (fill-bytes′ .ensures, fill-words′ .ensures, fill-words2′ .ensures, length-hexes (a .file .now) (a .plan .arrived) 2 (a .plan .count))
+    rw (
+      fill-bytes′ .ensures,
+      fill-words′ .ensures,
+      fill-words2′ .ensures,
+      length-hexes (a .file .now)
+          (a .plan .arrived) 2 (a .plan .count),
+    )
 
 pub take-in-spec : {M : Type 1} → statement M
 take-in-spec =

@@ -16,7 +16,9 @@ abbrev μ-loop : tie.MeasureT-loop
 μ-loop s at all₀ k₀ all k = 32 - k
 
 loop-holds : tie.Need-loop-holds Inv-loop μ-loop
-loop-holds c = (omega arith, λ _. digits-none (c .before .args .s .now) (c .before .args .at))
+loop-holds c =
+    let a = c .before .args in
+    (omega arith, λ _. digits-none (a .s .now) (a .at))
 
 add-digit-value : tie.Need-add-digit-value Inv-loop μ-loop
 add-digit-value c = search needs
@@ -34,12 +36,17 @@ loop-less : tie.Need-loop-less Inv-loop μ-loop
 loop-less c = search needs
 
 loop-again : tie.Need-loop-again Inv-loop μ-loop
-loop-again c = (omega arith, digits-more (c .before .before .before .before .before .args .s .now) (c .before .before .before .before .before .args .at) (c .before .before .before .loop .k) (c .before .before .before .loop .inv .1) (c .digit-value .ensures))
+loop-again c =
+    let a = c .before .before .before .before .before .args in
+    let l = c .before .before .before .loop in
+    let digit-value′ = c .digit-value in
+    (omega arith, digits-more (a .s .now) (a .at) (l .k) (l .inv .1) (digit-value′ .ensures))
 
 returns : tie.Need-returns Inv-loop μ-loop
 returns c =
-    let e : c .before .loop .k ≡ 32 = omega arith in
-    λ h. rw e at (c .before .loop .inv .1 h)
+    let l = c .before .loop in
+    let e : l .k ≡ 32 = omega arith in
+    λ h. rw e at (l .inv .1 h)
 
 pub all-digits-spec : {M : Type 1} → statement M
 all-digits-spec =

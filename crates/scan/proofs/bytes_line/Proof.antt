@@ -8,7 +8,9 @@ line-of-requires c κs = search needs
 
 returns : tie.Need-returns
 unfolding limit
-returns c = c .line-of .ensures
+returns c =
+    let line-of′ = c .line-of in
+    line-of′ .ensures
 
 pub bytes-line-spec : {M : Type 1} → statement M
 bytes-line-spec = tie.close (tie.spec line-of-requires returns)

@@ -14,7 +14,8 @@ returns c = let a = c .before .before .args in rw (le-leb (a .from) (a .b) (c .b
 returns-2 : tie.Need-returns-2
 returns-2 c =
     let a = c .before .args in
-    ⊎-elim (λ w. rw (le-leb (a .from) (a .b) (w .0 .taken), w .1 .left)) (λ w. rw (lt-leb (a .from) (a .b) (w .left))) (c .if1 .came)
+    ⊎-elim (λ w. rw (le-leb (a .from) (a .b) (w .0 .taken), w .1 .left)) (λ w. rw (lt-leb (a .from) (a .b) (w .left)))
+    (c .if1 .came)
 
 pub counted-spec : {M : Type 1} → statement M
 counted-spec = tie.close (tie.spec add-result returns returns-2)

@@ -19,7 +19,9 @@ past-digits-requires : tie.Need-past-digits-requires Inv-loop μ-loop
 past-digits-requires c κs = search needs
 
 loop-holds : tie.Need-loop-holds Inv-loop μ-loop
-loop-holds c = let e = c .past-digits .ensures in (e .0, e .1, e .2)
+loop-holds c =
+    let past-digits′ = c .past-digits in
+    let e = past-digits′ .ensures in (e .0, e .1, e .2)
 
 digit-at-requires : tie.Need-digit-at-requires Inv-loop μ-loop
 digit-at-requires c κs = search needs
@@ -27,7 +29,8 @@ digit-at-requires c κs = search needs
 returns : tie.Need-returns Inv-loop μ-loop
 returns c =
     let l = c .before .before .before .loop in
-    (l .inv .0, l .inv .1, l .inv .2, λ _. omega (arith, c .before .digit-at .ensures .0))
+    let digit-at′ = c .before .digit-at in
+    (l .inv .0, l .inv .1, l .inv .2, λ _. omega (arith, digit-at′ .ensures .0))
 
 add-at : tie.Need-add-at Inv-loop μ-loop
 add-at c = search needs
@@ -37,10 +40,16 @@ loop-less c = search needs
 
 loop-again : tie.Need-loop-again Inv-loop μ-loop
 loop-again c =
+    let a = c .before .before .before .before .before .before .args in
     let l = c .before .before .before .loop in
-    let e : l .at + 1 - c .before .before .before .before .before .before .args .from ≡ l .at - c .before .before .before .before .before .before .args .from + 1 = omega arith in
-    let z : c .before .before .before .before .before .before .args .from + (l .at - c .before .before .before .before .before .before .args .from) ≡ l .at = omega arith in
-    (omega arith, omega arith, rw e (digits-next (c .before .before .before .before .before .before .args .s .now) (c .before .before .before .before .before .before .args .from) (l .at - c .before .before .before .before .before .before .args .from) (l .inv .2) (rw z (omega (arith, c .before .digit-at .ensures .0)))))
+    let digit-at′ = c .before .digit-at in
+    let e : l .at + 1 - a .from ≡ l .at - a .from + 1 = omega arith in
+    let z : a .from + (l .at - a .from) ≡ l .at = omega arith in (
+      omega arith,
+      omega arith,
+      rw e (digits-next (a .s .now) (a .from) (l .at - a .from) (l .inv .2)
+          (rw z (omega (arith, digit-at′ .ensures .0)))),
+    )
 
 returns-2 : tie.Need-returns-2 Inv-loop μ-loop
 returns-2 c =

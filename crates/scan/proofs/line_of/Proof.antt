@@ -35,7 +35,13 @@ not-found-requires : tie.Need-not-found-requires
 not-found-requires c κs = search needs
 
 returns : tie.Need-returns
-returns c = (rw (c .not-found .ensures) (list-past (c .before .before .before .args .s .now) (c .before .before .before .args .k) (c .before .before .before .args .least) (c .before .before .before .args .most) (c .before .before .before .args .from) (omega arith) (omega arith)), no-span _ _ (c .not-found .ensures))
+returns c =
+    let a = c .before .before .before .args in
+    let not-found′ = c .not-found in (
+      rw (not-found′ .ensures) (list-past (a .s .now) (a .k) (a .least) (a .most) (a .from) (omega arith)
+          (omega arith)),
+      no-span _ _ (not-found′ .ensures),
+    )
 
 up-to-requires : tie.Need-up-to-requires
 up-to-requires c κs = search needs
@@ -47,7 +53,12 @@ not-found-requires-2 : tie.Need-not-found-requires-2
 not-found-requires-2 c κs = search needs
 
 returns-2 : tie.Need-returns-2
-returns-2 c = (rw (c .not-found2 .ensures) (scan-fails (scanned (c .before .before)) (λ l _. absurd (omega arith))), no-span _ _ (c .not-found2 .ensures))
+returns-2 c =
+    let not-found2′ = c .not-found2 in (
+      rw (not-found2′ .ensures) (scan-fails (scanned (c .before .before)) (λ l _. absurd (omega arith))),
+      no-span _ _
+          (not-found2′ .ensures),
+    )
 
 shared-slice-read-if3 : tie.Need-shared-slice-read-if3
 shared-slice-read-if3 c = search needs
@@ -56,7 +67,13 @@ not-found-requires-3 : tie.Need-not-found-requires-3
 not-found-requires-3 c κs = search needs
 
 returns-3 : tie.Need-returns-3
-returns-3 c = (rw (c .not-found3 .ensures) (scan-fails (scanned (c .before .before .before .before)) (λ _ e. absurd (c .before .if3 .taken e))), no-span _ _ (c .not-found3 .ensures))
+returns-3 c =
+    let if3′ = c .before .if3 in
+    let not-found3′ = c .not-found3 in (
+      rw (not-found3′ .ensures) (scan-fails (scanned (c .before .before .before .before))
+          (λ _ e. absurd (if3′ .taken e))),
+      no-span _ _ (not-found3′ .ensures),
+    )
 
 sub-size : tie.Need-sub-size
 sub-size c = search needs
@@ -68,7 +85,13 @@ not-found-requires-4 : tie.Need-not-found-requires-4
 not-found-requires-4 c κs = search needs
 
 returns-4 : tie.Need-returns-4
-returns-4 c = (rw (c .not-found4 .ensures) (scan-fails (scanned (c .before .before .before .before .before)) (λ _ _. inl (omega (arith, c .before .if4 .taken)))), no-span _ _ (c .not-found4 .ensures))
+returns-4 c =
+    let if4′ = c .before .if4 in
+    let not-found4′ = c .not-found4 in (
+      rw (not-found4′ .ensures) (scan-fails (scanned (c .before .before .before .before .before))
+          (λ _ _. inl (omega (arith, if4′ .taken)))),
+      no-span _ _ (not-found4′ .ensures),
+    )
 
 div-n : tie.Need-div-n
 div-n c = search needs
@@ -77,13 +100,26 @@ not-found-requires-5 : tie.Need-not-found-requires-5
 not-found-requires-5 c κs = search needs
 
 returns-5 : tie.Need-returns-5
-returns-5 c = (rw (c .not-found5 .ensures) (scan-fails (scanned (c .before .before .before .before .before .before)) (λ _ _. inr (c .before .if5 .taken))), no-span _ _ (c .not-found5 .ensures))
+returns-5 c =
+    let if5′ = c .before .if5 in
+    let not-found5′ = c .not-found5 in (
+      rw (not-found5′ .ensures) (scan-fails (scanned (c .before .before .before .before .before .before))
+          (λ _ _. inr (if5′ .taken))),
+      no-span _ _ (not-found5′ .ensures),
+    )
 
 add-t10 : tie.Need-add-t10
 add-t10 c = search needs
 
 returns-6 : tie.Need-returns-6
-returns-6 c = (scan-found (scanned (c .before .before .before .before .before)) (omega arith) (c .before .before .if3 .left) (omega (arith, c .before .if4 .left)) (omega arith), λ _. scan-spans (scanned (c .before .before .before .before .before)) (omega arith) (omega (arith, c .before .if4 .left)) (omega arith))
+returns-6 c =
+    let if3′ = c .before .before .if3 in
+    let if4′ = c .before .if4 in (
+      scan-found (scanned (c .before .before .before .before .before)) (omega arith) (if3′ .left)
+          (omega (arith, if4′ .left)) (omega arith),
+      λ _. scan-spans
+          (scanned (c .before .before .before .before .before)) (omega arith) (omega (arith, if4′ .left)) (omega arith),
+    )
 
 pub line-of-spec : {M : Type 1} → statement M
 line-of-spec =

@@ -17,8 +17,9 @@ abbrev μ-loop : tie.MeasureT-loop
 
 loop-holds : tie.Need-loop-holds Inv-loop μ-loop
 loop-holds c =
-    let e : c .before .args .from - c .before .args .from ≡ 0 = omega arith in
-    (omega arith, omega arith, rw e (digits-none (c .before .args .s .now) (c .before .args .from)))
+    let a = c .before .args in
+    let e : a .from - a .from ≡ 0 = omega arith in
+    (omega arith, omega arith, rw e (digits-none (a .s .now) (a .from)))
 
 sub-loop : tie.Need-sub-loop Inv-loop μ-loop
 sub-loop c = search needs
@@ -36,7 +37,16 @@ loop-less : tie.Need-loop-less Inv-loop μ-loop
 loop-less c = search needs
 
 loop-again : tie.Need-loop-again Inv-loop μ-loop
-loop-again c = (omega arith, omega arith, digits-block (c .before .before .before .before .before .args .s .now) (c .before .before .before .before .before .args .from) (c .before .before .before .loop .at) 32 (c .before .before .before .loop .inv .0) (c .before .before .before .loop .inv .2) (c .before .all-digits .ensures (not-false _ (c .if1 .left))))
+loop-again c =
+    let a = c .before .before .before .before .before .args in
+    let l = c .before .before .before .loop in
+    let all-digits′ = c .before .all-digits in
+    let if1′ = c .if1 in (
+      omega arith,
+      omega arith,
+      digits-block (a .s .now) (a .from) (l .at) 32 (l .inv .0) (l .inv .2)
+          (all-digits′ .ensures (not-false _ (if1′ .left))),
+    )
 
 returns-2 : tie.Need-returns-2 Inv-loop μ-loop
 returns-2 c = search needs

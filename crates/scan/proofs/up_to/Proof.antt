@@ -20,21 +20,29 @@ div-if1 : tie.Need-div-if1
 div-if1 c = search needs
 
 mul-result : tie.Need-mul-result
-mul-result c = let a = c .before .args in omega (arith, fits (a .n) (a .k) (a .end - a .from) (omega arith) (c .if1 .taken))
+mul-result c =
+    let a = c .before .args in
+    let if1′ = c .if1 in
+    let a = a in omega (arith, fits (a .n) (a .k) (a .end - a .from) (omega arith) (if1′ .taken))
 
 add-result : tie.Need-add-result
-add-result c = let a = c .before .args in omega (arith, fits (a .n) (a .k) (a .end - a .from) (omega arith) (c .if1 .taken))
+add-result c =
+    let a = c .before .args in
+    let if1′ = c .if1 in
+    let a = a in omega (arith, fits (a .n) (a .k) (a .end - a .from) (omega arith) (if1′ .taken))
 
 returns : tie.Need-returns
 returns c =
     let a = c .before .args in
-    let f = fits (a .n) (a .k) (a .end - a .from) (omega arith) (c .if1 .taken) in
+    let if1′ = c .if1 in
+    let f = fits (a .n) (a .k) (a .end - a .from) (omega arith) (if1′ .taken) in
     (omega arith, omega arith, omega arith, λ h. omega arith)
 
 returns-2 : tie.Need-returns-2
 returns-2 c =
     let a = c .before .args in
-    let f = past (a .n) (a .k) (a .end - a .from) (omega arith) (omega (arith, c .if1 .left)) in
+    let if1′ = c .if1 in
+    let f = past (a .n) (a .k) (a .end - a .from) (omega arith) (omega (arith, if1′ .left)) in
     (omega arith, omega arith, omega arith, λ h. absurd (omega arith))
 
 pub up-to-spec : {M : Type 1} → statement M

@@ -20,7 +20,10 @@ not-found-requires : tie.Need-not-found-requires Inv-loop μ-loop
 not-found-requires c κs = search needs
 
 returns : tie.Need-returns Inv-loop μ-loop
-returns c = rw (c .not-found .ensures) (stands-short (c .before .before .before .loop .inv) (omega arith) (omega arith))
+returns c =
+    let l = c .before .before .before .loop in
+    let not-found′ = c .not-found in
+    rw (not-found′ .ensures) (stands-short (l .inv) (omega arith) (omega arith))
 
 shared-slice-read-if2 : tie.Need-shared-slice-read-if2 Inv-loop μ-loop
 shared-slice-read-if2 c = search needs
@@ -32,7 +35,11 @@ not-found-requires-2 : tie.Need-not-found-requires-2 Inv-loop μ-loop
 not-found-requires-2 c κs = search needs
 
 returns-2 : tie.Need-returns-2 Inv-loop μ-loop
-returns-2 c = rw (c .not-found2 .ensures) (stands-other (c .before .before .before .before .before .before .loop .inv) (omega arith) (omega arith) (c .before .if2 .taken))
+returns-2 c =
+    let l = c .before .before .before .before .before .before .loop in
+    let if2′ = c .before .if2 in
+    let not-found2′ = c .not-found2 in
+    rw (not-found2′ .ensures) (stands-other (l .inv) (omega arith) (omega arith) (if2′ .taken))
 
 add-i : tie.Need-add-i Inv-loop μ-loop
 add-i c = search needs
@@ -44,10 +51,15 @@ loop-less : tie.Need-loop-less Inv-loop μ-loop
 loop-less c = search needs
 
 loop-again : tie.Need-loop-again Inv-loop μ-loop
-loop-again c = stands-next (c .before .before .before .before .before .loop .inv) (omega arith) (omega arith) (c .if2 .left)
+loop-again c =
+    let l = c .before .before .before .before .before .loop in
+    let if2′ = c .if2 in
+    stands-next (l .inv) (omega arith) (omega arith) (if2′ .left)
 
 returns-3 : tie.Need-returns-3 Inv-loop μ-loop
-returns-3 c = stands-end (c .before .loop .inv) (omega arith)
+returns-3 c =
+    let l = c .before .loop in
+    stands-end (l .inv) (omega arith)
 
 pub word-spec : {M : Type 1} → statement M
 word-spec =

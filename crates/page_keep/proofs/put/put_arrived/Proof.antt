@@ -27,7 +27,8 @@ add-result : tie.Need-add-result
 add-result c = search needs
 
 same-length : tie.Need-same-length
-same-length c = simp length-set (ap length (c .before .before .put-pairs .ensures .1) ∙ simp length-sets (ap length (c .before .before .before .before .before .before .put-bytes .ensures .1) ∙ simp length-sets))
+same-length c = simp length-set (ap length (c .before .before .put-pairs .ensures .1) ∙ simp length-sets
+    (ap length (c .before .before .before .before .before .before .put-bytes .ensures .1) ∙ simp length-sets))
 
 returns : tie.Need-returns
 returns c =
@@ -35,8 +36,12 @@ returns c =
     let e = c .before .before .before .before .before .before .put-bytes .ensures in
     let v = c .before .before .before .before .before .before .put-bytes .result in
     let p = c .before .before .put-pairs .ensures in
-    let g = groups 2 (a .bytes .now) in
-    (omega arith, sets-then (a .out .now) _ _ (bytes "arrived=") (g ++ LF) (a .at) v (e .1) (e .0) (sets-then _ _ _ g LF v (c .before .before .put-pairs .result) (p .1) (omega (arith, length-groups 2 (a .bytes .now))) refl))
+    let g = groups 2 (a .bytes .now) in (
+      omega arith,
+      sets-then (a .out .now) _ _ (bytes "arrived=") (g ++ LF) (a .at) v (e .1) (e .0)
+          (sets-then _ _ _ g LF v (c .before .before .put-pairs .result) (p .1)
+          (omega (arith, length-groups 2 (a .bytes .now))) refl),
+    )
 
 pub put-arrived-spec : {M : Type 1} → statement M
 put-arrived-spec =

@@ -33,7 +33,14 @@ loop-less : tie.Need-loop-less Inv-loop μ-loop
 loop-less c = search needs
 
 loop-again : tie.Need-loop-again Inv-loop μ-loop
-loop-again c = (omega arith, simp length-set (c .before .before .loop .inv .1), sets-next (c .before .before .before .args .out .now) (c .before .before .loop .out) (c .before .before .before .args .bytes .now) (c .before .before .before .args .at) (c .before .before .loop .i) (omega arith) (c .before .before .loop .inv .2))
+loop-again c = (
+  omega arith,
+  simp length-set (c .before .before .loop .inv .1),
+  sets-next
+      (c .before .before .before .args .out .now) (c .before .before .loop .out)
+      (c .before .before .before .args .bytes .now) (c .before .before .before .args .at) (c .before .before .loop .i)
+      (omega arith) (c .before .before .loop .inv .2),
+)
 
 add-result : tie.Need-add-result Inv-loop μ-loop
 add-result c = search needs

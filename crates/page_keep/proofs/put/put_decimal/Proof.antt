@@ -67,7 +67,11 @@ same-length c = simp length-set
 
 returns : tie.Need-returns
 returns c =
-    five (c .before .before .before .before .before .before .args .out .now) (c .before .before .before .before .before .before .args .at) (c .before .before .before .before .before .before .args .n) (c .before .before .before .before .digit-of .ensures) (c .before .before .before .digit-of2 .ensures) (c .before .before .digit-of3 .ensures) (c .before .digit-of4 .ensures) (c .digit-of5 .ensures)
+    five (c .before .before .before .before .before .before .args .out .now)
+    (c .before .before .before .before .before .before .args .at)
+    (c .before .before .before .before .before .before .args .n)
+    (c .before .before .before .before .digit-of .ensures) (c .before .before .before .digit-of2 .ensures)
+    (c .before .before .digit-of3 .ensures) (c .before .digit-of4 .ensures) (c .digit-of5 .ensures)
 
 pub put-decimal-spec : {M : Type 1} → statement M
 put-decimal-spec =

@@ -103,7 +103,14 @@ same-length c = simp length-set
 
 returns : tie.Need-returns
 returns c =
-    eight (c .before .before .before .before .before .before .before .before .before .args .out .now) (c .before .before .before .before .before .before .before .before .before .args .at) (c .before .before .before .before .before .before .before .before .before .args .w) (c .before .before .before .before .before .before .before .digit-of .ensures) (c .before .before .before .before .before .before .digit-of2 .ensures) (c .before .before .before .before .before .digit-of3 .ensures) (c .before .before .before .before .digit-of4 .ensures) (c .before .before .before .digit-of5 .ensures) (c .before .before .digit-of6 .ensures) (c .before .digit-of7 .ensures) (c .digit-of8 .ensures)
+    eight (c .before .before .before .before .before .before .before .before .before .args .out .now)
+    (c .before .before .before .before .before .before .before .before .before .args .at)
+    (c .before .before .before .before .before .before .before .before .before .args .w)
+    (c .before .before .before .before .before .before .before .digit-of .ensures)
+    (c .before .before .before .before .before .before .digit-of2 .ensures)
+    (c .before .before .before .before .before .digit-of3 .ensures)
+    (c .before .before .before .before .digit-of4 .ensures) (c .before .before .before .digit-of5 .ensures)
+    (c .before .before .digit-of6 .ensures) (c .before .digit-of7 .ensures) (c .digit-of8 .ensures)
 
 pub put-eight-spec : {M : Type 1} → statement M
 put-eight-spec =

@@ -10,7 +10,8 @@ use Rattle.page_keep.proofs.put.put_groups.Statement.{statement}
 use Rattle.page_keep.proofs.put.put_groups.Tie as tie
 
 abbrev Inv-loop : tie.InvT-loop
-Inv-loop words out₀ at i₀ out i = (i ≤ length words) × (length out ≡ length out₀) × (out ≡ sets out₀ at (groups 8 (take i words)))
+Inv-loop words out₀ at i₀ out i = (i ≤ length words) × (length out ≡ length out₀) ×
+    (out ≡ sets out₀ at (groups 8 (take i words)))
 
 abbrev μ-loop : tie.MeasureT-loop
 μ-loop words out₀ at i₀ out i = length words - i
@@ -41,7 +42,18 @@ loop-less : tie.Need-loop-less Inv-loop μ-loop
 loop-less c = search needs
 
 loop-again : tie.Need-loop-again Inv-loop μ-loop
-loop-again c = (omega arith, ap length (c .before .before .put-eight .ensures) ∙ simp length-sets (c .before .before .before .before .before .before .loop .inv .1), groups-next 8 (c .before .before .before .before .before .before .before .before .before .args .out .now) (c .before .before .before .before .before .before .loop .out) _ (c .before .before .before .before .before .before .before .before .before .args .words .now) (c .before .before .before .before .before .before .before .before .before .args .at) (c .before .before .before .before .before .before .loop .i) (omega arith) (c .before .before .before .before .before .before .loop .inv .2) (c .before .before .put-eight .ensures))
+loop-again c = (
+  omega arith,
+  ap length (c .before .before .put-eight .ensures) ∙ simp length-sets
+      (c .before .before .before .before .before .before .loop .inv .1),
+  groups-next 8
+      (c .before .before .before .before .before .before .before .before .before .args .out .now)
+      (c .before .before .before .before .before .before .loop .out) _
+      (c .before .before .before .before .before .before .before .before .before .args .words .now)
+      (c .before .before .before .before .before .before .before .before .before .args .at)
+      (c .before .before .before .before .before .before .loop .i) (omega arith)
+      (c .before .before .before .before .before .before .loop .inv .2) (c .before .before .put-eight .ensures),
+)
 
 mul-result : tie.Need-mul-result Inv-loop μ-loop
 mul-result c = search needs

@@ -26,15 +26,20 @@ add-result : tie.Need-add-result
 add-result c = search needs
 
 same-length : tie.Need-same-length
-same-length c = simp length-set (ap length (c .before .before .put-decimal .ensures) ∙ simp length-sets (ap length (c .before .before .before .before .before .before .put-bytes .ensures .1) ∙ simp length-sets))
+same-length c = simp length-set (ap length (c .before .before .put-decimal .ensures) ∙ simp length-sets
+    (ap length (c .before .before .before .before .before .before .put-bytes .ensures .1) ∙ simp length-sets))
 
 returns : tie.Need-returns
 returns c =
     let a = c .before .before .before .before .before .before .before .before .before .before .args in
     let e = c .before .before .before .before .before .before .put-bytes .ensures in
     let v = c .before .before .before .before .before .before .put-bytes .result in
-    let d = digits 10 5 (a .n) in
-    (omega arith, sets-then _ _ _ (a .key .now) (d ++ LF) (a .at) v (e .1) (e .0) (sets-then _ _ _ d LF v (v + 5) (c .before .before .put-decimal .ensures) (omega (arith, length-digits 10 5 (a .n))) refl))
+    let d = digits 10 5 (a .n) in (
+      omega arith,
+      sets-then _ _ _ (a .key .now) (d ++ LF) (a .at) v (e .1) (e .0)
+          (sets-then _ _ _ d LF v (v + 5) (c .before .before .put-decimal .ensures)
+          (omega (arith, length-digits 10 5 (a .n))) refl),
+    )
 
 pub put-number-spec : {M : Type 1} → statement M
 put-number-spec =

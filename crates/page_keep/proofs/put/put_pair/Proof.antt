@@ -24,7 +24,8 @@ same-length : tie.Need-same-length
 same-length c = simp length-set
 
 returns : tie.Need-returns
-returns c = two (c .before .before .before .args .out .now) (c .before .before .before .args .at) (c .before .before .before .args .b) (c .before .digit-of .ensures) (c .digit-of2 .ensures)
+returns c = two (c .before .before .before .args .out .now) (c .before .before .before .args .at)
+    (c .before .before .before .args .b) (c .before .digit-of .ensures) (c .digit-of2 .ensures)
 
 pub put-pair-spec : {M : Type 1} → statement M
 put-pair-spec =

@@ -10,7 +10,8 @@ use Rattle.page_keep.proofs.put.put_pairs.Statement.{statement}
 use Rattle.page_keep.proofs.put.put_pairs.Tie as tie
 
 abbrev Inv-loop : tie.InvT-loop
-Inv-loop bytes out₀ at i₀ out i = (i ≤ length bytes) × (length out ≡ length out₀) × (out ≡ sets out₀ at (groups 2 (take i bytes)))
+Inv-loop bytes out₀ at i₀ out i = (i ≤ length bytes) × (length out ≡ length out₀) ×
+    (out ≡ sets out₀ at (groups 2 (take i bytes)))
 
 abbrev μ-loop : tie.MeasureT-loop
 μ-loop bytes out₀ at i₀ out i = length bytes - i
@@ -38,7 +39,18 @@ loop-less : tie.Need-loop-less Inv-loop μ-loop
 loop-less c = search needs
 
 loop-again : tie.Need-loop-again Inv-loop μ-loop
-loop-again c = (omega arith, ap length (c .before .before .put-pair .ensures) ∙ simp length-sets (c .before .before .before .before .before .before .loop .inv .1), groups-next 2 (c .before .before .before .before .before .before .before .before .before .args .out .now) (c .before .before .before .before .before .before .loop .out) _ (c .before .before .before .before .before .before .before .before .before .args .bytes .now) (c .before .before .before .before .before .before .before .before .before .args .at) (c .before .before .before .before .before .before .loop .i) (omega arith) (c .before .before .before .before .before .before .loop .inv .2) (c .before .before .put-pair .ensures))
+loop-again c = (
+  omega arith,
+  ap length (c .before .before .put-pair .ensures) ∙ simp length-sets
+      (c .before .before .before .before .before .before .loop .inv .1),
+  groups-next 2
+      (c .before .before .before .before .before .before .before .before .before .args .out .now)
+      (c .before .before .before .before .before .before .loop .out) _
+      (c .before .before .before .before .before .before .before .before .before .args .bytes .now)
+      (c .before .before .before .before .before .before .before .before .before .args .at)
+      (c .before .before .before .before .before .before .loop .i) (omega arith)
+      (c .before .before .before .before .before .before .loop .inv .2) (c .before .before .put-pair .ensures),
+)
 
 mul-result : tie.Need-mul-result Inv-loop μ-loop
 mul-result c = search needs

@@ -23,7 +23,8 @@ add-result : tie.Need-add-result
 add-result c = search needs
 
 same-length : tie.Need-same-length
-same-length c = simp length-set (ap length (c .before .before .put-groups .ensures .1) ∙ simp length-sets (ap length (c .before .before .before .before .before .before .put-bytes .ensures .1) ∙ simp length-sets))
+same-length c = simp length-set (ap length (c .before .before .put-groups .ensures .1) ∙ simp length-sets
+    (ap length (c .before .before .before .before .before .before .put-bytes .ensures .1) ∙ simp length-sets))
 
 returns : tie.Need-returns
 returns c =
@@ -31,8 +32,12 @@ returns c =
     let e = c .before .before .before .before .before .before .put-bytes .ensures in
     let v = c .before .before .before .before .before .before .put-bytes .result in
     let p = c .before .before .put-groups .ensures in
-    let g = groups 8 (a .words .now) in
-    (omega arith, sets-then _ _ _ (a .key .now) (g ++ LF) (a .at) v (e .1) (e .0) (sets-then _ _ _ g LF v (c .before .before .put-groups .result) (p .1) (omega (arith, length-groups 8 (a .words .now))) refl))
+    let g = groups 8 (a .words .now) in (
+      omega arith,
+      sets-then _ _ _ (a .key .now) (g ++ LF) (a .at) v (e .1) (e .0)
+          (sets-then _ _ _ g LF v (c .before .before .put-groups .result) (p .1)
+          (omega (arith, length-groups 8 (a .words .now))) refl),
+    )
 
 pub put-words-spec : {M : Type 1} → statement M
 put-words-spec =

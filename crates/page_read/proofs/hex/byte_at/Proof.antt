@@ -25,7 +25,9 @@ add-result : tie.Need-add-result
 add-result c = search needs
 
 returns : tie.Need-returns
-returns c = hex-two (c .before .before .before .before .before .args .s .now) (c .before .before .before .before .before .args .at) (c .before .before .nibble-of .ensures .0) (c .nibble-of2 .ensures .0)
+returns c = hex-two (c .before .before .before .before .before .args .s .now)
+    (c .before .before .before .before .before .args .at) (c .before .before .nibble-of .ensures .0)
+    (c .nibble-of2 .ensures .0)
 
 pub byte-at-spec : {M : Type 1} → statement M
 byte-at-spec =

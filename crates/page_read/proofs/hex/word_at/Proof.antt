@@ -22,7 +22,16 @@ loop-holds : tie.Need-loop-holds Inv-loop μ-loop
 loop-holds c = (omega arith, hex-none (c .before .args .s .now) (c .before .args .at))
 
 mul-v : tie.Need-mul-v Inv-loop μ-loop
-mul-v c = omega (arith, few (c .before .loop .v) (c .before .loop .k) (omega (arith, c .before .loop .inv .1, hex-small (c .before .before .before .args .s .now) (c .before .before .before .args .at) (c .before .loop .k))) (omega arith))
+mul-v c = omega (
+  arith,
+  few (c .before .loop .v) (c .before .loop .k)
+      (omega (
+        arith,
+        c .before .loop .inv .1,
+        hex-small (c .before .before .before .args .s .now)
+            (c .before .before .before .args .at) (c .before .loop .k),
+      )) (omega arith),
+)
 
 add-nibble-of : tie.Need-add-nibble-of Inv-loop μ-loop
 add-nibble-of c = search needs
@@ -37,7 +46,18 @@ wide-requires : tie.Need-wide-requires Inv-loop μ-loop
 wide-requires c κs = search needs
 
 add-v : tie.Need-add-v Inv-loop μ-loop
-add-v c = omega (arith, few (c .before .before .before .before .loop .v) (c .before .before .before .before .loop .k) (omega (arith, c .before .before .before .before .loop .inv .1, hex-small (c .before .before .before .before .before .before .args .s .now) (c .before .before .before .before .before .before .args .at) (c .before .before .before .before .loop .k))) (omega arith))
+add-v c = omega (
+  arith,
+  few (c .before .before .before .before .loop .v) (c .before .before .before .before .loop .k)
+      (omega (
+        arith,
+        c .before .before .before .before .loop .inv .1,
+        hex-small
+            (c .before .before .before .before .before .before .args .s .now)
+            (c .before .before .before .before .before .before .args .at) (c .before .before .before .before .loop .k),
+      ))
+      (omega arith),
+)
 
 add-k : tie.Need-add-k Inv-loop μ-loop
 add-k c = search needs
@@ -46,12 +66,18 @@ loop-less : tie.Need-loop-less Inv-loop μ-loop
 loop-less c = search needs
 
 loop-again : tie.Need-loop-again Inv-loop μ-loop
-loop-again c = (omega arith, hex-suc (c .before .before .before .before .before .before .args .s .now) (c .before .before .before .before .before .before .args .at) (c .before .before .before .before .loop .k) (c .before .before .before .before .loop .inv .1) (c .wide .ensures .0 ∙ c .before .nibble-of .ensures .0))
+loop-again c = (
+  omega arith,
+  hex-suc (c .before .before .before .before .before .before .args .s .now)
+      (c .before .before .before .before .before .before .args .at) (c .before .before .before .before .loop .k)
+      (c .before .before .before .before .loop .inv .1) (c .wide .ensures .0 ∙ c .before .nibble-of .ensures .0),
+)
 
 returns : tie.Need-returns Inv-loop μ-loop
 returns c =
     let e : c .before .loop .k ≡ 8 = omega arith in
-    c .before .loop .inv .1 ∙ ap (hexAt (c .before .before .before .args .s .now) (c .before .before .before .args .at)) e
+    c .before .loop .inv .1 ∙ ap (hexAt (c .before .before .before .args .s .now)
+    (c .before .before .before .args .at)) e
 
 pub word-at-spec : {M : Type 1} → statement M
 word-at-spec =

@@ -17,8 +17,16 @@ returns c =
     let a = c .before .before .before .before .before .before .args in
     let word′ = c .before .before .before .word in
     let if1′ = c .before .if1 in
-    let no-list′ = c .no-list in
-    (rw (failed-if tt (a .file .now) (word′ .result) (word′ .ensures) (if1′ .taken), no-list′ .ensures .0, no-list′ .ensures .1), never _ (no-list′ .ensures .0), never _ (no-list′ .ensures .0))
+    let no-list′ = c .no-list in (
+      rw (
+        failed-if tt (a .file .now) (word′ .result) (word′ .ensures) (if1′ .taken),
+        no-list′ .ensures .0,
+        no-list′
+            .ensures .1,
+      ),
+      never _ (no-list′ .ensures .0),
+      never _ (no-list′ .ensures .0),
+    )
 
 bytes-line-requires : tie.Need-bytes-line-requires
 bytes-line-requires c κs = search needs
@@ -29,8 +37,11 @@ returns-2 c =
     let word′ = c .before .before .before .word in
     let if1′ = c .before .if1 in
     let bytes-line′ = c .bytes-line in
-    let e = bytes-line′ .ensures in
-    (rw (found-if tt (a .file .now) (word′ .result) (word′ .ensures) (if1′ .left)) (e .0), (λ h. (e .1 h .2, e .1 h .3)), (λ h. e .1 h .1))
+    let e = bytes-line′ .ensures in (
+      rw (found-if tt (a .file .now) (word′ .result) (word′ .ensures) (if1′ .left)) (e .0),
+      (λ h. (e .1 h .2, e .1 h .3)),
+      (λ h. e .1 h .1),
+    )
 
 pub arrived-line-spec : {M : Type 1} → statement M
 arrived-line-spec =

@@ -23,7 +23,12 @@ returns c =
     let word′ = c .before .before .before .word in
     let if1′ = c .before .if1 in
     let no-head′ = c .no-head in
-    rw (no-head′ .ensures .0, no-head′ .ensures .1, form-is (a .file .now) 0 ∙ failed-if tt (a .file .now) (word′ .result) (word′ .ensures) (if1′ .taken))
+    rw (
+      no-head′ .ensures .0,
+      no-head′ .ensures .1,
+      form-is (a .file .now) 0 ∙ failed-if tt (a .file .now)
+          (word′ .result) (word′ .ensures) (if1′ .taken),
+    )
 
 kind-line-requires : tie.Need-kind-line-requires
 kind-line-requires c κs = search needs
@@ -39,7 +44,15 @@ returns-2 c =
     let kind-line′ = c .before .before .before .kind-line in
     let if2′ = c .before .if2 in
     let no-head2′ = c .no-head2 in
-    rw (no-head2′ .ensures .0, no-head2′ .ensures .1, form-is (a .file .now) 0 ∙ found-if tt (a .file .now) (word′ .result) (word′ .ensures) (if1′ .left), line-is "kind" kindName (drop (word′ .result .at) (a .file .now)) (word′ .result .at) ∙ failed-if (kindOf (kind-line′ .result .value)) (a .file .now) (kind-line′ .result) (kind-line′ .ensures) (if2′ .taken))
+    rw (
+      no-head2′ .ensures .0,
+      no-head2′ .ensures .1,
+      form-is (a .file .now) 0 ∙ found-if tt (a .file .now)
+          (word′ .result) (word′ .ensures) (if1′ .left),
+      line-is "kind" kindName
+          (drop (word′ .result .at) (a .file .now)) (word′ .result .at) ∙ failed-if (kindOf (kind-line′ .result .value))
+          (a .file .now) (kind-line′ .result) (kind-line′ .ensures) (if2′ .taken),
+    )
 
 slice-aggregate-number-line : tie.Need-slice-aggregate-number-line
 slice-aggregate-number-line c = search needs
@@ -52,7 +65,8 @@ no-head-requires-3 c κs = search needs
 
 returns-3 : tie.Need-returns-3
 returns-3 c =
-    let a = c .before .before .before .before .before .before .before .before .before .before .before .before .before .args in
+    let a = c .before .before .before .before .before .before .before .before .before .before .before .before .before
+    .args in
     let word′ = c .before .before .before .before .before .before .before .before .before .before .word in
     let if1′ = c .before .before .before .before .before .before .before .before .if1 in
     let kind-line′ = c .before .before .before .before .before .before .before .kind-line in
@@ -60,7 +74,18 @@ returns-3 c =
     let number-line′ = c .before .before .before .number-line in
     let if3′ = c .before .if3 in
     let no-head3′ = c .no-head3 in
-    rw (no-head3′ .ensures .0, no-head3′ .ensures .1, form-is (a .file .now) 0 ∙ found-if tt (a .file .now) (word′ .result) (word′ .ensures) (if1′ .left), line-is "kind" kindName (drop (word′ .result .at) (a .file .now)) (word′ .result .at) ∙ found-if (kindOf (kind-line′ .result .value)) (a .file .now) (kind-line′ .result) (kind-line′ .ensures) (if2′ .left), line-is "opening" (decimal form1) (drop (kind-line′ .result .at) (a .file .now)) (kind-line′ .result .at) ∙ failed-if (number-line′ .result .value) (a .file .now) (number-line′ .result) (number-line′ .ensures) (if3′ .taken))
+    rw (
+      no-head3′ .ensures .0,
+      no-head3′ .ensures .1,
+      form-is (a .file .now) 0 ∙ found-if tt (a .file .now)
+          (word′ .result) (word′ .ensures) (if1′ .left),
+      line-is "kind" kindName
+          (drop (word′ .result .at) (a .file .now)) (word′ .result .at) ∙ found-if (kindOf (kind-line′ .result .value))
+          (a .file .now) (kind-line′ .result) (kind-line′ .ensures) (if2′ .left),
+      line-is "opening" (decimal form1)
+          (drop (kind-line′ .result .at) (a .file .now)) (kind-line′ .result .at) ∙ failed-if
+          (number-line′ .result .value) (a .file .now) (number-line′ .result) (number-line′ .ensures) (if3′ .taken),
+    )
 
 slice-aggregate-number-line-2 : tie.Need-slice-aggregate-number-line-2
 slice-aggregate-number-line-2 c = search needs
@@ -73,17 +98,34 @@ no-head-requires-4 c κs = search needs
 
 returns-4 : tie.Need-returns-4
 returns-4 c =
-    let a = c .before .before .before .before .before .before .before .before .before .before .before .before .before .before .before .before .before .args in
-    let word′ = c .before .before .before .before .before .before .before .before .before .before .before .before .before .before .word in
+    let a = c .before .before .before .before .before .before .before .before .before .before .before .before .before
+    .before .before .before .before .args in
+    let word′ = c .before .before .before .before .before .before .before .before .before .before .before .before
+    .before .before .word in
     let if1′ = c .before .before .before .before .before .before .before .before .before .before .before .before .if1 in
-    let kind-line′ = c .before .before .before .before .before .before .before .before .before .before .before .kind-line in
+    let kind-line′ = c .before .before .before .before .before .before .before .before .before .before .before
+    .kind-line in
     let if2′ = c .before .before .before .before .before .before .before .before .before .if2 in
     let number-line′ = c .before .before .before .before .before .before .before .number-line in
     let if3′ = c .before .before .before .before .before .if3 in
     let number-line2′ = c .before .before .before .number-line2 in
     let if4′ = c .before .if4 in
     let no-head4′ = c .no-head4 in
-    rw (no-head4′ .ensures .0, no-head4′ .ensures .1, form-is (a .file .now) 0 ∙ found-if tt (a .file .now) (word′ .result) (word′ .ensures) (if1′ .left), line-is "kind" kindName (drop (word′ .result .at) (a .file .now)) (word′ .result .at) ∙ found-if (kindOf (kind-line′ .result .value)) (a .file .now) (kind-line′ .result) (kind-line′ .ensures) (if2′ .left), line-is "opening" (decimal form1) (drop (kind-line′ .result .at) (a .file .now)) (kind-line′ .result .at) ∙ found-if (number-line′ .result .value) (a .file .now) (number-line′ .result) (number-line′ .ensures) (if3′ .left), line-is "length" (decimal form1) (drop (number-line′ .result .at) (a .file .now)) (number-line′ .result .at) ∙ failed-if (number-line2′ .result .value) (a .file .now) (number-line2′ .result) (number-line2′ .ensures) (if4′ .taken))
+    rw (
+      no-head4′ .ensures .0,
+      no-head4′ .ensures .1,
+      form-is (a .file .now) 0 ∙ found-if tt (a .file .now)
+          (word′ .result) (word′ .ensures) (if1′ .left),
+      line-is "kind" kindName
+          (drop (word′ .result .at) (a .file .now)) (word′ .result .at) ∙ found-if (kindOf (kind-line′ .result .value))
+          (a .file .now) (kind-line′ .result) (kind-line′ .ensures) (if2′ .left),
+      line-is "opening" (decimal form1)
+          (drop (kind-line′ .result .at) (a .file .now)) (kind-line′ .result .at) ∙ found-if
+          (number-line′ .result .value) (a .file .now) (number-line′ .result) (number-line′ .ensures) (if3′ .left),
+      line-is "length" (decimal form1) (drop (number-line′ .result .at) (a .file .now)) (number-line′ .result .at) ∙
+          failed-if (number-line2′ .result .value) (a .file .now) (number-line2′ .result) (number-line2′ .ensures)
+          (if4′ .taken),
+    )
 
 slice-aggregate-number-line-3 : tie.Need-slice-aggregate-number-line-3
 slice-aggregate-number-line-3 c = search needs
@@ -96,19 +138,42 @@ no-head-requires-5 c κs = search needs
 
 returns-5 : tie.Need-returns-5
 returns-5 c =
-    let a = c .before .before .before .before .before .before .before .before .before .before .before .before .before .before .before .before .before .before .before .before .before .args in
-    let word′ = c .before .before .before .before .before .before .before .before .before .before .before .before .before .before .before .before .before .before .word in
-    let if1′ = c .before .before .before .before .before .before .before .before .before .before .before .before .before .before .before .before .if1 in
-    let kind-line′ = c .before .before .before .before .before .before .before .before .before .before .before .before .before .before .before .kind-line in
-    let if2′ = c .before .before .before .before .before .before .before .before .before .before .before .before .before .if2 in
-    let number-line′ = c .before .before .before .before .before .before .before .before .before .before .before .number-line in
+    let a = c .before .before .before .before .before .before .before .before .before .before .before .before .before
+    .before .before .before .before .before .before .before .before .args in
+    let word′ = c .before .before .before .before .before .before .before .before .before .before .before .before
+    .before .before .before .before .before .before .word in
+    let if1′ = c .before .before .before .before .before .before .before .before .before .before .before .before
+    .before .before .before .before .if1 in
+    let kind-line′ = c .before .before .before .before .before .before .before .before .before .before .before .before
+    .before .before .before .kind-line in
+    let if2′ = c .before .before .before .before .before .before .before .before .before .before .before .before
+    .before .if2 in
+    let number-line′ = c .before .before .before .before .before .before .before .before .before .before .before
+    .number-line in
     let if3′ = c .before .before .before .before .before .before .before .before .before .if3 in
     let number-line2′ = c .before .before .before .before .before .before .before .number-line2 in
     let if4′ = c .before .before .before .before .before .if4 in
     let number-line3′ = c .before .before .before .number-line3 in
     let if5′ = c .before .if5 in
     let no-head5′ = c .no-head5 in
-    rw (no-head5′ .ensures .0, no-head5′ .ensures .1, form-is (a .file .now) 0 ∙ found-if tt (a .file .now) (word′ .result) (word′ .ensures) (if1′ .left), line-is "kind" kindName (drop (word′ .result .at) (a .file .now)) (word′ .result .at) ∙ found-if (kindOf (kind-line′ .result .value)) (a .file .now) (kind-line′ .result) (kind-line′ .ensures) (if2′ .left), line-is "opening" (decimal form1) (drop (kind-line′ .result .at) (a .file .now)) (kind-line′ .result .at) ∙ found-if (number-line′ .result .value) (a .file .now) (number-line′ .result) (number-line′ .ensures) (if3′ .left), line-is "length" (decimal form1) (drop (number-line′ .result .at) (a .file .now)) (number-line′ .result .at) ∙ found-if (number-line2′ .result .value) (a .file .now) (number-line2′ .result) (number-line2′ .ensures) (if4′ .left), line-is "used" (decimal form1) (drop (number-line2′ .result .at) (a .file .now)) (number-line2′ .result .at) ∙ failed-if (number-line3′ .result .value) (a .file .now) (number-line3′ .result) (number-line3′ .ensures) (if5′ .taken))
+    rw (
+      no-head5′ .ensures .0,
+      no-head5′ .ensures .1,
+      form-is (a .file .now) 0 ∙ found-if tt (a .file .now)
+          (word′ .result) (word′ .ensures) (if1′ .left),
+      line-is "kind" kindName
+          (drop (word′ .result .at) (a .file .now)) (word′ .result .at) ∙ found-if (kindOf (kind-line′ .result .value))
+          (a .file .now) (kind-line′ .result) (kind-line′ .ensures) (if2′ .left),
+      line-is "opening" (decimal form1)
+          (drop (kind-line′ .result .at) (a .file .now)) (kind-line′ .result .at) ∙ found-if
+          (number-line′ .result .value) (a .file .now) (number-line′ .result) (number-line′ .ensures) (if3′ .left),
+      line-is "length" (decimal form1) (drop (number-line′ .result .at) (a .file .now)) (number-line′ .result .at) ∙
+          found-if (number-line2′ .result .value) (a .file .now) (number-line2′ .result) (number-line2′ .ensures)
+          (if4′ .left),
+      line-is "used" (decimal form1) (drop (number-line2′ .result .at) (a .file .now))
+          (number-line2′ .result .at) ∙ failed-if (number-line3′ .result .value) (a .file .now) (number-line3′ .result)
+          (number-line3′ .ensures) (if5′ .taken),
+    )
 
 slice-aggregate-number-line-4 : tie.Need-slice-aggregate-number-line-4
 slice-aggregate-number-line-4 c = search needs
@@ -121,21 +186,49 @@ no-head-requires-6 c κs = search needs
 
 returns-6 : tie.Need-returns-6
 returns-6 c =
-    let a = c .before .before .before .before .before .before .before .before .before .before .before .before .before .before .before .before .before .before .before .before .before .before .before .before .before .args in
-    let word′ = c .before .before .before .before .before .before .before .before .before .before .before .before .before .before .before .before .before .before .before .before .before .before .word in
-    let if1′ = c .before .before .before .before .before .before .before .before .before .before .before .before .before .before .before .before .before .before .before .before .if1 in
-    let kind-line′ = c .before .before .before .before .before .before .before .before .before .before .before .before .before .before .before .before .before .before .before .kind-line in
-    let if2′ = c .before .before .before .before .before .before .before .before .before .before .before .before .before .before .before .before .before .if2 in
-    let number-line′ = c .before .before .before .before .before .before .before .before .before .before .before .before .before .before .before .number-line in
-    let if3′ = c .before .before .before .before .before .before .before .before .before .before .before .before .before .if3 in
-    let number-line2′ = c .before .before .before .before .before .before .before .before .before .before .before .number-line2 in
+    let a = c .before .before .before .before .before .before .before .before .before .before .before .before .before
+    .before .before .before .before .before .before .before .before .before .before .before .before .args in
+    let word′ = c .before .before .before .before .before .before .before .before .before .before .before .before
+    .before .before .before .before .before .before .before .before .before .before .word in
+    let if1′ = c .before .before .before .before .before .before .before .before .before .before .before .before
+    .before .before .before .before .before .before .before .before .if1 in
+    let kind-line′ = c .before .before .before .before .before .before .before .before .before .before .before .before
+    .before .before .before .before .before .before .before .kind-line in
+    let if2′ = c .before .before .before .before .before .before .before .before .before .before .before .before
+    .before .before .before .before .before .if2 in
+    let number-line′ = c .before .before .before .before .before .before .before .before .before .before .before
+    .before .before .before .before .number-line in
+    let if3′ = c .before .before .before .before .before .before .before .before .before .before .before .before
+    .before .if3 in
+    let number-line2′ = c .before .before .before .before .before .before .before .before .before .before .before
+    .number-line2 in
     let if4′ = c .before .before .before .before .before .before .before .before .before .if4 in
     let number-line3′ = c .before .before .before .before .before .before .before .number-line3 in
     let if5′ = c .before .before .before .before .before .if5 in
     let number-line4′ = c .before .before .before .number-line4 in
     let if6′ = c .before .if6 in
     let no-head6′ = c .no-head6 in
-    rw (no-head6′ .ensures .0, no-head6′ .ensures .1, form-is (a .file .now) 0 ∙ found-if tt (a .file .now) (word′ .result) (word′ .ensures) (if1′ .left), line-is "kind" kindName (drop (word′ .result .at) (a .file .now)) (word′ .result .at) ∙ found-if (kindOf (kind-line′ .result .value)) (a .file .now) (kind-line′ .result) (kind-line′ .ensures) (if2′ .left), line-is "opening" (decimal form1) (drop (kind-line′ .result .at) (a .file .now)) (kind-line′ .result .at) ∙ found-if (number-line′ .result .value) (a .file .now) (number-line′ .result) (number-line′ .ensures) (if3′ .left), line-is "length" (decimal form1) (drop (number-line′ .result .at) (a .file .now)) (number-line′ .result .at) ∙ found-if (number-line2′ .result .value) (a .file .now) (number-line2′ .result) (number-line2′ .ensures) (if4′ .left), line-is "used" (decimal form1) (drop (number-line2′ .result .at) (a .file .now)) (number-line2′ .result .at) ∙ found-if (number-line3′ .result .value) (a .file .now) (number-line3′ .result) (number-line3′ .ensures) (if5′ .left), line-is "done" (decimal form1) (drop (number-line3′ .result .at) (a .file .now)) (number-line3′ .result .at) ∙ failed-if (number-line4′ .result .value) (a .file .now) (number-line4′ .result) (number-line4′ .ensures) (if6′ .taken))
+    rw (
+      no-head6′ .ensures .0,
+      no-head6′ .ensures .1,
+      form-is (a .file .now) 0 ∙ found-if tt (a .file .now)
+          (word′ .result) (word′ .ensures) (if1′ .left),
+      line-is "kind" kindName
+          (drop (word′ .result .at) (a .file .now)) (word′ .result .at) ∙ found-if (kindOf (kind-line′ .result .value))
+          (a .file .now) (kind-line′ .result) (kind-line′ .ensures) (if2′ .left),
+      line-is "opening" (decimal form1)
+          (drop (kind-line′ .result .at) (a .file .now)) (kind-line′ .result .at) ∙ found-if
+          (number-line′ .result .value) (a .file .now) (number-line′ .result) (number-line′ .ensures) (if3′ .left),
+      line-is "length" (decimal form1) (drop (number-line′ .result .at) (a .file .now)) (number-line′ .result .at) ∙
+          found-if (number-line2′ .result .value) (a .file .now) (number-line2′ .result) (number-line2′ .ensures)
+          (if4′ .left),
+      line-is "used" (decimal form1) (drop (number-line2′ .result .at) (a .file .now))
+          (number-line2′ .result .at) ∙ found-if (number-line3′ .result .value) (a .file .now) (number-line3′ .result)
+          (number-line3′ .ensures) (if5′ .left),
+      line-is "done" (decimal form1)
+          (drop (number-line3′ .result .at) (a .file .now)) (number-line3′ .result .at) ∙ failed-if
+          (number-line4′ .result .value) (a .file .now) (number-line4′ .result) (number-line4′ .ensures) (if6′ .taken),
+    )
 
 mark-line-requires : tie.Need-mark-line-requires
 mark-line-requires c κs = search needs
@@ -145,23 +238,56 @@ no-head-requires-7 c κs = search needs
 
 returns-7 : tie.Need-returns-7
 returns-7 c =
-    let a = c .before .before .before .before .before .before .before .before .before .before .before .before .before .before .before .before .before .before .before .before .before .before .before .before .before .before .before .before .args in
-    let word′ = c .before .before .before .before .before .before .before .before .before .before .before .before .before .before .before .before .before .before .before .before .before .before .before .before .before .word in
-    let if1′ = c .before .before .before .before .before .before .before .before .before .before .before .before .before .before .before .before .before .before .before .before .before .before .before .if1 in
-    let kind-line′ = c .before .before .before .before .before .before .before .before .before .before .before .before .before .before .before .before .before .before .before .before .before .before .kind-line in
-    let if2′ = c .before .before .before .before .before .before .before .before .before .before .before .before .before .before .before .before .before .before .before .before .if2 in
-    let number-line′ = c .before .before .before .before .before .before .before .before .before .before .before .before .before .before .before .before .before .before .number-line in
-    let if3′ = c .before .before .before .before .before .before .before .before .before .before .before .before .before .before .before .before .if3 in
-    let number-line2′ = c .before .before .before .before .before .before .before .before .before .before .before .before .before .before .number-line2 in
+    let a = c .before .before .before .before .before .before .before .before .before .before .before .before .before
+    .before .before .before .before .before .before .before .before .before .before .before .before .before .before
+    .before .args in
+    let word′ = c .before .before .before .before .before .before .before .before .before .before .before .before
+    .before .before .before .before .before .before .before .before .before .before .before .before .before .word in
+    let if1′ = c .before .before .before .before .before .before .before .before .before .before .before .before
+    .before .before .before .before .before .before .before .before .before .before .before .if1 in
+    let kind-line′ = c .before .before .before .before .before .before .before .before .before .before .before .before
+    .before .before .before .before .before .before .before .before .before .before .kind-line in
+    let if2′ = c .before .before .before .before .before .before .before .before .before .before .before .before
+    .before .before .before .before .before .before .before .before .if2 in
+    let number-line′ = c .before .before .before .before .before .before .before .before .before .before .before
+    .before .before .before .before .before .before .before .number-line in
+    let if3′ = c .before .before .before .before .before .before .before .before .before .before .before .before
+    .before .before .before .before .if3 in
+    let number-line2′ = c .before .before .before .before .before .before .before .before .before .before .before
+    .before .before .before .number-line2 in
     let if4′ = c .before .before .before .before .before .before .before .before .before .before .before .before .if4 in
-    let number-line3′ = c .before .before .before .before .before .before .before .before .before .before .number-line3 in
+    let number-line3′ = c .before .before .before .before .before .before .before .before .before .before .number-line3
+    in
     let if5′ = c .before .before .before .before .before .before .before .before .if5 in
     let number-line4′ = c .before .before .before .before .before .before .number-line4 in
     let if6′ = c .before .before .before .before .if6 in
     let mark-line′ = c .before .before .before .mark-line in
     let if7′ = c .before .if7 in
     let no-head7′ = c .no-head7 in
-    rw (no-head7′ .ensures .0, no-head7′ .ensures .1, form-is (a .file .now) 0 ∙ found-if tt (a .file .now) (word′ .result) (word′ .ensures) (if1′ .left), line-is "kind" kindName (drop (word′ .result .at) (a .file .now)) (word′ .result .at) ∙ found-if (kindOf (kind-line′ .result .value)) (a .file .now) (kind-line′ .result) (kind-line′ .ensures) (if2′ .left), line-is "opening" (decimal form1) (drop (kind-line′ .result .at) (a .file .now)) (kind-line′ .result .at) ∙ found-if (number-line′ .result .value) (a .file .now) (number-line′ .result) (number-line′ .ensures) (if3′ .left), line-is "length" (decimal form1) (drop (number-line′ .result .at) (a .file .now)) (number-line′ .result .at) ∙ found-if (number-line2′ .result .value) (a .file .now) (number-line2′ .result) (number-line2′ .ensures) (if4′ .left), line-is "used" (decimal form1) (drop (number-line2′ .result .at) (a .file .now)) (number-line2′ .result .at) ∙ found-if (number-line3′ .result .value) (a .file .now) (number-line3′ .result) (number-line3′ .ensures) (if5′ .left), line-is "done" (decimal form1) (drop (number-line3′ .result .at) (a .file .now)) (number-line3′ .result .at) ∙ found-if (number-line4′ .result .value) (a .file .now) (number-line4′ .result) (number-line4′ .ensures) (if6′ .left), line-is "saved" (mark form1) (drop (number-line4′ .result .at) (a .file .now)) (number-line4′ .result .at) ∙ is-failed (mark-line′ .result .mark) (a .file .now) (mark-line′ .result .ok) (mark-line′ .result .at) (mark-line′ .ensures) (not-yes _ (if7′ .taken)))
+    rw (
+      no-head7′ .ensures .0,
+      no-head7′ .ensures .1,
+      form-is (a .file .now) 0 ∙ found-if tt (a .file .now)
+          (word′ .result) (word′ .ensures) (if1′ .left),
+      line-is "kind" kindName
+          (drop (word′ .result .at) (a .file .now)) (word′ .result .at) ∙ found-if (kindOf (kind-line′ .result .value))
+          (a .file .now) (kind-line′ .result) (kind-line′ .ensures) (if2′ .left),
+      line-is "opening" (decimal form1)
+          (drop (kind-line′ .result .at) (a .file .now)) (kind-line′ .result .at) ∙ found-if
+          (number-line′ .result .value) (a .file .now) (number-line′ .result) (number-line′ .ensures) (if3′ .left),
+      line-is "length" (decimal form1) (drop (number-line′ .result .at) (a .file .now)) (number-line′ .result .at) ∙
+          found-if (number-line2′ .result .value) (a .file .now) (number-line2′ .result) (number-line2′ .ensures)
+          (if4′ .left),
+      line-is "used" (decimal form1) (drop (number-line2′ .result .at) (a .file .now))
+          (number-line2′ .result .at) ∙ found-if (number-line3′ .result .value) (a .file .now) (number-line3′ .result)
+          (number-line3′ .ensures) (if5′ .left),
+      line-is "done" (decimal form1)
+          (drop (number-line3′ .result .at) (a .file .now)) (number-line3′ .result .at) ∙ found-if
+          (number-line4′ .result .value) (a .file .now) (number-line4′ .result) (number-line4′ .ensures) (if6′ .left),
+      line-is "saved" (mark form1) (drop (number-line4′ .result .at) (a .file .now)) (number-line4′ .result .at) ∙
+          is-failed (mark-line′ .result .mark) (a .file .now) (mark-line′ .result .ok) (mark-line′ .result .at)
+          (mark-line′ .ensures) (not-yes _ (if7′ .taken)),
+    )
 
 kind-of-requires : tie.Need-kind-of-requires
 kind-of-requires c κs = search needs
@@ -171,16 +297,28 @@ head-of-requires c κs = search needs
 
 returns-8 : tie.Need-returns-8
 returns-8 c =
-    let a = c .before .before .before .before .before .before .before .before .before .before .before .before .before .before .before .before .before .before .before .before .before .before .before .before .before .before .before .before .before .args in
-    let word′ = c .before .before .before .before .before .before .before .before .before .before .before .before .before .before .before .before .before .before .before .before .before .before .before .before .before .before .word in
-    let if1′ = c .before .before .before .before .before .before .before .before .before .before .before .before .before .before .before .before .before .before .before .before .before .before .before .before .if1 in
-    let kind-line′ = c .before .before .before .before .before .before .before .before .before .before .before .before .before .before .before .before .before .before .before .before .before .before .before .kind-line in
-    let if2′ = c .before .before .before .before .before .before .before .before .before .before .before .before .before .before .before .before .before .before .before .before .before .if2 in
-    let number-line′ = c .before .before .before .before .before .before .before .before .before .before .before .before .before .before .before .before .before .before .before .number-line in
-    let if3′ = c .before .before .before .before .before .before .before .before .before .before .before .before .before .before .before .before .before .if3 in
-    let number-line2′ = c .before .before .before .before .before .before .before .before .before .before .before .before .before .before .before .number-line2 in
-    let if4′ = c .before .before .before .before .before .before .before .before .before .before .before .before .before .if4 in
-    let number-line3′ = c .before .before .before .before .before .before .before .before .before .before .before .number-line3 in
+    let a = c .before .before .before .before .before .before .before .before .before .before .before .before .before
+    .before .before .before .before .before .before .before .before .before .before .before .before .before .before
+    .before .before .args in
+    let word′ = c .before .before .before .before .before .before .before .before .before .before .before .before
+    .before .before .before .before .before .before .before .before .before .before .before .before .before .before
+    .word in
+    let if1′ = c .before .before .before .before .before .before .before .before .before .before .before .before
+    .before .before .before .before .before .before .before .before .before .before .before .before .if1 in
+    let kind-line′ = c .before .before .before .before .before .before .before .before .before .before .before .before
+    .before .before .before .before .before .before .before .before .before .before .before .kind-line in
+    let if2′ = c .before .before .before .before .before .before .before .before .before .before .before .before
+    .before .before .before .before .before .before .before .before .before .if2 in
+    let number-line′ = c .before .before .before .before .before .before .before .before .before .before .before
+    .before .before .before .before .before .before .before .before .number-line in
+    let if3′ = c .before .before .before .before .before .before .before .before .before .before .before .before
+    .before .before .before .before .before .if3 in
+    let number-line2′ = c .before .before .before .before .before .before .before .before .before .before .before
+    .before .before .before .before .number-line2 in
+    let if4′ = c .before .before .before .before .before .before .before .before .before .before .before .before
+    .before .if4 in
+    let number-line3′ = c .before .before .before .before .before .before .before .before .before .before .before
+    .number-line3 in
     let if5′ = c .before .before .before .before .before .before .before .before .before .if5 in
     let number-line4′ = c .before .before .before .before .before .before .before .number-line4 in
     let if6′ = c .before .before .before .before .before .if6 in
@@ -188,7 +326,32 @@ returns-8 c =
     let if7′ = c .before .before .if7 in
     let kind-of′ = c .before .kind-of in
     let head-of′ = c .head-of in
-    rw (head-of′ .ensures .0, head-of′ .ensures .1, head-of′ .ensures .2, kind-of′ .ensures, form-is (a .file .now) 0 ∙ found-if tt (a .file .now) (word′ .result) (word′ .ensures) (if1′ .left), line-is "kind" kindName (drop (word′ .result .at) (a .file .now)) (word′ .result .at) ∙ found-if (kindOf (kind-line′ .result .value)) (a .file .now) (kind-line′ .result) (kind-line′ .ensures) (if2′ .left), line-is "opening" (decimal form1) (drop (kind-line′ .result .at) (a .file .now)) (kind-line′ .result .at) ∙ found-if (number-line′ .result .value) (a .file .now) (number-line′ .result) (number-line′ .ensures) (if3′ .left), line-is "length" (decimal form1) (drop (number-line′ .result .at) (a .file .now)) (number-line′ .result .at) ∙ found-if (number-line2′ .result .value) (a .file .now) (number-line2′ .result) (number-line2′ .ensures) (if4′ .left), line-is "used" (decimal form1) (drop (number-line2′ .result .at) (a .file .now)) (number-line2′ .result .at) ∙ found-if (number-line3′ .result .value) (a .file .now) (number-line3′ .result) (number-line3′ .ensures) (if5′ .left), line-is "done" (decimal form1) (drop (number-line3′ .result .at) (a .file .now)) (number-line3′ .result .at) ∙ found-if (number-line4′ .result .value) (a .file .now) (number-line4′ .result) (number-line4′ .ensures) (if6′ .left), line-is "saved" (mark form1) (drop (number-line4′ .result .at) (a .file .now)) (number-line4′ .result .at) ∙ is-found (mark-line′ .result .mark) (a .file .now) (mark-line′ .result .ok) (mark-line′ .result .at) (mark-line′ .ensures) (not-no _ (if7′ .left)))
+    rw (
+      head-of′ .ensures .0,
+      head-of′ .ensures .1,
+      head-of′ .ensures .2,
+      kind-of′ .ensures,
+      form-is (a .file .now) 0 ∙
+          found-if tt (a .file .now) (word′ .result) (word′ .ensures) (if1′ .left),
+      line-is "kind" kindName
+          (drop (word′ .result .at) (a .file .now)) (word′ .result .at) ∙ found-if (kindOf (kind-line′ .result .value))
+          (a .file .now) (kind-line′ .result) (kind-line′ .ensures) (if2′ .left),
+      line-is "opening" (decimal form1)
+          (drop (kind-line′ .result .at) (a .file .now)) (kind-line′ .result .at) ∙ found-if
+          (number-line′ .result .value) (a .file .now) (number-line′ .result) (number-line′ .ensures) (if3′ .left),
+      line-is "length" (decimal form1) (drop (number-line′ .result .at) (a .file .now)) (number-line′ .result .at) ∙
+          found-if (number-line2′ .result .value) (a .file .now) (number-line2′ .result) (number-line2′ .ensures)
+          (if4′ .left),
+      line-is "used" (decimal form1) (drop (number-line2′ .result .at) (a .file .now))
+          (number-line2′ .result .at) ∙ found-if (number-line3′ .result .value) (a .file .now) (number-line3′ .result)
+          (number-line3′ .ensures) (if5′ .left),
+      line-is "done" (decimal form1)
+          (drop (number-line3′ .result .at) (a .file .now)) (number-line3′ .result .at) ∙ found-if
+          (number-line4′ .result .value) (a .file .now) (number-line4′ .result) (number-line4′ .ensures) (if6′ .left),
+      line-is "saved" (mark form1) (drop (number-line4′ .result .at) (a .file .now)) (number-line4′ .result .at) ∙
+          is-found (mark-line′ .result .mark) (a .file .now) (mark-line′ .result .ok) (mark-line′ .result .at)
+          (mark-line′ .ensures) (not-no _ (if7′ .left)),
+    )
 
 pub first-lines-spec : {M : Type 1} → statement M
 first-lines-spec =

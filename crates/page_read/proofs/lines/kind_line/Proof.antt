@@ -20,7 +20,8 @@ returns c =
     let word′ = c .before .before .before .word in
     let if1′ = c .before .if1 in
     let failed′ = c .failed in
-    rw (failed-if tt (a .file .now) (word′ .result) (word′ .ensures) (if1′ .taken)) (handed (kindOf (failed′ .result .value)) (a .file .now) (failed′ .result) (failed′ .ensures))
+    rw (failed-if tt (a .file .now) (word′ .result) (word′ .ensures) (if1′ .taken))
+    (handed (kindOf (failed′ .result .value)) (a .file .now) (failed′ .result) (failed′ .ensures))
 
 kind-name-requires : tie.Need-kind-name-requires
 kind-name-requires c κs = search needs
@@ -36,7 +37,12 @@ returns-2 c =
     let kind-name′ = c .before .before .before .kind-name in
     let if2′ = c .before .if2 in
     let failed2′ = c .failed2 in
-    rw (found-if tt (a .file .now) (word′ .result) (word′ .ensures) (if1′ .left), failed-if (kindOf (kind-name′ .result .value)) (a .file .now) (kind-name′ .result) (kind-name′ .ensures) (if2′ .taken)) (handed (kindOf (failed2′ .result .value)) (a .file .now) (failed2′ .result) (failed2′ .ensures))
+    rw (
+      found-if tt (a .file .now) (word′ .result) (word′ .ensures) (if1′ .left),
+      failed-if
+          (kindOf (kind-name′ .result .value)) (a .file .now) (kind-name′ .result) (kind-name′ .ensures) (if2′ .taken),
+    )
+    (handed (kindOf (failed2′ .result .value)) (a .file .now) (failed2′ .result) (failed2′ .ensures))
 
 ended-requires : tie.Need-ended-requires
 ended-requires c κs = search needs
@@ -49,7 +55,13 @@ returns-3 c =
     let kind-name′ = c .before .before .before .kind-name in
     let if2′ = c .before .if2 in
     let ended′ = c .ended in
-    rw (found-if tt (a .file .now) (word′ .result) (word′ .ensures) (if1′ .left), found-if (kindOf (kind-name′ .result .value)) (a .file .now) (kind-name′ .result) (kind-name′ .ensures) (if2′ .left), ended′ .ensures .0) (end-as (kindOf (kind-name′ .result .value)) (a .file .now) (ended′ .result .ok) (ended′ .result .at) (ended′ .ensures .1))
+    rw (
+      found-if tt (a .file .now) (word′ .result) (word′ .ensures) (if1′ .left),
+      found-if
+          (kindOf (kind-name′ .result .value)) (a .file .now) (kind-name′ .result) (kind-name′ .ensures) (if2′ .left),
+      ended′ .ensures .0,
+    ) (end-as (kindOf (kind-name′ .result .value)) (a .file .now) (ended′ .result .ok)
+    (ended′ .result .at) (ended′ .ensures .1))
 
 pub kind-line-spec : {M : Type 1} → statement M
 kind-line-spec =

@@ -30,7 +30,11 @@ returns-2 c =
     let if1′ = c .before .before .before .if1 in
     let word2′ = c .before .word2 in
     let if2′ = c .if2 in
-    rw (is-failed tt (a .file .now) (word′ .result .ok) (word′ .result .at) (word′ .ensures) (if1′ .left), is-found tt (a .file .now) (word2′ .result .ok) (word2′ .result .at) (word2′ .ensures) (if2′ .taken))
+    rw (
+      is-failed tt (a .file .now) (word′ .result .ok) (word′ .result .at) (word′ .ensures) (if1′ .left),
+      is-found tt
+          (a .file .now) (word2′ .result .ok) (word2′ .result .at) (word2′ .ensures) (if2′ .taken),
+    )
 
 slice-aggregate-word-3 : tie.Need-slice-aggregate-word-3
 slice-aggregate-word-3 c = search needs
@@ -50,7 +54,13 @@ returns-3 c =
     let if2′ = c .before .before .before .before .if2 in
     let word3′ = c .before .before .word3 in
     let if3′ = c .if3 in
-    rw (is-failed tt (a .file .now) (word′ .result .ok) (word′ .result .at) (word′ .ensures) (if1′ .left), is-failed tt (a .file .now) (word2′ .result .ok) (word2′ .result .at) (word2′ .ensures) (if2′ .left), is-found tt (a .file .now) (word3′ .result .ok) (word3′ .result .at) (word3′ .ensures) (if3′ .taken))
+    rw (
+      is-failed tt (a .file .now) (word′ .result .ok) (word′ .result .at) (word′ .ensures) (if1′ .left),
+      is-failed tt
+          (a .file .now) (word2′ .result .ok) (word2′ .result .at) (word2′ .ensures) (if2′ .left),
+      is-found tt
+          (a .file .now) (word3′ .result .ok) (word3′ .result .at) (word3′ .ensures) (if3′ .taken),
+    )
 
 further-requires-2 : tie.Need-further-requires-2
 further-requires-2 c κs = search needs
@@ -60,7 +70,8 @@ failed-requires c κs = search needs
 
 returns-4 : tie.Need-returns-4
 returns-4 c =
-    let a = c .before .before .before .before .before .before .before .before .before .before .before .before .before .args in
+    let a = c .before .before .before .before .before .before .before .before .before .before .before .before .before
+    .args in
     let word′ = c .before .before .before .before .before .before .before .before .before .before .word in
     let if1′ = c .before .before .before .before .before .before .before .before .before .if1 in
     let word2′ = c .before .before .before .before .before .before .before .word2 in
@@ -70,7 +81,17 @@ returns-4 c =
     let if3′ = c .before .before .if3 in
     let further2′ = c .before .further2 in
     let failed′ = c .failed in
-    rw (is-failed tt (a .file .now) (word′ .result .ok) (word′ .result .at) (word′ .ensures) (if1′ .left), is-failed tt (a .file .now) (word2′ .result .ok) (word2′ .result .at) (word2′ .ensures) (if2′ .left), is-failed tt (a .file .now) (word3′ .result .ok) (word3′ .result .at) (word3′ .ensures) (if3′ .left), ← further′ .ensures, ← further2′ .ensures) (handed (kindOf (failed′ .result .value)) (a .file .now) (failed′ .result) (failed′ .ensures))
+    rw (
+      is-failed tt (a .file .now) (word′ .result .ok) (word′ .result .at) (word′ .ensures) (if1′ .left),
+      is-failed tt
+          (a .file .now) (word2′ .result .ok) (word2′ .result .at) (word2′ .ensures) (if2′ .left),
+      is-failed tt
+          (a .file .now) (word3′ .result .ok) (word3′ .result .at) (word3′ .ensures) (if3′ .left),
+      ← further′ .ensures,
+      ←
+          further2′ .ensures,
+    ) (handed (kindOf (failed′ .result .value)) (a .file .now) (failed′ .result)
+    (failed′ .ensures))
 
 pub kind-name-spec : {M : Type 1} → statement M
 kind-name-spec =

@@ -18,7 +18,12 @@ returns c =
     let word′ = c .before .before .before .word in
     let if1′ = c .before .if1 in
     let no-mark′ = c .no-mark in
-    rw (failed-if tt (a .file .now) (word′ .result) (word′ .ensures) (if1′ .taken), no-mark′ .ensures .0, no-mark′ .ensures .1)
+    rw (
+      failed-if tt (a .file .now) (word′ .result) (word′ .ensures) (if1′ .taken),
+      no-mark′ .ensures .0,
+      no-mark′
+          .ensures .1,
+    )
 
 mark-value-requires : tie.Need-mark-value-requires
 mark-value-requires c κs = search needs
@@ -34,7 +39,14 @@ returns-2 c =
     let mark-value′ = c .before .before .before .mark-value in
     let if2′ = c .before .if2 in
     let no-mark2′ = c .no-mark2 in
-    rw (found-if tt (a .file .now) (word′ .result) (word′ .ensures) (if1′ .left), is-failed (mark-value′ .result .mark) (a .file .now) (mark-value′ .result .ok) (mark-value′ .result .at) (mark-value′ .ensures) (not-yes _ (if2′ .taken)), no-mark2′ .ensures .0, no-mark2′ .ensures .1)
+    rw (
+      found-if tt (a .file .now) (word′ .result) (word′ .ensures) (if1′ .left),
+      is-failed (mark-value′ .result .mark)
+          (a .file .now) (mark-value′ .result .ok) (mark-value′ .result .at) (mark-value′ .ensures)
+          (not-yes _ (if2′ .taken)),
+      no-mark2′ .ensures .0,
+      no-mark2′ .ensures .1,
+    )
 
 ended-requires : tie.Need-ended-requires
 ended-requires c κs = search needs
@@ -47,7 +59,13 @@ returns-3 c =
     let mark-value′ = c .before .before .before .mark-value in
     let if2′ = c .before .if2 in
     let ended′ = c .ended in
-    rw (found-if tt (a .file .now) (word′ .result) (word′ .ensures) (if1′ .left), is-found (mark-value′ .result .mark) (a .file .now) (mark-value′ .result .ok) (mark-value′ .result .at) (mark-value′ .ensures) (not-no _ (if2′ .left))) (end-as (mark-value′ .result .mark) (a .file .now) (ended′ .result .ok) (ended′ .result .at) (ended′ .ensures .1))
+    rw (
+      found-if tt (a .file .now) (word′ .result) (word′ .ensures) (if1′ .left),
+      is-found (mark-value′ .result .mark)
+          (a .file .now) (mark-value′ .result .ok) (mark-value′ .result .at) (mark-value′ .ensures)
+          (not-no _ (if2′ .left)),
+    ) (end-as (mark-value′ .result .mark) (a .file .now) (ended′ .result .ok)
+    (ended′ .result .at) (ended′ .ensures .1))
 
 pub mark-line-spec : {M : Type 1} → statement M
 mark-line-spec =

@@ -26,7 +26,12 @@ returns-2 c =
     let if1′ = c .before .before .if1 in
     let decimal′ = c .before .decimal in
     let if2′ = c .if2 in
-    rw (is-failed tt (a .file .now) (word′ .result .ok) (word′ .result .at) (word′ .ensures) (if1′ .left), is-found (decimal′ .result .value) (a .file .now) (decimal′ .result .ok) (decimal′ .result .at) (decimal′ .ensures) (if2′ .taken))
+    rw (
+      is-failed tt (a .file .now) (word′ .result .ok) (word′ .result .at) (word′ .ensures) (if1′ .left),
+      is-found
+          (decimal′ .result .value) (a .file .now) (decimal′ .result .ok) (decimal′ .result .at) (decimal′ .ensures)
+          (if2′ .taken),
+    )
 
 further-requires : tie.Need-further-requires
 further-requires c κs = search needs
@@ -43,7 +48,15 @@ returns-3 c =
     let if2′ = c .before .before .if2 in
     let further′ = c .before .further in
     let no-mark′ = c .no-mark in
-    rw (is-failed tt (a .file .now) (word′ .result .ok) (word′ .result .at) (word′ .ensures) (if1′ .left), is-failed (decimal′ .result .value) (a .file .now) (decimal′ .result .ok) (decimal′ .result .at) (decimal′ .ensures) (if2′ .left), no-mark′ .ensures .0, no-mark′ .ensures .1, further′ .ensures)
+    rw (
+      is-failed tt (a .file .now) (word′ .result .ok) (word′ .result .at) (word′ .ensures) (if1′ .left),
+      is-failed
+          (decimal′ .result .value) (a .file .now) (decimal′ .result .ok) (decimal′ .result .at) (decimal′ .ensures)
+          (if2′ .left),
+      no-mark′ .ensures .0,
+      no-mark′ .ensures .1,
+      further′ .ensures,
+    )
 
 pub mark-value-spec : {M : Type 1} → statement M
 mark-value-spec =

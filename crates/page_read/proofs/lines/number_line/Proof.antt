@@ -15,7 +15,8 @@ returns c =
     let word′ = c .before .before .before .word in
     let if1′ = c .before .if1 in
     let failed′ = c .failed in
-    rw (failed-if tt (a .file .now) (word′ .result) (word′ .ensures) (if1′ .taken)) (handed (failed′ .result .value) (a .file .now) (failed′ .result) (failed′ .ensures))
+    rw (failed-if tt (a .file .now) (word′ .result) (word′ .ensures) (if1′ .taken))
+    (handed (failed′ .result .value) (a .file .now) (failed′ .result) (failed′ .ensures))
 
 decimal-requires : tie.Need-decimal-requires
 decimal-requires c κs = search needs
@@ -31,7 +32,12 @@ returns-2 c =
     let decimal′ = c .before .before .before .decimal in
     let if2′ = c .before .if2 in
     let failed2′ = c .failed2 in
-    rw (found-if tt (a .file .now) (word′ .result) (word′ .ensures) (if1′ .left), failed-if (decimal′ .result .value) (a .file .now) (decimal′ .result) (decimal′ .ensures) (if2′ .taken)) (handed (failed2′ .result .value) (a .file .now) (failed2′ .result) (failed2′ .ensures))
+    rw (
+      found-if tt (a .file .now) (word′ .result) (word′ .ensures) (if1′ .left),
+      failed-if (decimal′ .result .value)
+          (a .file .now) (decimal′ .result) (decimal′ .ensures) (if2′ .taken),
+    )
+    (handed (failed2′ .result .value) (a .file .now) (failed2′ .result) (failed2′ .ensures))
 
 ended-requires : tie.Need-ended-requires
 ended-requires c κs = search needs
@@ -44,7 +50,13 @@ returns-3 c =
     let decimal′ = c .before .before .before .decimal in
     let if2′ = c .before .if2 in
     let ended′ = c .ended in
-    rw (found-if tt (a .file .now) (word′ .result) (word′ .ensures) (if1′ .left), found-if (decimal′ .result .value) (a .file .now) (decimal′ .result) (decimal′ .ensures) (if2′ .left), ended′ .ensures .0) (end-as (decimal′ .result .value) (a .file .now) (ended′ .result .ok) (ended′ .result .at) (ended′ .ensures .1))
+    rw (
+      found-if tt (a .file .now) (word′ .result) (word′ .ensures) (if1′ .left),
+      found-if (decimal′ .result .value)
+          (a .file .now) (decimal′ .result) (decimal′ .ensures) (if2′ .left),
+      ended′ .ensures .0,
+    )
+    (end-as (decimal′ .result .value) (a .file .now) (ended′ .result .ok) (ended′ .result .at) (ended′ .ensures .1))
 
 pub number-line-spec : {M : Type 1} → statement M
 number-line-spec =

@@ -15,8 +15,16 @@ returns c =
     let a = c .before .before .before .before .before .before .args in
     let word′ = c .before .before .before .word in
     let if1′ = c .before .if1 in
-    let no-list′ = c .no-list in
-    (rw (failed-if tt (a .file .now) (word′ .result) (word′ .ensures) (if1′ .taken), no-list′ .ensures .0, no-list′ .ensures .1), never _ (no-list′ .ensures .0), never _ (no-list′ .ensures .0))
+    let no-list′ = c .no-list in (
+      rw (
+        failed-if tt (a .file .now) (word′ .result) (word′ .ensures) (if1′ .taken),
+        no-list′ .ensures .0,
+        no-list′
+            .ensures .1,
+      ),
+      never _ (no-list′ .ensures .0),
+      never _ (no-list′ .ensures .0),
+    )
 
 words-line-requires : tie.Need-words-line-requires
 words-line-requires c κs = search needs
@@ -27,8 +35,11 @@ returns-2 c =
     let word′ = c .before .before .before .word in
     let if1′ = c .before .if1 in
     let words-line′ = c .words-line in
-    let e = words-line′ .ensures in
-    (rw (found-if tt (a .file .now) (word′ .result) (word′ .ensures) (if1′ .left)) (e .0), (λ h. (e .1 h .2, e .1 h .3)), (λ h. omega (arith, e .1 h .0, e .1 h .1)))
+    let e = words-line′ .ensures in (
+      rw (found-if tt (a .file .now) (word′ .result) (word′ .ensures) (if1′ .left)) (e .0),
+      (λ h. (e .1 h .2, e .1 h .3)),
+      (λ h. omega (arith, e .1 h .0, e .1 h .1)),
+    )
 
 pub words-line-spec : {M : Type 1} → statement M
 words-line-spec =

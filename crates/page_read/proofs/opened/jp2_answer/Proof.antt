@@ -59,7 +59,9 @@ loop-again c =
     let byte-at′ = c .before .before .before .before .byte-at in
     let feed′ = c .before .before .before .feed in
     let state′ = c .before .state in
-    left-give (l .inv) (omega (arith, length-hexes (a .file .now) (a .base) 2 (a .n))) (at-byte jp2 (stateOf (l .st)) (hexes-at (a .file .now) (a .base) 2 (a .n) (l .at) (omega arith) ∙ sym (byte-at′ .ensures)) (moved (feed′ .ensures) (state′ .given .1)))
+    left-give (l .inv) (omega (arith, length-hexes (a .file .now) (a .base) 2 (a .n)))
+    (at-byte jp2 (stateOf (l .st)) (hexes-at (a .file .now) (a .base) 2 (a .n) (l .at) (omega arith) ∙ sym
+    (byte-at′ .ensures)) (moved (feed′ .ensures) (state′ .given .1)))
 
 enum-known-state-2 : tie.Need-enum-known-state-2 Inv-loop μ-loop
 enum-known-state-2 c = search needs
@@ -77,7 +79,9 @@ loop-again-2 c =
     let byte-at′ = c .before .before .before .before .byte-at in
     let feed′ = c .before .before .before .feed in
     let state2′ = c .before .state2 in
-    left-go (l .inv) (omega (arith, length-hexes (a .file .now) (a .base) 2 (a .n))) (at-byte jp2 (stateOf (l .st)) (hexes-at (a .file .now) (a .base) 2 (a .n) (l .at) (omega arith) ∙ sym (byte-at′ .ensures)) (moved (feed′ .ensures) (state2′ .given .1)))
+    left-go (l .inv) (omega (arith, length-hexes (a .file .now) (a .base) 2 (a .n)))
+    (at-byte jp2 (stateOf (l .st)) (hexes-at (a .file .now) (a .base) 2 (a .n) (l .at) (omega arith) ∙ sym
+    (byte-at′ .ensures)) (moved (feed′ .ensures) (state2′ .given .1)))
 
 enum-known-why : tie.Need-enum-known-why Inv-loop μ-loop
 enum-known-why c = search needs
@@ -89,7 +93,9 @@ returns c =
     let byte-at′ = c .before .before .before .before .byte-at in
     let feed′ = c .before .before .before .feed in
     let why′ = c .before .why in
-    left-bad (l .inv) (omega (arith, length-hexes (a .file .now) (a .base) 2 (a .n))) (at-byte jp2 (stateOf (l .st)) (hexes-at (a .file .now) (a .base) 2 (a .n) (l .at) (omega arith) ∙ sym (byte-at′ .ensures)) (moved (feed′ .ensures) (why′ .given .1))) .1
+    left-bad (l .inv) (omega (arith, length-hexes (a .file .now) (a .base) 2 (a .n)))
+    (at-byte jp2 (stateOf (l .st)) (hexes-at (a .file .now) (a .base) 2 (a .n) (l .at) (omega arith) ∙ sym
+    (byte-at′ .ensures)) (moved (feed′ .ensures) (why′ .given .1))) .1
 
 finish-requires : tie.Need-finish-requires Inv-loop μ-loop
 finish-requires c κs = search needs

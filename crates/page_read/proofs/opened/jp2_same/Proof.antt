@@ -4,7 +4,8 @@ use native.Mathlib.Omega.{arith}
 use lib.ListN.{length}
 use lib.Dec.{eqb}
 use Rattle.scan.specs.Inner.{hexesAt}
-use Rattle.reading.proofs.Matches.{Matching, matching-start, matching-give, matching-other, matching-past, matching-go, matching-bad, matching-refused, matching-accepted}
+use Rattle.reading.proofs.Matches.{Matching, matching-start, matching-give, matching-other, matching-past, matching-go}
+use Rattle.reading.proofs.Matches.{matching-bad, matching-refused, matching-accepted}
 use Rattle.jp2.specs.Rule.{jp2}
 use Rattle.jp2_read.specs.Cursor.{stateOf}
 use Rattle.jp2_read.proofs.Moves.{moved}
@@ -15,7 +16,8 @@ use Rattle.page_read.proofs.opened.jp2_same.Statement.{statement}
 use Rattle.page_read.proofs.opened.jp2_same.Tie as tie
 
 abbrev Inv-loop : tie.InvT-loop
-Inv-loop file base n text m at₀ count₀ st₀ at count st = Matching jp2 (hexesAt file base 2 n) (hexesAt file text 8 m) at (stateOf st) count
+Inv-loop file base n text m at₀ count₀ st₀ at count st = Matching jp2 (hexesAt file base 2 n) (hexesAt file text 8 m)
+    at (stateOf st) count
 
 abbrev μ-loop : tie.MeasureT-loop
 μ-loop file base n text m at₀ count₀ st₀ at count st = n - at
@@ -50,7 +52,10 @@ returns c =
     let byte-at′ = c .before .before .before .before .before .byte-at in
     let feed′ = c .before .before .before .before .feed in
     let value′ = c .before .before .value in
-    matching-past (l .inv) (omega (arith, length-hexes (a .file .now) (a .base) 2 (a .n))) (at-byte jp2 (stateOf (l .st)) (hexes-at (a .file .now) (a .base) 2 (a .n) (l .at) (omega arith) ∙ sym (byte-at′ .ensures)) (moved (feed′ .ensures) (value′ .given .1))) (omega (arith, length-hexes (a .file .now) (a .text) 8 (a .m)))
+    matching-past (l .inv) (omega (arith, length-hexes (a .file .now) (a .base) 2 (a .n)))
+    (at-byte jp2 (stateOf (l .st)) (hexes-at (a .file .now) (a .base) 2 (a .n) (l .at) (omega arith) ∙ sym
+    (byte-at′ .ensures)) (moved (feed′ .ensures) (value′ .given .1)))
+    (omega (arith, length-hexes (a .file .now) (a .text) 8 (a .m)))
 
 mul-word-at : tie.Need-mul-word-at Inv-loop μ-loop
 mul-word-at c = search needs
@@ -70,7 +75,12 @@ returns-2 c =
     let value′ = c .before .before .before .before .value in
     let word-at′ = c .before .word-at in
     let if2′ = c .if2 in
-    matching-other (l .inv) (omega (arith, length-hexes (a .file .now) (a .base) 2 (a .n))) (at-byte jp2 (stateOf (l .st)) (hexes-at (a .file .now) (a .base) 2 (a .n) (l .at) (omega arith) ∙ sym (byte-at′ .ensures)) (moved (feed′ .ensures) (value′ .given .1))) (omega (arith, length-hexes (a .file .now) (a .text) 8 (a .m))) (λ q. if2′ .taken (word-at′ .ensures ∙ sym (hexes-at (a .file .now) (a .text) 8 (a .m) (l .count) (omega arith)) ∙ q))
+    matching-other (l .inv) (omega (arith, length-hexes (a .file .now) (a .base) 2 (a .n)))
+    (at-byte jp2 (stateOf (l .st)) (hexes-at (a .file .now) (a .base) 2 (a .n) (l .at) (omega arith) ∙ sym
+    (byte-at′ .ensures)) (moved (feed′ .ensures) (value′ .given .1)))
+    (omega (arith, length-hexes (a .file .now) (a .text) 8 (a .m)))
+    (λ q. if2′ .taken (word-at′ .ensures ∙ sym (hexes-at (a .file .now) (a .text) 8 (a .m) (l .count)
+    (omega arith)) ∙ q))
 
 add-count : tie.Need-add-count Inv-loop μ-loop
 add-count c =
@@ -92,7 +102,11 @@ loop-again c =
     let value′ = c .before .before .before .before .value in
     let word-at′ = c .before .word-at in
     let if2′ = c .if2 in
-    matching-give (l .inv) (omega (arith, length-hexes (a .file .now) (a .base) 2 (a .n))) (at-byte jp2 (stateOf (l .st)) (hexes-at (a .file .now) (a .base) 2 (a .n) (l .at) (omega arith) ∙ sym (byte-at′ .ensures)) (moved (feed′ .ensures) (value′ .given .1))) (omega (arith, length-hexes (a .file .now) (a .text) 8 (a .m))) (hexes-at (a .file .now) (a .text) 8 (a .m) (l .count) (omega arith) ∙ sym (word-at′ .ensures) ∙ if2′ .left)
+    matching-give (l .inv) (omega (arith, length-hexes (a .file .now) (a .base) 2 (a .n)))
+    (at-byte jp2 (stateOf (l .st)) (hexes-at (a .file .now) (a .base) 2 (a .n) (l .at) (omega arith) ∙ sym
+    (byte-at′ .ensures)) (moved (feed′ .ensures) (value′ .given .1)))
+    (omega (arith, length-hexes (a .file .now) (a .text) 8 (a .m)))
+    (hexes-at (a .file .now) (a .text) 8 (a .m) (l .count) (omega arith) ∙ sym (word-at′ .ensures) ∙ if2′ .left)
 
 enum-known-state : tie.Need-enum-known-state Inv-loop μ-loop
 enum-known-state c = search needs
@@ -110,7 +124,9 @@ loop-again-2 c =
     let byte-at′ = c .before .before .before .before .byte-at in
     let feed′ = c .before .before .before .feed in
     let state′ = c .before .state in
-    matching-go (l .inv) (omega (arith, length-hexes (a .file .now) (a .base) 2 (a .n))) (at-byte jp2 (stateOf (l .st)) (hexes-at (a .file .now) (a .base) 2 (a .n) (l .at) (omega arith) ∙ sym (byte-at′ .ensures)) (moved (feed′ .ensures) (state′ .given .1)))
+    matching-go (l .inv) (omega (arith, length-hexes (a .file .now) (a .base) 2 (a .n)))
+    (at-byte jp2 (stateOf (l .st)) (hexes-at (a .file .now) (a .base) 2 (a .n) (l .at) (omega arith) ∙ sym
+    (byte-at′ .ensures)) (moved (feed′ .ensures) (state′ .given .1)))
 
 enum-told : tie.Need-enum-told Inv-loop μ-loop
 enum-told c = search needs
@@ -122,7 +138,9 @@ returns-3 c =
     let byte-at′ = c .before .before .before .byte-at in
     let feed′ = c .before .before .feed in
     let enum-told′ = c .enum-told in
-    matching-bad (l .inv) (omega (arith, length-hexes (a .file .now) (a .base) 2 (a .n))) (at-byte jp2 (stateOf (l .st)) (hexes-at (a .file .now) (a .base) 2 (a .n) (l .at) (omega arith) ∙ sym (byte-at′ .ensures)) (moved (feed′ .ensures) (enum-told′ .given .1)))
+    matching-bad (l .inv) (omega (arith, length-hexes (a .file .now) (a .base) 2 (a .n)))
+    (at-byte jp2 (stateOf (l .st)) (hexes-at (a .file .now) (a .base) 2 (a .n) (l .at) (omega arith) ∙ sym
+    (byte-at′ .ensures)) (moved (feed′ .ensures) (enum-told′ .given .1)))
 
 finish-requires : tie.Need-finish-requires Inv-loop μ-loop
 finish-requires c κs = search needs
@@ -139,7 +157,9 @@ returns-4 c =
     let l = c .before .before .before .before .loop in
     let finish′ = c .before .before .finish in
     let enum-told2′ = c .enum-told2 in
-    ap (eqb (l .count)) (sym (length-hexes (a .file .now) (a .text) 8 (a .m))) ∙ (matching-accepted (l .inv) (omega (arith, length-hexes (a .file .now) (a .base) 2 (a .n))) _ (ends-sound _ _) (finish′ .ensures) (enum-told2′ .given .1))
+    ap (eqb (l .count)) (sym (length-hexes (a .file .now) (a .text) 8 (a .m))) ∙
+    (matching-accepted (l .inv) (omega (arith, length-hexes (a .file .now) (a .base) 2 (a .n))) _ (ends-sound _ _)
+    (finish′ .ensures) (enum-told2′ .given .1))
 
 returns-5 : tie.Need-returns-5 Inv-loop μ-loop
 returns-5 c =
@@ -147,7 +167,8 @@ returns-5 c =
     let l = c .before .before .before .before .loop in
     let finish′ = c .before .before .finish in
     let enum-told3′ = c .enum-told3 in
-    matching-refused (l .inv) (omega (arith, length-hexes (a .file .now) (a .base) 2 (a .n))) _ (finish′ .ensures) (enum-told3′ .given .1)
+    matching-refused (l .inv) (omega (arith, length-hexes (a .file .now) (a .base) 2 (a .n))) _ (finish′ .ensures)
+    (enum-told3′ .given .1)
 
 pub jp2-same-spec : {M : Type 1} → statement M
 jp2-same-spec =

@@ -54,7 +54,9 @@ loop-again c =
     let byte-at′ = c .before .before .before .before .byte-at in
     let byte-does′ = c .before .before .before .byte-does in
     let state′ = c .before .state in
-    left-give (l .inv) (omega (arith, length-hexes (a .file .now) (a .base) 2 (a .n))) (at-byte utf7 (shiftOf (l .st)) (hexes-at (a .file .now) (a .base) 2 (a .n) (l .at) (omega arith) ∙ sym (byte-at′ .ensures)) (byte-moved _ _ (byte-does′ .ensures) (state′ .given .1)))
+    left-give (l .inv) (omega (arith, length-hexes (a .file .now) (a .base) 2 (a .n)))
+    (at-byte utf7 (shiftOf (l .st)) (hexes-at (a .file .now) (a .base) 2 (a .n) (l .at) (omega arith) ∙ sym
+    (byte-at′ .ensures)) (byte-moved _ _ (byte-does′ .ensures) (state′ .given .1)))
 
 enum-known-state-2 : tie.Need-enum-known-state-2 Inv-loop μ-loop
 enum-known-state-2 c = search needs
@@ -72,7 +74,9 @@ loop-again-2 c =
     let byte-at′ = c .before .before .before .before .byte-at in
     let byte-does′ = c .before .before .before .byte-does in
     let state2′ = c .before .state2 in
-    left-go (l .inv) (omega (arith, length-hexes (a .file .now) (a .base) 2 (a .n))) (at-byte utf7 (shiftOf (l .st)) (hexes-at (a .file .now) (a .base) 2 (a .n) (l .at) (omega arith) ∙ sym (byte-at′ .ensures)) (byte-moved _ _ (byte-does′ .ensures) (state2′ .given .1)))
+    left-go (l .inv) (omega (arith, length-hexes (a .file .now) (a .base) 2 (a .n)))
+    (at-byte utf7 (shiftOf (l .st)) (hexes-at (a .file .now) (a .base) 2 (a .n) (l .at) (omega arith) ∙ sym
+    (byte-at′ .ensures)) (byte-moved _ _ (byte-does′ .ensures) (state2′ .given .1)))
 
 enum-known-why : tie.Need-enum-known-why Inv-loop μ-loop
 enum-known-why c = search needs
@@ -84,7 +88,9 @@ returns c =
     let byte-at′ = c .before .before .before .before .byte-at in
     let byte-does′ = c .before .before .before .byte-does in
     let why′ = c .before .why in
-    left-bad (l .inv) (omega (arith, length-hexes (a .file .now) (a .base) 2 (a .n))) (at-byte utf7 (shiftOf (l .st)) (hexes-at (a .file .now) (a .base) 2 (a .n) (l .at) (omega arith) ∙ sym (byte-at′ .ensures)) (byte-moved _ _ (byte-does′ .ensures) (why′ .given .1))) .1
+    left-bad (l .inv) (omega (arith, length-hexes (a .file .now) (a .base) 2 (a .n)))
+    (at-byte utf7 (shiftOf (l .st)) (hexes-at (a .file .now) (a .base) 2 (a .n) (l .at) (omega arith) ∙ sym
+    (byte-at′ .ensures)) (byte-moved _ _ (byte-does′ .ensures) (why′ .given .1))) .1
 
 ends-in-requires : tie.Need-ends-in-requires Inv-loop μ-loop
 ends-in-requires c κs = search needs

@@ -4,7 +4,8 @@ use native.Mathlib.Omega.{arith}
 use lib.ListN.{length}
 use lib.Dec.{eqb}
 use Rattle.scan.specs.Inner.{hexesAt}
-use Rattle.reading.proofs.Matches.{Matching, matching-start, matching-give, matching-other, matching-past, matching-go, matching-bad, matching-refused, matching-accepted}
+use Rattle.reading.proofs.Matches.{Matching, matching-start, matching-give, matching-other, matching-past, matching-go}
+use Rattle.reading.proofs.Matches.{matching-bad, matching-refused, matching-accepted}
 use Rattle.utf7.specs.Rule.{utf7}
 use Rattle.utf7_read.specs.Cursor.{shiftOf}
 use Rattle.utf7_read.proofs.Moves.{byte-moved}
@@ -15,7 +16,8 @@ use Rattle.page_read.proofs.opened.utf7_same.Statement.{statement}
 use Rattle.page_read.proofs.opened.utf7_same.Tie as tie
 
 abbrev Inv-loop : tie.InvT-loop
-Inv-loop file base n text m at₀ count₀ st₀ at count st = Matching utf7 (hexesAt file base 2 n) (hexesAt file text 8 m) at (shiftOf st) count
+Inv-loop file base n text m at₀ count₀ st₀ at count st = Matching utf7 (hexesAt file base 2 n) (hexesAt file text 8 m)
+    at (shiftOf st) count
 
 abbrev μ-loop : tie.MeasureT-loop
 μ-loop file base n text m at₀ count₀ st₀ at count st = n - at
@@ -45,7 +47,10 @@ returns c =
     let byte-at′ = c .before .before .before .before .before .byte-at in
     let byte-does′ = c .before .before .before .before .byte-does in
     let value′ = c .before .before .value in
-    matching-past (l .inv) (omega (arith, length-hexes (a .file .now) (a .base) 2 (a .n))) (at-byte utf7 (shiftOf (l .st)) (hexes-at (a .file .now) (a .base) 2 (a .n) (l .at) (omega arith) ∙ sym (byte-at′ .ensures)) (byte-moved _ _ (byte-does′ .ensures) (value′ .given .1))) (omega (arith, length-hexes (a .file .now) (a .text) 8 (a .m)))
+    matching-past (l .inv) (omega (arith, length-hexes (a .file .now) (a .base) 2 (a .n)))
+    (at-byte utf7 (shiftOf (l .st)) (hexes-at (a .file .now) (a .base) 2 (a .n) (l .at) (omega arith) ∙ sym
+    (byte-at′ .ensures)) (byte-moved _ _ (byte-does′ .ensures) (value′ .given .1)))
+    (omega (arith, length-hexes (a .file .now) (a .text) 8 (a .m)))
 
 mul-word-at : tie.Need-mul-word-at Inv-loop μ-loop
 mul-word-at c = search needs
@@ -65,7 +70,12 @@ returns-2 c =
     let value′ = c .before .before .before .before .value in
     let word-at′ = c .before .word-at in
     let if2′ = c .if2 in
-    matching-other (l .inv) (omega (arith, length-hexes (a .file .now) (a .base) 2 (a .n))) (at-byte utf7 (shiftOf (l .st)) (hexes-at (a .file .now) (a .base) 2 (a .n) (l .at) (omega arith) ∙ sym (byte-at′ .ensures)) (byte-moved _ _ (byte-does′ .ensures) (value′ .given .1))) (omega (arith, length-hexes (a .file .now) (a .text) 8 (a .m))) (λ q. if2′ .taken (word-at′ .ensures ∙ sym (hexes-at (a .file .now) (a .text) 8 (a .m) (l .count) (omega arith)) ∙ q))
+    matching-other (l .inv) (omega (arith, length-hexes (a .file .now) (a .base) 2 (a .n)))
+    (at-byte utf7 (shiftOf (l .st)) (hexes-at (a .file .now) (a .base) 2 (a .n) (l .at) (omega arith) ∙ sym
+    (byte-at′ .ensures)) (byte-moved _ _ (byte-does′ .ensures) (value′ .given .1)))
+    (omega (arith, length-hexes (a .file .now) (a .text) 8 (a .m)))
+    (λ q. if2′ .taken (word-at′ .ensures ∙ sym (hexes-at (a .file .now) (a .text) 8 (a .m) (l .count)
+    (omega arith)) ∙ q))
 
 add-count : tie.Need-add-count Inv-loop μ-loop
 add-count c =
@@ -87,7 +97,11 @@ loop-again c =
     let value′ = c .before .before .before .before .value in
     let word-at′ = c .before .word-at in
     let if2′ = c .if2 in
-    matching-give (l .inv) (omega (arith, length-hexes (a .file .now) (a .base) 2 (a .n))) (at-byte utf7 (shiftOf (l .st)) (hexes-at (a .file .now) (a .base) 2 (a .n) (l .at) (omega arith) ∙ sym (byte-at′ .ensures)) (byte-moved _ _ (byte-does′ .ensures) (value′ .given .1))) (omega (arith, length-hexes (a .file .now) (a .text) 8 (a .m))) (hexes-at (a .file .now) (a .text) 8 (a .m) (l .count) (omega arith) ∙ sym (word-at′ .ensures) ∙ if2′ .left)
+    matching-give (l .inv) (omega (arith, length-hexes (a .file .now) (a .base) 2 (a .n)))
+    (at-byte utf7 (shiftOf (l .st)) (hexes-at (a .file .now) (a .base) 2 (a .n) (l .at) (omega arith) ∙ sym
+    (byte-at′ .ensures)) (byte-moved _ _ (byte-does′ .ensures) (value′ .given .1)))
+    (omega (arith, length-hexes (a .file .now) (a .text) 8 (a .m)))
+    (hexes-at (a .file .now) (a .text) 8 (a .m) (l .count) (omega arith) ∙ sym (word-at′ .ensures) ∙ if2′ .left)
 
 enum-known-state : tie.Need-enum-known-state Inv-loop μ-loop
 enum-known-state c = search needs
@@ -105,7 +119,9 @@ loop-again-2 c =
     let byte-at′ = c .before .before .before .before .byte-at in
     let byte-does′ = c .before .before .before .byte-does in
     let state′ = c .before .state in
-    matching-go (l .inv) (omega (arith, length-hexes (a .file .now) (a .base) 2 (a .n))) (at-byte utf7 (shiftOf (l .st)) (hexes-at (a .file .now) (a .base) 2 (a .n) (l .at) (omega arith) ∙ sym (byte-at′ .ensures)) (byte-moved _ _ (byte-does′ .ensures) (state′ .given .1)))
+    matching-go (l .inv) (omega (arith, length-hexes (a .file .now) (a .base) 2 (a .n)))
+    (at-byte utf7 (shiftOf (l .st)) (hexes-at (a .file .now) (a .base) 2 (a .n) (l .at) (omega arith) ∙ sym
+    (byte-at′ .ensures)) (byte-moved _ _ (byte-does′ .ensures) (state′ .given .1)))
 
 enum-told : tie.Need-enum-told Inv-loop μ-loop
 enum-told c = search needs
@@ -117,7 +133,9 @@ returns-3 c =
     let byte-at′ = c .before .before .before .byte-at in
     let byte-does′ = c .before .before .byte-does in
     let enum-told′ = c .enum-told in
-    matching-bad (l .inv) (omega (arith, length-hexes (a .file .now) (a .base) 2 (a .n))) (at-byte utf7 (shiftOf (l .st)) (hexes-at (a .file .now) (a .base) 2 (a .n) (l .at) (omega arith) ∙ sym (byte-at′ .ensures)) (byte-moved _ _ (byte-does′ .ensures) (enum-told′ .given .1)))
+    matching-bad (l .inv) (omega (arith, length-hexes (a .file .now) (a .base) 2 (a .n)))
+    (at-byte utf7 (shiftOf (l .st)) (hexes-at (a .file .now) (a .base) 2 (a .n) (l .at) (omega arith) ∙ sym
+    (byte-at′ .ensures)) (byte-moved _ _ (byte-does′ .ensures) (enum-told′ .given .1)))
 
 ends-in-requires : tie.Need-ends-in-requires Inv-loop μ-loop
 ends-in-requires c κs = search needs
@@ -134,7 +152,9 @@ returns-4 c =
     let l = c .before .before .before .before .loop in
     let ends-in′ = c .before .before .ends-in in
     let enum-told2′ = c .enum-told2 in
-    ap (eqb (l .count)) (sym (length-hexes (a .file .now) (a .text) 8 (a .m))) ∙ (matching-accepted (l .inv) (omega (arith, length-hexes (a .file .now) (a .base) 2 (a .n))) _ (ends-sound _ _) (ends-in′ .ensures) (enum-told2′ .given .1))
+    ap (eqb (l .count)) (sym (length-hexes (a .file .now) (a .text) 8 (a .m))) ∙
+    (matching-accepted (l .inv) (omega (arith, length-hexes (a .file .now) (a .base) 2 (a .n))) _ (ends-sound _ _)
+    (ends-in′ .ensures) (enum-told2′ .given .1))
 
 returns-5 : tie.Need-returns-5 Inv-loop μ-loop
 returns-5 c =
@@ -142,7 +162,8 @@ returns-5 c =
     let l = c .before .before .before .before .loop in
     let ends-in′ = c .before .before .ends-in in
     let enum-told3′ = c .enum-told3 in
-    matching-refused (l .inv) (omega (arith, length-hexes (a .file .now) (a .base) 2 (a .n))) _ (ends-in′ .ensures) (enum-told3′ .given .1)
+    matching-refused (l .inv) (omega (arith, length-hexes (a .file .now) (a .base) 2 (a .n))) _ (ends-in′ .ensures)
+    (enum-told3′ .given .1)
 
 pub utf7-same-spec : {M : Type 1} → statement M
 utf7-same-spec =

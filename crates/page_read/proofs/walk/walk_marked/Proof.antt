@@ -33,7 +33,8 @@ returns c =
     let b = cut-between (a .mark) (a .from) (a .to) (omega arith) in
     let e = cut-in′ .ensures in
     rw (← e)
-    (sym (marked-broken (hexesAt (a .file .now) (a .base) 8 (a .n)) (a .from) _ (a .to) (rw e (b .0)) (rw e (b .1)) (omega (arith, length-hexes (a .file .now) (a .base) 8 (a .n))) (a .room) (a .start) (a .from)
+    (sym (marked-broken (hexesAt (a .file .now) (a .base) 8 (a .n)) (a .from) _ (a .to) (rw e (b .0)) (rw e (b .1))
+    (omega (arith, length-hexes (a .file .now) (a .base) 8 (a .n))) (a .room) (a .start) (a .from)
     (sym (walk-records′ .ensures) ∙ enum-told′ .given .1)))
 
 walk-records-requires-2 : tie.Need-walk-records-requires-2
@@ -45,7 +46,9 @@ walk-records-requires-2 c κs =
     let b = cut-between (a .mark) (a .from) (a .to) (omega arith) in
     let e = cut-in′ .ensures in
     let g = first′ .given in
-    let f = walk-fits (a .room) (a .from) (a .start) (a .from) (g .0 .0) (g .0 .1 .0) (slice (a .from) (cut-in′ .result) (hexesAt (a .file .now) (a .base) 8 (a .n))) (omega arith) (sym (walk-records′ .ensures) ∙ g .1) in
+    let f = walk-fits (a .room) (a .from) (a .start) (a .from) (g .0 .0) (g .0 .1 .0)
+    (slice (a .from) (cut-in′ .result) (hexesAt (a .file .now) (a .base) 8 (a .n))) (omega arith)
+    (sym (walk-records′ .ensures) ∙ g .1) in
     omega arith
 
 returns-2 : tie.Need-returns-2
@@ -60,7 +63,9 @@ returns-2 c =
     let g = first′ .given in
     walk-records2′ .ensures
     ∙ rw (← e)
-    (sym (marked-led (hexesAt (a .file .now) (a .base) 8 (a .n)) (a .from) _ (a .to) (rw e (b .0)) (rw e (b .1)) (omega (arith, length-hexes (a .file .now) (a .base) 8 (a .n))) (a .room) (a .start) (a .from) (g .0 .0) (g .0 .1 .0)
+    (sym (marked-led (hexesAt (a .file .now) (a .base) 8 (a .n)) (a .from) _ (a .to) (rw e (b .0)) (rw e (b .1))
+    (omega (arith, length-hexes (a .file .now) (a .base) 8 (a .n))) (a .room) (a .start) (a .from) (g .0 .0)
+    (g .0 .1 .0)
     (sym (walk-records′ .ensures) ∙ g .1)))
 
 pub walk-marked-spec : {M : Type 1} → statement M

@@ -12,7 +12,9 @@ use Rattle.page_read.proofs.walk.walk_records.Statement.{statement}
 use Rattle.page_read.proofs.walk.walk_records.Tie as tie
 
 abbrev Inv-loop : tie.InvT-loop
-Inv-loop file base n from to start before room at₀ len₀ last₀ at len last = (at ≤ to) × (len ≤ room) × (walkIn room from start before (slice from to (hexesAt file base 8 n)) ≡ walkIn room at len last (slice at to (hexesAt file base 8 n)))
+Inv-loop file base n from to start before room at₀ len₀ last₀ at len last = (at ≤ to) × (len ≤ room) ×
+    (walkIn room from start before (slice from to (hexesAt file base 8 n)) ≡ walkIn room at len last
+    (slice at to (hexesAt file base 8 n)))
 
 abbrev μ-loop : tie.MeasureT-loop
 μ-loop file base n from to start before room at₀ len₀ last₀ at len last = to - at
@@ -27,7 +29,8 @@ returns : tie.Need-returns Inv-loop μ-loop
 returns c =
     let a = c .before .before .before .before .args in
     let l = c .before .before .loop in
-    sym (l .inv .2 ∙ walk-cut (hexesAt (a .file .now) (a .base) 8 (a .n)) (a .to) (a .room) (l .at) (l .len) (l .last) (omega (arith, length-hexes (a .file .now) (a .base) 8 (a .n))) (omega arith) (omega arith))
+    sym (l .inv .2 ∙ walk-cut (hexesAt (a .file .now) (a .base) 8 (a .n)) (a .to) (a .room) (l .at) (l .len) (l .last)
+    (omega (arith, length-hexes (a .file .now) (a .base) 8 (a .n))) (omega arith) (omega arith))
 
 word-of-requires : tie.Need-word-of-requires Inv-loop μ-loop
 word-of-requires c κs = search needs
@@ -60,7 +63,10 @@ returns-2 c =
     let word-of′ = c .before .before .before .word-of in
     let word-of2′ = c .before .before .word-of2 in
     let word-of3′ = c .before .word-of3 in
-    sym (l .inv .2 ∙ walk-past (hexesAt (a .file .now) (a .base) 8 (a .n)) (a .to) (a .room) (l .at) (l .len) (l .last) (omega (arith, length-hexes (a .file .now) (a .base) 8 (a .n))) (word-of′ .result) (word-of2′ .result) (word-of3′ .result) (word-of′ .ensures .0) (word-of2′ .ensures .0) (word-of3′ .ensures .0) (omega arith) (omega arith))
+    sym (l .inv .2 ∙ walk-past (hexesAt (a .file .now) (a .base) 8 (a .n)) (a .to) (a .room) (l .at) (l .len) (l .last)
+    (omega (arith, length-hexes (a .file .now) (a .base) 8 (a .n))) (word-of′ .result) (word-of2′ .result)
+    (word-of3′ .result) (word-of′ .ensures .0) (word-of2′ .ensures .0) (word-of3′ .ensures .0) (omega arith)
+    (omega arith))
 
 add-if3 : tie.Need-add-if3 Inv-loop μ-loop
 add-if3 c = omega (arith, limit-small)
@@ -72,7 +78,10 @@ returns-3 c =
     let word-of′ = c .before .before .before .before .word-of in
     let word-of2′ = c .before .before .before .word-of2 in
     let word-of3′ = c .before .before .word-of3 in
-    sym (l .inv .2 ∙ walk-beyond (hexesAt (a .file .now) (a .base) 8 (a .n)) (a .to) (a .room) (l .at) (l .len) (l .last) (omega (arith, length-hexes (a .file .now) (a .base) 8 (a .n))) (word-of′ .result) (word-of2′ .result) (word-of3′ .result) (word-of′ .ensures .0) (word-of2′ .ensures .0) (word-of3′ .ensures .0) (omega arith) (omega arith) (omega arith))
+    sym (l .inv .2 ∙ walk-beyond (hexesAt (a .file .now) (a .base) 8 (a .n)) (a .to) (a .room) (l .at) (l .len)
+    (l .last) (omega (arith, length-hexes (a .file .now) (a .base) 8 (a .n))) (word-of′ .result)
+    (word-of2′ .result) (word-of3′ .result) (word-of′ .ensures .0) (word-of2′ .ensures .0) (word-of3′ .ensures .0)
+    (omega arith) (omega arith) (omega arith))
 
 sub-after : tie.Need-sub-after Inv-loop μ-loop
 sub-after c = search needs
@@ -87,7 +96,10 @@ returns-4 c =
     let word-of′ = c .before .before .before .before .before .word-of in
     let word-of2′ = c .before .before .before .before .word-of2 in
     let word-of3′ = c .before .before .before .word-of3 in
-    sym (l .inv .2 ∙ walk-long (hexesAt (a .file .now) (a .base) 8 (a .n)) (a .to) (a .room) (l .at) (l .len) (l .last) (omega (arith, length-hexes (a .file .now) (a .base) 8 (a .n))) (word-of′ .result) (word-of2′ .result) (word-of3′ .result) (word-of′ .ensures .0) (word-of2′ .ensures .0) (word-of3′ .ensures .0) (omega arith) (omega arith) (omega arith) (omega arith))
+    sym (l .inv .2 ∙ walk-long (hexesAt (a .file .now) (a .base) 8 (a .n)) (a .to) (a .room) (l .at) (l .len) (l .last)
+    (omega (arith, length-hexes (a .file .now) (a .base) 8 (a .n))) (word-of′ .result) (word-of2′ .result)
+    (word-of3′ .result) (word-of′ .ensures .0) (word-of2′ .ensures .0) (word-of3′ .ensures .0) (omega arith)
+    (omega arith) (omega arith) (omega arith))
 
 add-at : tie.Need-add-at Inv-loop μ-loop
 add-at c = omega (arith, limit-small)
@@ -101,14 +113,21 @@ loop-again c =
     let l = c .before .before .before .before .before .before .before .before .loop in
     let word-of′ = c .before .before .before .before .before .word-of in
     let word-of2′ = c .before .before .before .before .word-of2 in
-    let word-of3′ = c .before .before .before .word-of3 in
-    (omega arith, omega arith, l .inv .2 ∙ walk-next (hexesAt (a .file .now) (a .base) 8 (a .n)) (a .to) (a .room) (l .at) (l .len) (l .last) (omega (arith, length-hexes (a .file .now) (a .base) 8 (a .n))) (word-of′ .result) (word-of2′ .result) (word-of3′ .result) (word-of′ .ensures .0) (word-of2′ .ensures .0) (word-of3′ .ensures .0) (omega arith) (omega arith) (omega arith) (omega arith))
+    let word-of3′ = c .before .before .before .word-of3 in (
+      omega arith,
+      omega arith,
+      l .inv .2 ∙ walk-next (hexesAt (a .file .now) (a .base) 8 (a .n)) (a .to) (a .room)
+          (l .at) (l .len) (l .last) (omega (arith, length-hexes (a .file .now) (a .base) 8 (a .n))) (word-of′ .result)
+          (word-of2′ .result) (word-of3′ .result) (word-of′ .ensures .0) (word-of2′ .ensures .0) (word-of3′ .ensures .0)
+          (omega arith) (omega arith) (omega arith) (omega arith),
+    )
 
 returns-5 : tie.Need-returns-5 Inv-loop μ-loop
 returns-5 c =
     let a = c .before .before .before .args in
     let l = c .before .loop in
-    sym (l .inv .2 ∙ walk-end (hexesAt (a .file .now) (a .base) 8 (a .n)) (a .to) (a .room) (l .at) (l .len) (l .last) (omega (arith, length-hexes (a .file .now) (a .base) 8 (a .n))) (omega arith))
+    sym (l .inv .2 ∙ walk-end (hexesAt (a .file .now) (a .base) 8 (a .n)) (a .to) (a .room) (l .at) (l .len) (l .last)
+    (omega (arith, length-hexes (a .file .now) (a .base) 8 (a .n))) (omega arith))
 
 pub walk-records-spec : {M : Type 1} → statement M
 walk-records-spec =

@@ -21,8 +21,10 @@ returns : tie.Need-returns
 returns c =
     let a = c .before .before .before .args in
     let word-at′ = c .before .word-at in
-    let wide′ = c .wide in
-    (wide′ .ensures .0 ∙ word-at′ .ensures ∙ sym (hexes-at (a .file .now) (a .base) 8 (a .n) (a .i) (omega arith)), wide′ .ensures .1)
+    let wide′ = c .wide in (
+      wide′ .ensures .0 ∙ word-at′ .ensures ∙ sym (hexes-at (a .file .now) (a .base) 8 (a .n) (a .i) (omega arith)),
+      wide′ .ensures .1,
+    )
 
 pub word-of-spec : {M : Type 1} → statement M
 word-of-spec = tie.close (tie.spec mul-word-at add-word-at word-at-requires wide-requires returns)
