@@ -73,6 +73,8 @@ enum qalithonda_number {
                                        run: the letter that completes it. A run directly after a
                                        run: its first letter. Six or more left-over bits, all zero:
                                        the '-' that closes the run */
+    QALITHONDA_BAD_PAGE_FILE = 18,  /* bad page file: the first byte that no page file can have
+                                       there, or the length if it ends early */
     QALITHONDA_NO_GAIN = 19         /* squeezed, the history would not become shorter: 0 */
 };
 
@@ -386,8 +388,8 @@ qalithonda_edited qalithonda_save(qalithonda_page page,
  * page.done words is always enough: the new step is shorter than what it stands for, else there is
  * no gain (19), which is looked for before the room.
  *
- * A mark at the end of the fold or later moves along, and one at 0 stays; one between is lost, since
- * no step leads there any more.
+ * A mark at the end of the fold or later moves along, and one at 0 stays; one between is lost,
+ * since no step leads there any more.
  * Accepted: the words of history now used.
  * Refused: 16 (text, history); 14; 11 (`steps` under 2, or more than stand); 19; 9 (work: the words
  * of the new step).
