@@ -125,8 +125,8 @@ static void measure_all(const Options &o) {
             for (const Row &row : wanted_rows(o, kind, size, bytes, agreements)) take(row);
     }
     for (const Row &row : page_rows()) take(row);
-    for (const Table &table : {reading_table(all), writing_table(all), stepping_table(all), page_table(all), limit_table(all),
-                               agreement_table(agreements)})
+    for (const Table &table : {reading_table(all), writing_table(all), stepping_table(all), page_table(all),
+                               squeeze_table(all), limit_table(all), agreement_table(agreements)})
         print(table, o.markdown);
     if (o.ways) print(ways_table(all), o.markdown);
     std::printf("\n%zu runs of at least %.0f ms for each party, in turn, after a warm-up; medians.\n", o.effort.runs,

@@ -113,6 +113,25 @@ Table page_table(const std::vector<Measured> &all) {
     return table;
 }
 
+Table squeeze_table(const std::vector<Measured> &all) {
+    Table table{"Squeezing",
+                {"kind", "one undo µs", "squeeze ms", "undo, redo one by one ms", "ours/one by one"},
+                {},
+                {}};
+    for (const Measured &m : all) {
+        const Timed *each = fastest(m.timed, "one by one");
+        if (!each) continue;
+        const Timed &ours = *fastest(m.timed, "ours"), &undo = *fastest(m.timed, "one undo");
+        table.lines.push_back({m.task.subject, fixed(median(undo.seconds) * 1e6, 1),
+                               fixed(median(ours.seconds) * 1e3, 1), fixed(median(each->seconds) * 1e3, 1),
+                               shown(faster_by(ours, *each))});
+    }
+    table.notes = {"The oldest 5,000 of 10,000 steps, each of which replaced another of 10,000 cells, in random order; "
+                   "buffers of 65,536.",
+                   "One by one: 5,000 undos and 5,000 redos of those same steps, the newer ones being undone."};
+    return table;
+}
+
 Table ways_table(const std::vector<Measured> &all) {
     Table table{"Every way by itself", {"row", "party", "MB/s", "slowest", "fastest"}, {}, {}};
     for (const Measured &m : all) {

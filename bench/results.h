@@ -18,6 +18,7 @@ Table writing_table(const std::vector<Measured> &all);
 Table stepping_table(const std::vector<Measured> &all);
 Table limit_table(const std::vector<Measured> &all);
 Table page_table(const std::vector<Measured> &all);
+Table squeeze_table(const std::vector<Measured> &all);
 
 // Every party and way by itself.
 Table ways_table(const std::vector<Measured> &all);
