@@ -1,5 +1,5 @@
 -- Everything that a ledger's steps put into a page is a 32-bit number. Assumes nothing.
-use Prim.Native.Nat.{ℕ, _+_, _<_, _^_}
+use Prim.Native.Nat.{ℕ, zero, suc, _+_, _<_, _^_}
 use mathlib.Core.Path.{_≡_, _∙_}
 use mathlib.Core.Bool.{true, _||_, false≢true}
 use mathlib.Core.List.{List, [], _∷_, _++_}
@@ -9,7 +9,7 @@ use lib.ListN.{length, take, drop, length-append, length-take, length-drop}
 use lib.Dec.{ltb}
 use borrow.Author.Tests.{ltb-false}
 use Rattle.answer.specs.Lists.{Each}
-use Rattle.answer.proofs.Below.{cond-case, each-take, each-drop}
+use Rattle.answer.proofs.Below.{cond-case}
 use Rattle.codec.specs.Kinds.{firstUnwritable}
 use Rattle.codec.proofs.Bounds.{Word, cells-added}
 use Rattle.editor.specs.Ledger.{Step, Ledger, Call, replace, undo, redo, save, squeeze, lastOf, beforeLast, acceptedCall, fed}
@@ -24,6 +24,16 @@ module _ {A : Type 0} (P : A → Type 0) where
   each-append : (xs ys : List A) → Each P xs → Each P ys → Each P (xs ++ ys)
   each-append [] ys h k = k
   each-append (x ∷ xs) ys h k = (h .0, each-append xs ys (h .1) k)
+
+  each-take : (xs : List A) (n : ℕ) → Each P xs → Each P (take n xs)
+  each-take xs zero h = tt
+  each-take [] (suc n) h = tt
+  each-take (x ∷ xs) (suc n) h = (h .0, each-take xs n (h .1))
+
+  each-drop : (xs : List A) (n : ℕ) → Each P xs → Each P (drop n xs)
+  each-drop xs zero h = h
+  each-drop [] (suc n) h = tt
+  each-drop (x ∷ xs) (suc n) h = each-drop xs n (h .1)
 
 -- a step that adds 32-bit numbers
 abbrev pub Adds : Step → Type 0
@@ -141,15 +151,13 @@ module _ {S : Type 0} (layout : Layout S) (s : S) (l : Ledger) (h : Words l) whe
       }
   accepted-words (save arrived out) ok =
       record { reading = h .reading; standing = h .standing; undone = h .undone }
-
   accepted-words (squeeze k work) ok =
       record {
         reading = h .reading;
-        standing =
-            (
-              text-words (l .reading) (take k (l .standing)) (each-take Adds (l .standing) k (h .standing)) (h .reading),
-              each-drop Adds (l .standing) k (h .standing),
-            );
+        standing = (
+          text-words (l .reading) (take k (l .standing)) (each-take Adds (l .standing) k (h .standing)) (h .reading),
+          each-drop Adds (l .standing) k (h .standing),
+        );
         undone = h .undone;
       }
 
