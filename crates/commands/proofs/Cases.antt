@@ -11,40 +11,50 @@ use Rattle.codec.specs.declared.Kind.the-variants.{Utf7Header, Jp2}
 use Rattle.commands.specs.Lines.{stretch, same, verbOf, saidIn, kindNamed}
 use Rattle.commands.specs.Numbers.{digitValue, raised, byteDoes, endsIn, numbers}
 use Rattle.commands.specs.declared.Verb.{Verb}
-use Rattle.commands.specs.declared.Verb.the-variants.{Nothing, Replace, Unknown}
+use Rattle.commands.specs.declared.Verb.the-variants.{Nothing, Replace, Squeeze, Unknown}
 
--- a line reads as numbers, or is refused with a number and a place
-abbrev Reads : List ℕ → List ℕ → Type 0
-Reads line cells = readInto numbers line (map (λ _. 0) cells) ≡ record { verdict = numbered 0 (length cells); out = cells }
+-- a line reads as the numbers asked for, or is refused with a number and a place
+abbrev Reads : ℕ → List ℕ → List ℕ → Type 0
+Reads asked line cells =
+    readInto (numbers asked) line (map (λ _. 0) cells) ≡ record { verdict = numbered 0 (length cells); out = cells }
 
-abbrev Fails : List ℕ → ℕ → ℕ → Type 0
-Fails line number place = (out : List ℕ) → readInto numbers line out ≡ refusing (numbered number place) out
+abbrev Fails : ℕ → List ℕ → ℕ → ℕ → Type 0
+Fails asked line number place =
+    (out : List ℕ) → readInto (numbers asked) line out ≡ refusing (numbered number place) out
 
 abbrev Says : List ℕ → Verb → ℕ → Type 0
 Says line verb rest = saidIn line ≡ record { verb = verb; rest = rest }
 
 pub record Cases : Type 0 where
   -- `1 1 3D`, LF
-  pub one-cell : Reads (49 ∷ 32 ∷ 49 ∷ 32 ∷ 51 ∷ 68 ∷ 10 ∷ []) (1 ∷ 1 ∷ 0x3D ∷ [])
+  pub one-cell : Reads 2 (49 ∷ 32 ∷ 49 ∷ 32 ∷ 51 ∷ 68 ∷ 10 ∷ []) (1 ∷ 1 ∷ 0x3D ∷ [])
   -- `12 0 3d Ff`, LF
-  pub small-letters : Reads (49 ∷ 50 ∷ 32 ∷ 48 ∷ 32 ∷ 51 ∷ 100 ∷ 32 ∷ 70 ∷ 102 ∷ 10 ∷ []) (12 ∷ 0 ∷ 0x3D ∷ 0xFF ∷ [])
+  pub small-letters : Reads 2 (49 ∷ 50 ∷ 32 ∷ 48 ∷ 32 ∷ 51 ∷ 100 ∷ 32 ∷ 70 ∷ 102 ∷ 10 ∷ []) (12 ∷ 0 ∷ 0x3D ∷ 0xFF ∷ [])
   -- `0 0`, LF
-  pub no-cell : Reads (48 ∷ 32 ∷ 48 ∷ 10 ∷ []) (0 ∷ 0 ∷ [])
+  pub no-cell : Reads 2 (48 ∷ 32 ∷ 48 ∷ 10 ∷ []) (0 ∷ 0 ∷ [])
   -- `4294967295 0`, LF
-  pub largest : Reads (52 ∷ 50 ∷ 57 ∷ 52 ∷ 57 ∷ 54 ∷ 55 ∷ 50 ∷ 57 ∷ 53 ∷ 32 ∷ 48 ∷ 10 ∷ []) (4294967295 ∷ 0 ∷ [])
+  pub largest : Reads 2 (52 ∷ 50 ∷ 57 ∷ 52 ∷ 57 ∷ 54 ∷ 55 ∷ 50 ∷ 57 ∷ 53 ∷ 32 ∷ 48 ∷ 10 ∷ []) (4294967295 ∷ 0 ∷ [])
   -- `4294967296 0`, LF
-  pub too-large : Fails (52 ∷ 50 ∷ 57 ∷ 52 ∷ 57 ∷ 54 ∷ 55 ∷ 50 ∷ 57 ∷ 54 ∷ 32 ∷ 48 ∷ 10 ∷ []) 3 9
+  pub too-large : Fails 2 (52 ∷ 50 ∷ 57 ∷ 52 ∷ 57 ∷ 54 ∷ 55 ∷ 50 ∷ 57 ∷ 54 ∷ 32 ∷ 48 ∷ 10 ∷ []) 3 9
   -- `1`, LF
-  pub one-number : Fails (49 ∷ 10 ∷ []) 7 2
+  pub one-number : Fails 2 (49 ∷ 10 ∷ []) 7 2
   -- `0 0`, with no LF
-  pub unended : Fails (48 ∷ 32 ∷ 48 ∷ []) 7 3
+  pub unended : Fails 2 (48 ∷ 32 ∷ 48 ∷ []) 7 3
   -- `1 1 G`, LF
-  pub no-digit : Fails (49 ∷ 32 ∷ 49 ∷ 32 ∷ 71 ∷ 10 ∷ []) 3 4
+  pub no-digit : Fails 2 (49 ∷ 32 ∷ 49 ∷ 32 ∷ 71 ∷ 10 ∷ []) 3 4
   -- `1 A`, LF
-  pub hex-count : Fails (49 ∷ 32 ∷ 65 ∷ 10 ∷ []) 3 2
+  pub hex-count : Fails 2 (49 ∷ 32 ∷ 65 ∷ 10 ∷ []) 3 2
   -- `  replace 1 1`
   pub replace : Says (32 ∷ 32 ∷ 114 ∷ 101 ∷ 112 ∷ 108 ∷ 97 ∷ 99 ∷ 101 ∷ 32 ∷ 49 ∷ 32 ∷ 49 ∷ []) Replace 10
   pub nothing : Says [] Nothing 0
+  -- `squeeze 3`, LF; its number; `squeezed`
+  pub squeeze : Says (115 ∷ 113 ∷ 117 ∷ 101 ∷ 101 ∷ 122 ∷ 101 ∷ 32 ∷ 51 ∷ 10 ∷ []) Squeeze 8
+  pub one : Reads 1 (51 ∷ 10 ∷ []) (3 ∷ [])
+  pub squeezed : Says (115 ∷ 113 ∷ 117 ∷ 101 ∷ 101 ∷ 122 ∷ 101 ∷ 100 ∷ []) Unknown 8
+  -- of a squeeze: no number; `3 4`, LF; `A`, LF
+  pub none-asked-one : Fails 1 [] 7 0
+  pub two-asked-one : Fails 1 (51 ∷ 32 ∷ 52 ∷ 10 ∷ []) 7 4
+  pub hex-asked-one : Fails 1 (65 ∷ 10 ∷ []) 3 0
   -- `shows`
   pub longer : Says (115 ∷ 104 ∷ 111 ∷ 119 ∷ 115 ∷ []) Unknown 5
   -- `utf7h`, `jp2`, `jp`
@@ -67,6 +77,12 @@ cases =
       hex-count = λ out. refl;
       replace = refl;
       nothing = refl;
+      squeeze = refl;
+      one = refl;
+      squeezed = refl;
+      none-asked-one = λ out. refl;
+      two-asked-one = λ out. refl;
+      hex-asked-one = λ out. refl;
       longer = refl;
       header = refl;
       jp2 = refl;

@@ -4,7 +4,7 @@ use mathlib.Core.Path.{_≡_, sym, ap, _∙_}
 use mathlib.Core.List.{List}
 use native.Mathlib.Omega.{arith}
 use native.Mathlib.Nat.{mul-le-mul}
-use lib.Dec.{ltb, lit<}
+use lib.Dec.{ltb, eqb, lit<}
 use borrow.Author.Tests.{ltb-true}
 use Rattle.answer.specs.Lists.{Each}
 use Rattle.answer.proofs.Below.{cond-case}
@@ -49,13 +49,13 @@ unfolding byteDoes
 keeps-byte (Gap seen) b h = cond-case Keeps (blank b) (λ _. tt) (λ _. keeps-raised seen 0 (digitValue b))
 keeps-byte (Word seen v) b h = cond-case Keeps (blank b) (λ _. (h, tt)) (λ _. keeps-raised seen v (digitValue b))
 
-keeps-end : (size : ℕ) (st : State) → SoundEnd (endsIn size st)
+keeps-end : (asked size : ℕ) (st : State) → SoundEnd (endsIn asked size st)
 unfolding endsIn
-keeps-end size (Gap seen) = cond-case SoundEnd (ltb seen 2) (λ _. lit< tt) (λ _. tt)
-keeps-end size (Word seen v) = lit< tt
+keeps-end asked size (Gap seen) = cond-case SoundEnd (eqb seen asked) (λ _. tt) (λ _. lit< tt)
+keeps-end asked size (Word seen v) = lit< tt
 
-pub numbers-kept : Kept numbers SmallState Small
-numbers-kept = record { starts = tt; keeps = keeps-byte; ends = λ size st _. keeps-end size st }
+pub numbers-kept : (asked : ℕ) → Kept (numbers asked) SmallState Small
+numbers-kept asked = record { starts = tt; keeps = keeps-byte; ends = λ size st _. keeps-end asked size st }
 
-pub numbers-small : (s : List ℕ) → Each Small (reading numbers s .cells)
-numbers-small s = good-reading numbers-kept s .0
+pub numbers-small : (asked : ℕ) (s : List ℕ) → Each Small (reading (numbers asked) s .cells)
+numbers-small asked s = good-reading (numbers-kept asked) s .0

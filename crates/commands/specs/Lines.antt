@@ -1,4 +1,5 @@
--- A desk's line, as docs/DESK.md has it: `show`, `replace PLACE COUNT CELL..`, `undo`, `redo`, `save FILE` or `quit`.
+-- A desk's line, as docs/DESK.md has it: `show`, `replace PLACE COUNT CELL..`, `undo`, `redo`, `save FILE`, `quit` or
+-- `squeeze K`.
 use Prim.Native.Nat.{ℕ, suc, _+_}
 use mathlib.Core.Bool.{Bool, true, false, cond, not, _&&_, _||_}
 use mathlib.Core.List.{List, [], _∷_}
@@ -8,7 +9,8 @@ use lib.Dec.{eqb}
 use Rattle.codec.specs.declared.Kind.{Kind}
 use Rattle.codec.specs.declared.Kind.the-variants.{Utf7Header, Utf7Body, Jp2}
 use Rattle.commands.specs.declared.Verb.{Verb}
-use Rattle.commands.specs.declared.Verb.the-variants.{Nothing, Show, Replace, Undo, Redo, Save, Quit, Unknown}
+use Rattle.commands.specs.declared.Verb.the-variants.{Nothing, Show, Replace, Undo, Redo, Save, Quit}
+use Rattle.commands.specs.declared.Verb.the-variants.{Squeeze, Unknown}
 use Rattle.commands.specs.declared.Said.{Said}
 use Rattle.commands.specs.declared.Named.{Named}
 use Rattle.commands.specs.declared.Named.the-variants.{Known, NoKind}
@@ -29,7 +31,7 @@ same [] (y ∷ ys) = false
 same (x ∷ xs) [] = false
 same (x ∷ xs) (y ∷ ys) = eqb x y && same xs ys
 
--- `show`, `replace`, `undo`, `redo`, `save`, `quit`
+-- `show`, `replace`, `undo`, `redo`, `save`, `quit`, `squeeze`
 unfoldable pub verbOf : List ℕ → Verb
 verbOf w =
     cond (same w []) Nothing
@@ -37,7 +39,9 @@ verbOf w =
     (cond (same w (114 ∷ 101 ∷ 112 ∷ 108 ∷ 97 ∷ 99 ∷ 101 ∷ [])) Replace
     (cond (same w (117 ∷ 110 ∷ 100 ∷ 111 ∷ [])) Undo
     (cond (same w (114 ∷ 101 ∷ 100 ∷ 111 ∷ [])) Redo
-    (cond (same w (115 ∷ 97 ∷ 118 ∷ 101 ∷ [])) Save (cond (same w (113 ∷ 117 ∷ 105 ∷ 116 ∷ [])) Quit Unknown))))))
+    (cond (same w (115 ∷ 97 ∷ 118 ∷ 101 ∷ [])) Save
+    (cond (same w (113 ∷ 117 ∷ 105 ∷ 116 ∷ [])) Quit
+    (cond (same w (115 ∷ 113 ∷ 117 ∷ 101 ∷ 101 ∷ 122 ∷ 101 ∷ [])) Squeeze Unknown)))))))
 
 -- a line's command: its first word's; what follows begins at the next byte that is no blank
 unfoldable pub saidIn : List ℕ → Said

@@ -1,8 +1,9 @@
--- The numbers of a replace, PLACE COUNT CELL.., decimal, decimal and cells in hex, read by a rule as any text is. Each
--- is at most 4,294,967,295, as a cell is; a word ends at a blank, so that a line's LF ends the last one.
+-- The numbers of a replace, PLACE COUNT CELL.., decimal, decimal and cells in hex, and the one of a squeeze, K,
+-- decimal, read by a rule as any text is. Each is at most 4,294,967,295, as a cell is; a word ends at a blank, so that a line's
+-- LF ends the last one.
 use Prim.Native.Nat.{ℕ, suc, _+_, _-_, _*_, _^_}
 use mathlib.Core.Bool.{cond, _&&_}
-use lib.Dec.{ltb, leb}
+use lib.Dec.{ltb, leb, eqb}
 use Rattle.reading.specs.Reading.{Does, give, go, bad, Ending, accepted, fault, Rule}
 use Rattle.answer.specs.Answer.{numberOf}
 use Rattle.commands.specs.Lines.{blank}
@@ -32,13 +33,13 @@ unfoldable pub byteDoes : State → ℕ → Does State
 byteDoes (Gap seen) b = cond (blank b) (go (Gap seen)) (raised seen 0 (digitValue b))
 byteDoes (Word seen v) b = cond (blank b) (give v (Gap (following seen))) (raised seen v (digitValue b))
 
--- 7 where the text ends in a number or before the second
-unfoldable pub endsIn : ℕ → State → Ending
-endsIn size (Gap seen) = cond (ltb seen 2) (fault 7 size) accepted
-endsIn size (Word seen v) = fault 7 size
+-- 7 where the text ends in a number, or with more or fewer of them than are asked for: 1, or 2 for two or more
+unfoldable pub endsIn : ℕ → ℕ → State → Ending
+endsIn asked size (Gap seen) = cond (eqb seen asked) accepted (fault 7 size)
+endsIn asked size (Word seen v) = fault 7 size
 
-abbrev pub numbers : Rule State
-numbers = record { start = Gap 0; byte = byteDoes; end = endsIn }
+abbrev pub numbers : ℕ → Rule State
+numbers asked = record { start = Gap 0; byte = byteDoes; end = endsIn asked }
 
 -- the code's move as what a byte does
 abbrev pub doesOf : Move → Does State

@@ -1,4 +1,4 @@
-// What a desk is told: a line's command, and the numbers of a replace.
+// What a desk is told: a line's command, and the numbers that follow a replace or a squeeze.
 pub mod numbers;
 
 use codec::Kind;
@@ -16,6 +16,7 @@ pub enum Verb {
     Redo,
     Save,
     Quit,
+    Squeeze,
     Unknown,
 }
 
@@ -110,6 +111,9 @@ fn verb_of(word: &[u8]) -> Verb
     }
     if is_word(word, b"quit") {
         return Verb::Quit;
+    }
+    if is_word(word, b"squeeze") {
+        return Verb::Squeeze;
     }
     Verb::Unknown
 }

@@ -1,4 +1,5 @@
-// The numbers of a replace, PLACE COUNT CELL.., read by a rule as any text is: each is judged before one is put.
+// The numbers of a replace, PLACE COUNT CELL.., or of a squeeze, K, read by a rule as any text is: each is judged
+// before one is put.
 use crate::is_blank;
 use answer::Answer;
 use answer::Refusal;
@@ -102,23 +103,23 @@ fn feed(st: State, b: u8) -> Move
 }
 
 // The answer of a text of some size that ends in a state, after some numbers.
-fn finish(size: usize, count: usize, st: State) -> Answer
-    ensures { λ r. ⌜ inNumbers r ≡ closing (endsIn size st) count ⌝ }
+fn finish(asked: u32, size: usize, count: usize, st: State) -> Answer
+    ensures { λ r. ⌜ inNumbers r ≡ closing (endsIn asked size st) count ⌝ }
 {
     match st {
         State::Gap(seen) => {
-            if seen < 2 {
-                return Answer::Refused(Refusal::CutShort, size);
+            if seen == asked {
+                return Answer::Accepted(count);
             }
-            Answer::Accepted(count)
+            Answer::Refused(Refusal::CutShort, size)
         }
         State::Word(_, _) => Answer::Refused(Refusal::CutShort, size),
     }
 }
 
 // The answer of reading a text with room enough.
-fn count(text: &[u8]) -> Answer
-    ensures { λ r. ⌜ inNumbers r ≡ verdictOf (reading numbers (now (text .entry))) ⌝ }
+fn count(asked: u32, text: &[u8]) -> Answer
+    ensures { λ r. ⌜ inNumbers r ≡ verdictOf (reading (numbers asked) (now (text .entry))) ⌝ }
 {
     let mut at: usize = 0;
     let mut n: usize = 0;
@@ -139,13 +140,13 @@ fn count(text: &[u8]) -> Answer
             }
         }
     }
-    finish(at, n, st)
+    finish(asked, at, n, st)
 }
 
 // The numbers of a text go to the front of the output.
-fn fill(text: &[u8], out: &mut [u32])
-    requires { ⌜ length (reading numbers (now text) .cells) ≤ length (now out) ⌝ }
-    ensures { λ _. ⌜ now (out .exit) ≡ filled (reading numbers (now (text .entry)) .cells) (now (out .entry)) ⌝ }
+fn fill(asked: u32, text: &[u8], out: &mut [u32])
+    requires { ⌜ length (reading (numbers asked) (now text) .cells) ≤ length (now out) ⌝ }
+    ensures { λ _. ⌜ now (out .exit) ≡ filled (reading (numbers asked) (now (text .entry)) .cells) (now (out .entry)) ⌝ }
 {
     let mut at: usize = 0;
     let mut n: usize = 0;
@@ -169,14 +170,14 @@ fn fill(text: &[u8], out: &mut [u32])
     }
 }
 
-// Reads PLACE, COUNT and the cells into an output.
-pub fn read(text: &[u8], out: &mut [u32]) -> Answer
-    ensures { λ r. ⌜ leaves r (now (out .exit)) ≡ readInto numbers (now (text .entry)) (now (out .entry)) ⌝ }
+// Reads one number into an output, or two or more: PLACE, COUNT and the cells.
+pub fn read(asked: u32, text: &[u8], out: &mut [u32]) -> Answer
+    ensures { λ r. ⌜ leaves r (now (out .exit)) ≡ readInto (numbers asked) (now (text .entry)) (now (out .entry)) ⌝ }
 {
     if answer::over_limit(text.len()) {
         return answer::too_long();
     }
-    let found = count(text);
+    let found = count(asked, text);
     match found {
         Answer::Refused(_, _) => {
             return found;
@@ -185,7 +186,7 @@ pub fn read(text: &[u8], out: &mut [u32]) -> Answer
             if out.len() < n {
                 return Answer::Refused(Refusal::NoRoom, n);
             }
-            fill(text, out);
+            fill(asked, text, out);
             found
         }
     }

@@ -1,4 +1,2 @@
-pub mod Found
 pub mod Law
 pub mod Working
-pub mod Cases

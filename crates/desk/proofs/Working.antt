@@ -17,7 +17,7 @@ use Rattle.ledger.specs.declared.Page.{Page}
 use Rattle.ledger.specs.declared.Edited.{Edited}
 use Rattle.ledger.specs.Calls.{openOf}
 use Rattle.ledger.specs.Running.{taken}
-use Rattle.desk.specs.Desk.{Desk, begun, afterLine, Turn, obeys, passes, waits, Turns, none-yet, then}
+use Rattle.desk_lines.specs.Desk.{Desk, begun, afterLine, Turn, obeys, passes, waits, Turns, none-yet, then}
 use Rattle.desk.specs.Hands.{deskIn, sitting, Took, passed, obeyed, closed, Worked, Served}
 use Rattle.desk.specs.declared.lines.Hand.{Hand}
 

@@ -8,7 +8,7 @@ ghost use Prim.Native.Nat.{_≤_, _<_};
 ghost use mathlib.Core.Path.{_≡_};
 ghost use mathlib.Core.Bool.{false};
 ghost use lib.ListN.{length};
-ghost use Rattle.desk.specs.Desk.{Turn};
+ghost use Rattle.desk_lines.specs.Desk.{Turn};
 ghost use Rattle.desk.specs.Hands.{Holds, lineIn, deskIn, sitting, Took, closed, Worked};
 
 // A proved loop has to end, and nothing says that the input does: so it counts down from a number that no run uses up.

@@ -16,8 +16,8 @@ ghost use Rattle.answer.specs.Answer.{limit};
 ghost use Rattle.reading.specs.Reading.{accepted};
 ghost use Rattle.ledger.specs.Page.{stateOf};
 ghost use Rattle.ledger.specs.Calls.{unchangedOf};
-ghost use Rattle.commands.specs.declared.Verb.the-variants.{Replace, Undo, Redo, Quit};
-ghost use Rattle.desk.specs.Desk.{replacing, room, saving, asked, afterCall, begun, afterCommand, afterLine};
+ghost use Rattle.commands.specs.declared.Verb.the-variants.{Replace, Undo, Redo, Quit, Squeeze};
+ghost use Rattle.desk_lines.specs.Desk.{replacing, room, saving, asked, afterCall, begun, afterCommand, afterLine};
 ghost use Rattle.desk.specs.Hands.{deskAt, sitting};
 
 // The page after a command, and what became of its file and of the desk.
@@ -61,7 +61,7 @@ fn replace(p: Page, words: &[u8], text: &mut [u32], history: &mut [u32]) -> Page
         ≡ afterCall (asked none Replace (now (words .entry))) (stateOf p (now (text .entry)) (now (history .entry))) ⌝ }
 {
     let mut found = [0u32; 65536];
-    let read = numbers::read(words, &mut found);
+    let read = numbers::read(2, words, &mut found);
     let n = answer::place(read);
     match read {
         Answer::Accepted(_) => {
@@ -110,6 +110,26 @@ fn redo(p: Page, words: &[u8], text: &mut [u32], history: &[u32]) -> Page
         return p;
     }
     told(lent::redo_kept(p, &mut *text, history))
+}
+
+// `squeeze K`
+fn squeeze(p: Page, words: &[u8], text: &[u32], history: &mut [u32]) -> Page
+    ensures { λ r. ⌜ stateOf r (now (text .entry)) (now (history .exit))
+        ≡ afterCall (asked none Squeeze (now (words .entry))) (stateOf p (now (text .entry)) (now (history .entry))) ⌝ }
+{
+    let mut found = [0u32; 1];
+    let read = numbers::read(1, words, &mut found);
+    match read {
+        Answer::Accepted(_) => {
+            let k = records::wide(found[0]);
+            let mut work = [0u32; 65536];
+            told(squeeze::squeeze(p, k, text, &mut *history, &mut work))
+        }
+        Answer::Refused(_, _) => {
+            replies::complain(b"squeeze K: one decimal number, not over 4294967295");
+            p
+        }
+    }
 }
 
 // `show`
@@ -265,7 +285,7 @@ fn act(
         },
         Verb::Unknown => {
             replies::complain(
-                b"no such command: show, replace PLACE COUNT CELL.., undo, redo, save FILE, quit",
+                b"no such command: show, replace PLACE COUNT CELL.., undo, redo, squeeze K, save FILE, quit",
             );
             stays(p)
         }
@@ -277,6 +297,7 @@ fn act(
         Verb::Replace => stays(replace(p, words, &mut *text, &mut *history)),
         Verb::Undo => stays(undo(p, words, &mut *text, &*history)),
         Verb::Redo => stays(redo(p, words, &mut *text, &*history)),
+        Verb::Squeeze => stays(squeeze(p, words, &*text, &mut *history)),
         Verb::Quit => quit(p, words, warned, &*text, &*history),
     }
 }

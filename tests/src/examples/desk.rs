@@ -102,9 +102,9 @@ const BEFORE: &[(&str, &str)] = &[
 ];
 
 /// Lines that are complained of, in groups, each with the complaint.
-pub const BAD_LINES: [(&str, &[&[u8]]); 4] = [
+pub const BAD_LINES: [(&str, &[&[u8]]); 5] = [
     (
-        "desk: no such command: show, replace PLACE COUNT CELL.., undo, redo, save FILE, quit\n",
+        "desk: no such command: show, replace PLACE COUNT CELL.., undo, redo, squeeze K, save FILE, quit\n",
         &[
             b"Show",
             b"SHOW",
@@ -132,6 +132,11 @@ pub const BAD_LINES: [(&str, &[&[u8]]); 4] = [
             b"Quit",
             b"quit.",
             b"exit",
+            b"Squeeze 2",
+            b"squeezes 2",
+            b"squeeze2",
+            b"squeez 2",
+            b"squeeze\0 2",
             b"Save out",
             b"saveout",
             b"save\x0Bout",
@@ -215,6 +220,34 @@ pub const BAD_LINES: [(&str, &[&[u8]]); 4] = [
             b"replace 0 0 10000000000000061",
             b"replace 0 0 100000000000000000000000000000061",
             b"replace 340282366920938463463374607431768211456 0 61",
+        ],
+    ),
+    (
+        "desk: squeeze K: one decimal number, not over 4294967295\n",
+        &[
+            b"squeeze",
+            b"squeeze \t \r",
+            b"squeeze all",
+            b"squeeze A",
+            b"squeeze /",
+            b"squeeze :",
+            b"squeeze -2",
+            b"squeeze +2",
+            b"squeeze 0x2",
+            b"squeeze 2.",
+            b"squeeze 2\0",
+            b"squeeze \xB2",
+            b"squeeze 2 3",
+            b"squeeze 2 2",
+            b"squeeze 2 61 62",
+            b"squeeze 2 x",
+            b"squeeze 2 show",
+            b"squeeze 4294967296",
+            b"squeeze 4294967298",
+            b"squeeze 42949672950",
+            b"squeeze 000000000004294967296",
+            b"squeeze 18446744073709551618",
+            b"squeeze 340282366920938463463374607431768211458",
         ],
     ),
     ("desk: save FILE: the name is missing\n", &[b"save", b" save", b"save \t\r ", b"\tsave\t"]),
@@ -359,18 +392,112 @@ pub fn quits() -> Vec<Transcript> {
 /// Every `quit` is a first one here, for another line comes before it, but the last.
 fn quits_apart() -> Transcript {
     let long = [&[b' '; 70_000][..], b"\n"].concat();
-    let between: [Line; 8] = [
+    let between: [Line; 10] = [
         (b"show\n", "status=0\ncount=4\ncells=00000041 00000061 00000062 00000063\n"),
         (b"redo\n", "status=13\nplace=0\n"),
         (b"quit quit\n", "desk: nothing may follow this command\n"),
-        (b"exit\n", "desk: no such command: show, replace PLACE COUNT CELL.., undo, redo, save FILE, quit\n"),
+        (
+            b"exit\n",
+            "desk: no such command: show, replace PLACE COUNT CELL.., undo, redo, squeeze K, save FILE, quit\n",
+        ),
         (b"replace 0 5\n", "status=11\nplace=4\n"),
+        (b"squeeze 2\n", "status=11\nplace=0\n"),
+        (b"squeeze\n", "desk: squeeze K: one decimal number, not over 4294967295\n"),
         (&long, "desk: a line is longer than 65535 bytes\n"),
         MISSING,
         BARRED,
     ];
     let list = [ADD, STAYS].into_iter().chain(between.into_iter().flat_map(|line| [line, STAYS]));
     lines("other lines between quits", &list.chain([LEAVES, UNREAD]).collect::<Vec<_>>(), &[])
+}
+
+/// "abc" becomes "Abc", "ABc" and "ABC", each by a record of 5 words.
+const FIRST: Line = (b"replace 0 1 41\n", "status=0\ncount=3\n");
+const SECOND: Line = (b"replace 1 1 42\n", "status=0\ncount=3\n");
+const THIRD: Line = (b"replace 2 1 43\n", "status=0\ncount=3\n");
+const BACK: Line = UNDO;
+const KEPT: Line = (b"save new\n", "status=0\ncount=3\n");
+/// Two of them become one record of 9 words: of three there are 14 words then.
+const TWO: Line = (b"squeeze 2\n", "status=0\ncount=9\n");
+const TWO_OF_THREE: Line = (b"squeeze 2\n", "status=0\ncount=14\n");
+const FEW: &str = "status=11\nplace=0\n";
+const NO_GAIN: &str = "status=19\nplace=0\n";
+
+/// Pages on which old steps are folded into one, and pages on which they cannot be.
+pub fn squeezes() -> Vec<Transcript> {
+    let [first, second] = [[("new", "Abc")], [("new", "ABc")]];
+    vec![
+        folded(),
+        gained(),
+        lines("an undo goes back over the fold", &[FIRST, SECOND, TWO, STAYS, BACK, ALL_OF_ABC, LEAVES, UNREAD], &[]),
+        lines("a page that is saved is so after a squeeze", &[FIRST, SECOND, KEPT, TWO, LEAVES, UNREAD], &second),
+        lines(
+            "what was saved is at the end of the fold",
+            &[FIRST, SECOND, KEPT, THIRD, TWO_OF_THREE, STAYS, BACK, LEAVES, UNREAD],
+            &second,
+        ),
+        lines(
+            "what was saved is inside the fold",
+            &[FIRST, KEPT, SECOND, THIRD, TWO_OF_THREE, STAYS, BACK, STAYS, BACK, ALL_OF_ABC, STAYS, ENDED_NOT_SAVED],
+            &first,
+        ),
+    ]
+}
+
+/// Steps are folded while one is undone, and then with it.
+fn folded() -> Transcript {
+    let (three, four) = ("status=0\ncount=3\n", "status=0\ncount=4\n");
+    let list: &[(&[u8], &str)] = &[
+        (b"squeeze 2\n", FEW),
+        FIRST,
+        SECOND,
+        THIRD,
+        (b"replace 3 0 44\n", four),
+        (b"squeeze 0\n", FEW),
+        (b"squeeze 1\n", FEW),
+        (b"squeeze 5\n", FEW),
+        (b"squeeze 4294967295\n", FEW),
+        (b"undo\n", three),
+        (b"squeeze 4\n", FEW),
+        (b" squeeze\t0000000000000000000003 \r\n", "status=0\ncount=13\n"),
+        (b"squeeze 2\n", FEW),
+        (b"redo\n", four),
+        (b"undo\n", three),
+        (b"undo\n", three),
+        ALL_OF_ABC,
+        (b"undo\n", "status=13\nplace=0\n"),
+        (b"redo\n", three),
+        (b"show\n", "status=0\ncount=3\ncells=00000041 00000042 00000043\n"),
+        (b"redo\n", four),
+        (b"squeeze 2\n", "status=0\ncount=10\n"),
+        (b"undo\n", three),
+        ALL_OF_ABC,
+        (b"redo\n", four),
+        (b"save new\n", four),
+        (b"squeeze 2", FEW),
+    ];
+    lines("old steps folded into one", list, &[("new", "ABCD")])
+}
+
+/// The words must become fewer.
+fn gained() -> Transcript {
+    let list: &[(&[u8], &str)] = &[
+        ADD,
+        (b"replace 0 0 42\n", "status=0\ncount=5\n"),
+        (b"squeeze 2\n", NO_GAIN),
+        (b"replace 0 0 43\n", "status=0\ncount=6\n"),
+        (b"squeeze 3\n", NO_GAIN),
+        (b"undo\n", "status=0\ncount=5\n"),
+        (b"undo\n", "status=0\ncount=4\n"),
+        (b"replace 0 1 44\n", "status=0\ncount=4\n"),
+        (b"replace 0 1\n", "status=0\ncount=3\n"),
+        (b"squeeze 2\n", NO_GAIN),
+        (b"squeeze 3\n", "status=0\ncount=9\n"),
+        ALL_OF_ABC,
+        (b"undo\n", "status=0\ncount=3\n"),
+        (b"quit\n", ""),
+    ];
+    lines("squeezes with no gain", list, &[])
 }
 
 /// Starts that fail, each with what is complained of; and letters that are refused. None reads a command.
@@ -440,5 +567,5 @@ fn start(arguments: &[&str], output: &str, errors: &str) -> Transcript {
 /// Every example, for the unit tests.
 #[cfg(test)]
 pub fn all() -> Vec<Transcript> {
-    [worked(), bad_lines(), odd_lines(), saves(), quits(), starts()].into_iter().flatten().collect()
+    [worked(), bad_lines(), odd_lines(), saves(), quits(), squeezes(), starts()].into_iter().flatten().collect()
 }

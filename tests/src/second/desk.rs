@@ -62,6 +62,7 @@ pub enum Complaint {
     NotSaved,
     EndedNotSaved,
     Replace,
+    Squeeze,
     NameMissing,
     NameTooLong,
     NameWithNul,
@@ -95,6 +96,7 @@ pub const SHOW: &str = "desk-show";
 pub const REPLACE: &str = "desk-replace";
 pub const UNDO: &str = "desk-undo";
 pub const REDO: &str = "desk-redo";
+pub const SQUEEZE: &str = "desk-squeeze";
 pub const SAVE: &str = "desk-save";
 
 /// "FILE longer than 4,096 bytes"
@@ -142,7 +144,7 @@ impl Complaint {
             Complaint::LetterNameTooLong => "FILE: File name too long",
             Complaint::LineTooLong => "a line is longer than 65535 bytes",
             Complaint::NoSuchCommand => {
-                "no such command: show, replace PLACE COUNT CELL.., undo, redo, save FILE, quit"
+                "no such command: show, replace PLACE COUNT CELL.., undo, redo, squeeze K, save FILE, quit"
             }
             Complaint::NothingMayFollow => "nothing may follow this command",
             Complaint::NotSaved => "the page is not saved: save FILE, or quit again to leave it",
@@ -150,6 +152,7 @@ impl Complaint {
             Complaint::Replace => {
                 "replace PLACE COUNT CELL..: two decimal numbers, then cells in hex, none over FFFFFFFF"
             }
+            Complaint::Squeeze => "squeeze K: one decimal number, not over 4294967295",
             Complaint::NameMissing => "save FILE: the name is missing",
             Complaint::NameTooLong => "the name of the file is too long",
             Complaint::NameWithNul => "the name of the file has a NUL",
@@ -263,6 +266,7 @@ impl Desk {
                 Told::Nothing
             }
             [b"replace", numbers @ ..] => self.replace(numbers),
+            [b"squeeze", numbers @ ..] => self.squeeze(numbers),
             [b"save", ..] => self.save(trimmed(&trimmed(line)[b"save".len()..])),
             [b"show" | b"undo" | b"redo" | b"quit", _, ..] => Told::Complaint(Complaint::NothingMayFollow),
             [b"show"] => Told::Cells(self.state.text[..self.state.page.length].to_vec()),
@@ -283,7 +287,7 @@ impl Desk {
     }
 
     fn call(&mut self, name: &'static str, call: &Call) -> Told {
-        let left = page::left(&self.state, call, &[]);
+        let left = page::left_of_all(&self.state, call, &[], &vec![0; call.work()]);
         self.state = left.state;
         Told::Answer(name, left.answer)
     }
@@ -300,6 +304,19 @@ impl Desk {
         match call() {
             Some(call) => self.call(REPLACE, &call),
             None => Told::Complaint(Complaint::Replace),
+        }
+    }
+
+    /// "If K is missing, holds another byte or is too large, or a word follows: (..), and nothing is changed."
+    fn squeeze(&mut self, words: &[&[u8]]) -> Told {
+        let steps = match words {
+            [word] => number(word, 10),
+            _ => None,
+        };
+        match steps {
+            // "Squeeze is lent a work buffer of 65,536 words."
+            Some(steps) => self.call(SQUEEZE, &Call::Squeeze { steps: steps as usize, work: LIMIT }),
+            None => Told::Complaint(Complaint::Squeeze),
         }
     }
 

@@ -125,10 +125,17 @@ returns-7 c =
       sym (c .before .is-word6 .ensures) ∙ c .if7 .taken,
     )
 
+slice-aggregate-is-word-7 : tie.Need-slice-aggregate-is-word-7
+slice-aggregate-is-word-7 c = search needs
+
+is-word-requires-7 : tie.Need-is-word-requires-7
+is-word-requires-7 c κs = search needs
+
 returns-8 : tie.Need-returns-8
 unfolding verbOf
 returns-8 c =
-    let z = c .before .before .before in
+    let u = c .before .before .before in
+    let z = u .before .before .before in
     let y = z .before .before .before in
     let x = y .before .before .before in
     let w = x .before .before .before in
@@ -140,7 +147,28 @@ returns-8 c =
       sym (x .before .is-word3 .ensures) ∙ x .if4 .left,
       sym (y .before .is-word4 .ensures) ∙ y .if5 .left,
       sym (z .before .is-word5 .ensures) ∙ z .if6 .left,
-      sym (c .before .is-word6 .ensures) ∙ c .if7 .left,
+      sym (u .before .is-word6 .ensures) ∙ u .if7 .left,
+      sym (c .before .is-word7 .ensures) ∙ c .if8 .taken,
+    )
+
+returns-9 : tie.Need-returns-9
+unfolding verbOf
+returns-9 c =
+    let u = c .before .before .before in
+    let z = u .before .before .before in
+    let y = z .before .before .before in
+    let x = y .before .before .before in
+    let w = x .before .before .before in
+    let v = w .before .before .before in
+    rw (
+      some (v .before .before .before),
+      sym (v .before .is-word .ensures) ∙ v .if2 .left,
+      sym (w .before .is-word2 .ensures) ∙ w .if3 .left,
+      sym (x .before .is-word3 .ensures) ∙ x .if4 .left,
+      sym (y .before .is-word4 .ensures) ∙ y .if5 .left,
+      sym (z .before .is-word5 .ensures) ∙ z .if6 .left,
+      sym (u .before .is-word6 .ensures) ∙ u .if7 .left,
+      sym (c .before .is-word7 .ensures) ∙ c .if8 .left,
     )
 
 pub verb-of-spec : {M : Type 1} → statement M
@@ -166,4 +194,7 @@ verb-of-spec =
     slice-aggregate-is-word-6
     is-word-requires-6
     returns-7
-    returns-8)
+    slice-aggregate-is-word-7
+    is-word-requires-7
+    returns-8
+    returns-9)

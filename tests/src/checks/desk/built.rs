@@ -153,6 +153,7 @@ fn label(complaint: &Complaint) -> String {
         Complaint::NotSaved => "not saved",
         Complaint::EndedNotSaved => "ended, not saved",
         Complaint::Replace => "replace",
+        Complaint::Squeeze => "squeeze",
         Complaint::NameMissing => "name missing",
         Complaint::NameTooLong => "name too long",
         Complaint::NameWithNul => "name with a NUL",

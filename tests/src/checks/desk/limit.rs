@@ -52,6 +52,7 @@ pub fn pages(kind: Kind) -> Vec<Script> {
         format!("replace 0 {LIMIT} {cell}"),
         format!("replace 0 {}", LIMIT - 3),
         "replace 0 0".to_string(),
+        "squeeze 2".to_string(),
         "save short".to_string(),
         "show".to_string(),
         "undo".to_string(),
@@ -65,7 +66,8 @@ pub fn pages(kind: Kind) -> Vec<Script> {
     vec![script(kind, &[BYTE; LIMIT], ended(full)), grown(kind)]
 }
 
-/// A page that grows by lines that are as long as can be, of cells that take many bytes each when they are written.
+/// A page that grows by lines that are as long as can be, of cells that take many bytes each when they are written. Its
+/// history is squeezed where it has no room left, and takes more then.
 fn grown(kind: Kind) -> Script {
     let pattern = match kind {
         Kind::Utf7Header | Kind::Utf7Body => "A3 2D ",
@@ -76,8 +78,20 @@ fn grown(kind: Kind) -> Script {
     let longest = format!("{:<1$}", format!("{start}{cells}"), LONGEST_LINE);
     let lines = ended(["save empty"])
         .into_iter()
-        .chain(vec![longest.into_bytes(); 8].into_iter().map(|line| [&line[..], b"\n"].concat()))
-        .chain(ended(["save large", "show", "undo", "save large", "undo", "redo", "redo", "save old"]));
+        .chain(vec![longest.clone().into_bytes(); 8].into_iter().map(|line| [&line[..], b"\n"].concat()))
+        .chain(ended(["save large", "show", "undo", "save large", "undo", "redo", "redo", "save old"]))
+        .chain(ended([
+            "squeeze 9",
+            "squeeze 3",
+            "squeeze 2",
+            &longest,
+            "show",
+            "undo",
+            "undo",
+            "show",
+            "redo",
+            "redo",
+        ]));
     script(kind, b"", lines.collect())
 }
 
@@ -97,7 +111,7 @@ pub fn lines(kind: Kind) -> Vec<Script> {
 
 /// Lines of this length: with many blanks, with many zeros, with words that are long, and with an end that by itself
 /// would be a command.
-fn long_lines(kind: Kind, length: usize) -> [Vec<u8>; 9] {
+fn long_lines(kind: Kind, length: usize) -> [Vec<u8>; 10] {
     let cell = cell(kind);
     let filled = |start: &str, filling: u8, end: &str| {
         let count = length - start.len() - end.len();
@@ -113,6 +127,7 @@ fn long_lines(kind: Kind, length: usize) -> [Vec<u8>; 9] {
         filled("", b'x', "\rundo"),
         filled("save ", b'n', ""),
         filled("quit", b' ', "0"),
+        filled("squeeze ", b'0', "2"),
     ]
 }
 

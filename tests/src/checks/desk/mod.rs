@@ -46,6 +46,7 @@ fn check_by_hand(report: &mut Report) {
     check("odd-lines", "lines that are just right", examples::odd_lines());
     check("saves", "files that are saved, and files that cannot be", examples::saves());
     check("quits", "pages that are left saved, and not saved", examples::quits());
+    check("squeezes", "old steps folded, and marks in the fold and behind it", examples::squeezes());
     system::run(report, &desk);
     harm::run(report, &desk);
 }
@@ -83,24 +84,27 @@ fn check_kind(report: &mut Report, kind: Kind, seed: u64) {
 /// The statuses that scripts can be told. These they cannot: 9 of open, for no letter within the limit has more cells
 /// than the text buffer; 16 of all but open, for the buffers and the letter are within the limit, and no line has room
 /// for so many cells; 14, for each call is lent what the last one left; 15, for save is lent the letter that was opened;
-/// 10 and 9 of save, for all that is read or added is writable, and the output has room for the longest writing.
+/// 10 and 9 of save, for all that is read or added is writable, and the output has room for the longest writing; 9 of
+/// squeeze, for its work buffer is as long as the history, and a record no shorter than what it stands for is 19.
 fn expect_statuses(report: &mut Report, kind: Kind) {
     report.expect_statuses(second::open_name(kind), &formats::of_kind(kind).statuses(&[0, 16]));
     report.expect_statuses(second::SHOW, &[0]);
     report.expect_statuses(second::REPLACE, &[0, 9, 10, 11, 12]);
     report.expect_statuses(second::UNDO, &[0, 13]);
     report.expect_statuses(second::REDO, &[0, 13]);
+    report.expect_statuses(second::SQUEEZE, &[0, 11, 19]);
     report.expect_statuses(second::SAVE, &[0]);
 }
 
 /// What can be complained of in scripts, and the errors of the system that names in them can cause.
-const COMPLAINTS: [&str; 13] = [
+const COMPLAINTS: [&str; 14] = [
     "line too long",
     "no such command",
     "nothing may follow",
     "not saved",
     "ended, not saved",
     "replace",
+    "squeeze",
     "name missing",
     "name too long",
     "name with a NUL",

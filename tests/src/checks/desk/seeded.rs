@@ -118,7 +118,7 @@ struct Draft {
 impl Draft {
     /// Adds a line, or a few of undo and redo.
     fn add(&mut self, rng: &mut Rng) {
-        match rng.below(32) {
+        match rng.below(35) {
             0..=13 => self.add_replace(rng),
             14..=18 => self.add_turns(rng),
             19..=21 => self.lines.push(line(rng, &[b"show".to_vec()])),
@@ -136,6 +136,7 @@ impl Draft {
                 let damaged = self.damaged(rng);
                 self.lines.push(damaged);
             }
+            30..=32 => self.add_squeeze(rng),
             _ => self.lines.push(line(rng, &[])),
         }
     }
@@ -162,6 +163,21 @@ impl Draft {
         }
     }
 
+    /// Most often of some of the steps that stand.
+    fn add_squeeze(&mut self, rng: &mut Rng) {
+        let standing = self.ledger.as_ref().map_or(0, |ledger| ledger.standing.len());
+        let steps = match rng.below(8) {
+            0 => rng.pick(&[0, 1, standing + 1, u32::MAX as usize]),
+            1..=3 => standing,
+            _ => rng.below(standing + 2),
+        };
+        let number = decimal(rng, steps);
+        self.lines.push(line(rng, &[b"squeeze".to_vec(), number]));
+        let gains = |ledger: &Ledger| ledger.fold(steps).words() < ledger.words_of(steps);
+        let accepted = (2..=standing).contains(&steps) && self.ledger.as_ref().is_some_and(gains);
+        self.hear(&Call::Squeeze { steps, work: 0 }, accepted);
+    }
+
     fn add_replace(&mut self, rng: &mut Rng) {
         let length = self.ledger.as_ref().map_or(20, |ledger| ledger.text().len());
         let (place, count) = part(rng, length);
@@ -175,7 +191,7 @@ impl Draft {
     fn damaged(&self, rng: &mut Rng) -> Vec<u8> {
         let mut damaged = match rng.below(6) {
             0..=3 => {
-                let right: &[u8] = rng.pick(&[b"show", b"undo", b"redo", b"save out"]);
+                let right: &[u8] = rng.pick(&[b"show", b"undo", b"redo", b"squeeze 2", b"save out"]);
                 line(rng, &[right.to_vec()])
             }
             _ => {

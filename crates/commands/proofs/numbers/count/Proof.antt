@@ -9,13 +9,13 @@ use Rattle.commands.proofs.numbers.count.Statement.{statement}
 use Rattle.commands.proofs.numbers.count.Tie as tie
 
 abbrev Inv-loop : tie.InvT-loop
-Inv-loop text at₀ n₀ st₀ at n st = Left numbers text at st n
+Inv-loop asked text at₀ n₀ st₀ at n st = Left (numbers asked) text at st n
 
 abbrev μ-loop : tie.MeasureT-loop
-μ-loop text at₀ n₀ st₀ at n st = length text - at
+μ-loop asked text at₀ n₀ st₀ at n st = length text - at
 
 loop-holds : tie.Need-loop-holds Inv-loop μ-loop
-loop-holds c = left-start numbers _
+loop-holds c = left-start (numbers _) _
 
 shared-slice-read-feed : tie.Need-shared-slice-read-feed Inv-loop μ-loop
 shared-slice-read-feed c = search needs

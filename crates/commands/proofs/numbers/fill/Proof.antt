@@ -9,13 +9,13 @@ use Rattle.commands.proofs.numbers.fill.Statement.{statement}
 use Rattle.commands.proofs.numbers.fill.Tie as tie
 
 abbrev Inv-loop : tie.InvT-loop
-Inv-loop text out₀ at₀ n₀ st₀ out at n st = Filling numbers text at st n out₀ out
+Inv-loop asked text out₀ at₀ n₀ st₀ out at n st = Filling (numbers asked) text at st n out₀ out
 
 abbrev μ-loop : tie.MeasureT-loop
-μ-loop text out₀ at₀ n₀ st₀ out at n st = length text - at
+μ-loop asked text out₀ at₀ n₀ st₀ out at n st = length text - at
 
 loop-holds : tie.Need-loop-holds Inv-loop μ-loop
-loop-holds c = filling-start numbers _ _ (c .before .before .pre)
+loop-holds c = filling-start (numbers _) _ _ (c .before .before .pre)
 
 shared-slice-read-feed : tie.Need-shared-slice-read-feed Inv-loop μ-loop
 shared-slice-read-feed c = search needs

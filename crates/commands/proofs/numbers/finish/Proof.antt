@@ -1,6 +1,4 @@
-use Prim.Native.Nat.{_<_, _≤_}
-use native.Mathlib.Omega.{arith}
-use borrow.Author.Tests.{lt-ltb, le-ltb}
+use borrow.Author.Tests.{eq-eqb, ne-eqb}
 use Rattle.commands.specs.Numbers.{endsIn}
 use borrow.Author.Needs.{needs}
 use Rattle.commands.proofs.numbers.finish.Statement.{statement}
@@ -13,8 +11,7 @@ returns : tie.Need-returns
 unfolding endsIn
 returns c =
     let s = c .before .before .st .given in
-    let few : s .0 .0 < 2 = omega arith in
-    rw (s .1, lt-ltb _ _ few)
+    rw (s .1, eq-eqb _ _ (c .if1 .taken))
 
 enum-told : tie.Need-enum-told
 enum-told c = search needs
@@ -23,8 +20,7 @@ returns-2 : tie.Need-returns-2
 unfolding endsIn
 returns-2 c =
     let s = c .before .before .st .given in
-    let both : 2 ≤ s .0 .0 = omega arith in
-    rw (s .1, le-ltb _ _ both)
+    rw (s .1, ne-eqb _ _ (c .if1 .left))
 
 returns-3 : tie.Need-returns-3
 unfolding endsIn

@@ -20,7 +20,7 @@ too-long-requires : tie.Need-too-long-requires
 too-long-requires c κs = search needs
 
 returns : tie.Need-returns
-returns c = into-long numbers-kept _ _ (c .too-long .result) (sym (c .before .before .over-limit .ensures) ∙ c .before .if1 .taken) (c .too-long .ensures)
+returns c = into-long (numbers-kept _) _ _ (c .too-long .result) (sym (c .before .before .over-limit .ensures) ∙ c .before .if1 .taken) (c .too-long .ensures)
 
 count-requires : tie.Need-count-requires
 count-requires c κs = search needs
@@ -31,7 +31,7 @@ enum-told c = search needs
 returns-2 : tie.Need-returns-2
 returns-2 c =
     let p = c .before .before in
-    into-refused numbers-kept _ _ (within (p .before)) (p .count .ensures) (c .enum-told .given .1)
+    into-refused (numbers-kept _) _ _ (within (p .before)) (p .count .ensures) (c .enum-told .given .1)
 
 enum-known-found : tie.Need-enum-known-found
 enum-known-found c = search needs
@@ -40,13 +40,13 @@ returns-3 : tie.Need-returns-3
 returns-3 c =
     let f = c .before .before in
     let p = f .before .before in
-    into-short numbers-kept _ _ (within (p .before)) (p .count .ensures) (f .found .given .1) (c .if2 .taken)
+    into-short (numbers-kept _) _ _ (within (p .before)) (p .count .ensures) (f .found .given .1) (c .if2 .taken)
 
 fill-requires : tie.Need-fill-requires
 fill-requires c κs =
     let f = c .before .before .before in
     let p = f .before .before in
-    into-room numbers-kept _ (now (p .before .before .before .before .before .args .out)) (within (p .before)) (p .count .ensures) (f .found .given .1) (c .before .if2 .left)
+    into-room (numbers-kept _) _ (now (p .before .before .before .before .before .args .out)) (within (p .before)) (p .count .ensures) (f .found .given .1) (c .before .if2 .left)
 
 same-length : tie.Need-same-length
 same-length c = search needs
@@ -56,7 +56,7 @@ returns-4 c =
     let r = c .before .before .before .before in
     let f = r .before .before in
     let p = f .before .before in
-    into-filled numbers-kept _ _ (within (p .before)) (ap inNumbers (sym (f .found .given .1)) ∙ p .count .ensures) refl (r .if2 .left) (c .before .before .fill .ensures)
+    into-filled (numbers-kept _) _ _ (within (p .before)) (ap inNumbers (sym (f .found .given .1)) ∙ p .count .ensures) refl (r .if2 .left) (c .before .before .fill .ensures)
 
 pub read-spec : {M : Type 1} → statement M
 read-spec =

@@ -1,5 +1,5 @@
 use mathlib.Core.Path.{ap}
-use Rattle.desk.specs.Desk.{begun}
+use Rattle.desk_lines.specs.Desk.{begun}
 use borrow.Author.Needs.{needs}
 use Rattle.desk.proofs.orders.act.Statement.{statement}
 use Rattle.desk.proofs.orders.act.Tie as tie
@@ -63,6 +63,15 @@ stays-requires-5 c κs = search needs
 
 enum-told-8 : tie.Need-enum-told-8
 enum-told-8 c = search needs
+
+squeeze-requires : tie.Need-squeeze-requires
+squeeze-requires c κs = search needs
+
+stays-requires-6 : tie.Need-stays-requires-6
+stays-requires-6 c κs = search needs
+
+enum-told-9 : tie.Need-enum-told-9
+enum-told-9 c = search needs
 
 quit-requires : tie.Need-quit-requires
 quit-requires c κs = search needs
@@ -128,7 +137,18 @@ same-length-11 : tie.Need-same-length-11
 same-length-11 c = search needs
 
 returns-8 : tie.Need-returns-8
-returns-8 c = rw (c .before .before .before .enum-told8 .given .1) (c .quit .ensures)
+returns-8 c =
+    let d = c .before .before .before in
+    rw (d .before .before .before .enum-told8 .given .1, c .stays6 .ensures) (ap begun (d .squeeze .ensures))
+
+same-length-12 : tie.Need-same-length-12
+same-length-12 c = search needs
+
+same-length-13 : tie.Need-same-length-13
+same-length-13 c = search needs
+
+returns-9 : tie.Need-returns-9
+returns-9 c = rw (c .before .before .before .enum-told9 .given .1) (c .quit .ensures)
 
 pub act-spec : {M : Type 1} → statement M
 act-spec =
@@ -154,6 +174,9 @@ act-spec =
     redo-requires
     stays-requires-5
     enum-told-8
+    squeeze-requires
+    stays-requires-6
+    enum-told-9
     quit-requires
     returns
     returns-2
@@ -173,4 +196,7 @@ act-spec =
     returns-7
     same-length-10
     same-length-11
-    returns-8)
+    returns-8
+    same-length-12
+    same-length-13
+    returns-9)

@@ -1,6 +1,6 @@
 use mathlib.Core.Path.{_∙_}
 use denote.Ref.{now}
-use Rattle.desk.proofs.Found.{rest-within, line-done}
+use Rattle.desk_lines.proofs.Found.{rest-within, line-done}
 use borrow.Author.Needs.{needs}
 use Rattle.desk.proofs.orders.obey.Statement.{statement}
 use Rattle.desk.proofs.orders.obey.Tie as tie

@@ -1,6 +1,6 @@
 use mathlib.Core.Path.{sym, _∙_}
 use Rattle.answer.specs.Answer.{limit}
-use Rattle.desk.proofs.Found.{same-call, wide-room, found-few, found-all, found-none}
+use Rattle.desk_lines.proofs.Found.{same-call, wide-room, found-few, found-all, found-none}
 use native.Mathlib.Omega.{arith}
 use lib.Seq.{length-take-le}
 use borrow.Author.Needs.{needs}
@@ -25,7 +25,7 @@ array-share-prefix-found c = search needs
 slice-aggregate-replace-by : tie.Need-slice-aggregate-replace-by
 slice-aggregate-replace-by c =
     let l = c .before .before .before .before .before .before in
-    sym (length-take-le _ (l .read .last .1 .0) (omega (arith, l .read .kept .1 .0)))
+    sym (length-take-le _ (l .read .last .1 .1 .0) (omega (arith, l .read .kept .1 .1 .0)))
 
 replace-by-requires : tie.Need-replace-by-requires
 replace-by-requires c κs = search needs
@@ -43,7 +43,7 @@ returns c =
     let s = r .before .before .before .before .before in
     c .before .before .before .before .replace-by .ensures
     ∙ same-call _
-    (found-all (s .args .words .now) _ (r .read .last .1 .0) (s .pre) wide-room (r .read .ensures) (c .before .before .before .before .before .before .before .before .before .enum-told .given .1) (p .place .ensures))
+    (found-all (s .args .words .now) _ (r .read .last .1 .1 .0) (s .pre) wide-room (r .read .ensures) (c .before .before .before .before .before .before .before .before .before .enum-told .given .1) (p .place .ensures))
 
 enum-told-2 : tie.Need-enum-told-2
 enum-told-2 c = search needs
@@ -60,14 +60,14 @@ returns-2 c =
     let p = c .before .before .before in
     let r = p .before .before in
     let s = r .before .before .before .before .before in
-    let few = found-few (s .args .words .now) _ (r .read .last .1 .0) (s .pre) wide-room (r .read .ensures) (c .before .enum-told .given .1) (p .place .ensures) in
+    let few = found-few (s .args .words .now) _ (r .read .last .1 .1 .0) (s .pre) wide-room (r .read .ensures) (c .before .enum-told .given .1) (p .place .ensures) in
     absurd (omega (arith, few))
 
 returns-3 : tie.Need-returns-3
 returns-3 c =
     let r = c .before .before .before .before .before .before in
     let s = r .before .before .before .before .before in
-    same-call _ (sym (found-none (s .args .words .now) _ (r .read .last .1 .0) (s .pre) wide-room (r .read .ensures) (c .before .before .enum-told2 .given .1)))
+    same-call _ (sym (found-none (s .args .words .now) _ (r .read .last .1 .1 .0) (s .pre) wide-room (r .read .ensures) (c .before .before .enum-told2 .given .1)))
 
 pub replace-spec : {M : Type 1} → statement M
 replace-spec =

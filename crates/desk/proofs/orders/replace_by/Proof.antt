@@ -1,5 +1,5 @@
 use mathlib.Core.Path.{ap, _∙_}
-use Rattle.desk.proofs.Found.{same-call, too-few, replaces, to-end}
+use Rattle.desk_lines.proofs.Found.{same-call, too-few, replaces, to-end}
 use Rattle.ledger.specs.Page.{Outcome}
 use borrow.Author.Needs.{needs}
 use Rattle.desk.proofs.orders.replace_by.Statement.{statement}

@@ -1,7 +1,7 @@
 use mathlib.Core.Path.{sym}
 use lib.Seq.{length-take-le}
 use Rattle.ledger.specs.Page.{stateOf}
-use Rattle.desk.proofs.Found.{most, zeros-room, in-room}
+use Rattle.desk_lines.proofs.Found.{most, zeros-room, in-room}
 use borrow.Author.Needs.{needs}
 use Rattle.desk.proofs.orders.save.Statement.{statement}
 use Rattle.desk.proofs.orders.save.Tie as tie

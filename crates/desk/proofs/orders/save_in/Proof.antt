@@ -1,7 +1,7 @@
 use mathlib.Core.Path.{sym, ap}
 use lib.Seq.{length-take-le}
 use Rattle.ledger.specs.Page.{Outcome}
-use Rattle.desk.specs.Desk.{begun}
+use Rattle.desk_lines.specs.Desk.{begun}
 use borrow.Author.Needs.{needs}
 use Rattle.desk.proofs.orders.save_in.Statement.{statement}
 use Rattle.desk.proofs.orders.save_in.Tie as tie

@@ -1,4 +1,5 @@
--- A replace's numbers: a reading has no more cells than bytes, so those of a line fit; and what they ask for. Assumes nothing.
+-- A replace's numbers: a reading has no more cells than bytes, so those of a line fit; and what they ask for. And what
+-- a squeeze's number asks for. Assumes nothing.
 use Prim.Native.Nat.{ℕ, suc, _+_, _-_, _<_, _≤_}
 use mathlib.Core.Path.{_≡_, refl, ap, _∙_}
 use mathlib.Core.Bool.{Bool, true, false}
@@ -7,8 +8,8 @@ use mathlib.Core.Option.{Option, none}
 use native.Mathlib.Omega.{arith}
 use lib.ListN.{length, getD, take, drop, replicate, length-drop, length-replicate}
 use lib.Seq.{take-all, take-append-seam}
-use borrow.Author.Tests.{le-ltb}
-use Rattle.answer.specs.Answer.{numbered, inNumbers, limit}
+use borrow.Author.Tests.{le-ltb, ne-eqb}
+use Rattle.answer.specs.Answer.{numbered, inNumbers, numberOf, limit}
 use Rattle.answer.specs.Output.{Outcome, leaves, filled, deliver}
 use Rattle.answer.specs.declared.Answer.{Answer}
 use Rattle.answer.specs.declared.Answer.the-variants.{Accepted, Refused}
@@ -19,7 +20,7 @@ use Rattle.reading.proofs.Laws.{SoundEnd, good-reading}
 use Rattle.reading.proofs.Filling.{few-cells}
 use Rattle.codec.specs.Kinds.{bytesPerCell, bytesAtEnd, mostBytes}
 use Rattle.ledger.specs.Page.{State}
-use Rattle.ledger.specs.Calls.{replaceOf}
+use Rattle.ledger.specs.Calls.{replaceOf, squeezeOf}
 use Rattle.ledger.specs.Ledger.{Call}
 use Rattle.commands.specs.Lines.{stretch, saidIn}
 use Rattle.commands.specs.Numbers.{numbers}
@@ -27,7 +28,8 @@ use Rattle.commands.proofs.Words.{stretch-most, end-within}
 use Rattle.commands.proofs.Kept.{numbers-kept}
 use Rattle.commands.specs.declared.Said.{Said}
 use Rattle.commands.specs.declared.Verb.the-variants.{Replace}
-use Rattle.desk.specs.Desk.{replacing, room, saving, asked, afterCall, Desk, begun, afterCommand, afterLine}
+use Rattle.desk_lines.specs.Desk.{replacing, workRoom, squeezing, room, saving, asked, afterCall}
+use Rattle.desk_lines.specs.Desk.{Desk, begun, afterCommand, afterLine}
 
 -- the page after one call is that after the same call
 pub same-call : (s : State) {a b : Option Call} → a ≡ b → afterCall a s ≡ afterCall b s
@@ -80,29 +82,48 @@ wide-room = as-many 65536 (omega arith)
 
 -- a line's numbers, read into an output with room for as many as a line has bytes
 module _ (words out o : List ℕ) (short : length words ≤ limit) (wide : limit ≤ length out) where
-  fits : length (reading numbers words .cells) ≤ length out
-  fits = omega (arith, few-cells numbers words)
+  fits : length (reading (numbers 2) words .cells) ≤ length out
+  fits = omega (arith, few-cells (numbers 2) words)
 
-  by : (v : Outcome) → v ≡ readInto numbers words out → v ≡ onEnding (reading numbers words .ending) (reading numbers words .cells) out
+  by : (v : Outcome) → v ≡ readInto (numbers 2) words out → v ≡ onEnding (reading (numbers 2) words .ending) (reading (numbers 2) words .cells) out
   unfolding readInto
   by v q = rw (le-ltb limit (length words) short) at q
 
-  module _ {a : Answer} (q : leaves a o ≡ readInto numbers words out) where
+  module _ {a : Answer} (q : leaves a o ≡ readInto (numbers 2) words out) where
     module _ {m n : ℕ} (e : a ≡ Accepted m) (k : n ≡ inNumbers a .place) where
-      known : (n ≡ length (reading numbers words .cells)) × (replacing accepted (take n o) ≡ asked none Replace words)
+      known : (n ≡ length (reading (numbers 2) words .cells)) × (replacing accepted (take n o) ≡ asked none Replace words)
       known =
           let s : n ≡ m = k ∙ ap (λ (x : Answer). inNumbers x .place) e in
-          rw s (accepted-by out o (reading numbers words .ending) (reading numbers words .cells) m (good-reading numbers-kept words .1) fits (rw e at (by _ q)))
+          rw s (accepted-by out o (reading (numbers 2) words .ending) (reading (numbers 2) words .cells) m (good-reading (numbers-kept 2) words .1) fits (rw e at (by _ q)))
 
       pub found-few : n ≤ limit
-      found-few = omega (arith, known .0, few-cells numbers words)
+      found-few = omega (arith, known .0, few-cells (numbers 2) words)
 
       pub found-all : replacing accepted (take n o) ≡ asked none Replace words
       found-all = known .1
 
     pub found-none : {why : Refusal} {place : ℕ} → a ≡ Refused why place → asked none Replace words ≡ none
     found-none {why} {place} e =
-        refused-by out o (reading numbers words .ending) (reading numbers words .cells) why place fits (rw e at (by _ q))
+        refused-by out o (reading (numbers 2) words .ending) (reading (numbers 2) words .cells) why place fits (rw e at (by _ q))
+
+-- a squeeze's number, by the answer of reading it: it is read, or there is none
+module _ (s : State) {read : Outcome} {a : Answer} {found : List ℕ} (q : leaves a found ≡ read) where
+  pub squeezes :
+      {n k : ℕ} {work : List ℕ} → a ≡ Accepted n → k ≡ getD found 0 0 → work ≡ workRoom →
+      squeezeOf s k work .state ≡ afterCall (squeezing read) s
+  squeezes e k w = rw (← q, e, k, w)
+
+  pub squeezes-none : {why : Refusal} {place : ℕ} → a ≡ Refused why place → s ≡ afterCall (squeezing read) s
+  squeezes-none {why} e = rw (← q, e, ne-eqb (numberOf why) 0 (λ z. omega (arith, number-pos why)))
+
+-- the work buffer that it is lent
+pub whole : 65536 ≡ limit
+unfolding limit
+whole = refl
+
+pub zeros-work : (n : ℕ) → n ≡ limit → replicate n 0 ≡ workRoom
+unfolding workRoom
+zeros-work n e = ap (λ (k : ℕ). replicate k 0) e
 
 -- the output that a save is lent
 pub most : 393219 ≡ mostBytes

@@ -5,18 +5,20 @@ use mathlib.Core.Path.{_≡_}
 use mathlib.Core.Bool.{Bool, true, false, cond, _&&_, _||_}
 use mathlib.Core.List.{List, [], _∷_}
 use mathlib.Core.Option.{Option, none, some}
-use lib.ListN.{length, drop, replicate}
+use lib.ListN.{length, getD, drop, replicate}
 use lib.Dec.{eqb}
-use Rattle.reading.specs.Reading.{Ending, accepted, fault, reading}
+use Rattle.answer.specs.Answer.{limit}
+use Rattle.answer.specs.Output.{Outcome}
+use Rattle.reading.specs.Reading.{Ending, accepted, fault, reading, readInto}
 use Rattle.codec.specs.Kinds.{mostBytes}
 use Rattle.ledger.specs.Page.{State}
 use Rattle.ledger.specs.Calls.{unchangedOf}
-use Rattle.ledger.specs.Ledger.{Call, replace, undo, redo, save}
+use Rattle.ledger.specs.Ledger.{Call, replace, undo, redo, save, squeeze}
 use Rattle.ledger.specs.Running.{outcomeOf}
 use Rattle.commands.specs.Lines.{saidIn}
 use Rattle.commands.specs.Numbers.{numbers}
 use Rattle.commands.specs.declared.Verb.{Verb}
-use Rattle.commands.specs.declared.Verb.the-variants.{Nothing, Show, Replace, Undo, Redo, Save, Quit, Unknown}
+use Rattle.commands.specs.declared.Verb.the-variants.{Nothing, Show, Replace, Undo, Redo, Save, Quit, Squeeze, Unknown}
 
 -- `replace PLACE COUNT CELL..`, where all of it can be read
 abbrev pub replacing : Ending → List ℕ → Option Call
@@ -24,6 +26,14 @@ replacing accepted [] = none
 replacing accepted (place ∷ []) = none
 replacing accepted (place ∷ count ∷ cells) = some (replace place count cells)
 replacing (fault k at) cells = none
+
+-- the work buffer that a squeeze is lent: as long as the desk's history
+unfoldable pub workRoom : List ℕ
+workRoom = replicate limit 0
+
+-- `squeeze K`, where its one number can be read
+abbrev pub squeezing : Outcome → Option Call
+squeezing read = cond (eqb (read .verdict .number) 0) (some (squeeze (getD (read .out) 0 0) workRoom)) none
 
 -- the output that a save is lent
 unfoldable pub room : List ℕ
@@ -35,9 +45,10 @@ saving letter out put = cond put (some (save letter out)) none
 
 -- what a command asks for, given what a `save` does: `undo` and `redo` stand alone, `show` and `quit` change nothing
 abbrev pub asked : Option Call → Verb → List ℕ → Option Call
-asked saved Replace words = replacing (reading numbers words .ending) (reading numbers words .cells)
+asked saved Replace words = replacing (reading (numbers 2) words .ending) (reading (numbers 2) words .cells)
 asked saved Undo words = cond (eqb (length words) 0) (some undo) none
 asked saved Redo words = cond (eqb (length words) 0) (some redo) none
+asked saved Squeeze words = squeezing (readInto (numbers 1) words (0 ∷ []))
 asked saved Save words = saved
 asked saved Nothing words = none
 asked saved Show words = none
@@ -53,6 +64,7 @@ leaving free Replace words = false
 leaving free Undo words = false
 leaving free Redo words = false
 leaving free Save words = false
+leaving free Squeeze words = false
 leaving free Unknown words = false
 
 -- whether the last command was a `quit`: a line with no word is no command
@@ -64,6 +76,7 @@ warnedBy warned Replace words = false
 warnedBy warned Undo words = false
 warnedBy warned Redo words = false
 warnedBy warned Save words = false
+warnedBy warned Squeeze words = false
 warnedBy warned Unknown words = false
 
 abbrev pub afterCall : Option Call → State → State
@@ -107,7 +120,8 @@ callIn letter c = asked (savingIn letter c) (saidIn (c .line) .verb) (drop (said
 
 -- the desk after a line
 unfoldable pub afterLine : List ℕ → Desk → Came → Desk
-afterLine letter d c = afterCommand (savingIn letter c) d (saidIn (c .line) .verb) (drop (saidIn (c .line) .rest) (c .line))
+afterLine letter d c =
+    afterCommand (savingIn letter c) d (saidIn (c .line) .verb) (drop (saidIn (c .line) .rest) (c .line))
 
 -- the page and its buffers after some lines
 abbrev pub afterLines : List ℕ → State → List Came → State

@@ -1,0 +1,4 @@
+pub mod Found
+pub mod Law
+pub mod Cases
+pub mod Room
