@@ -1,17 +1,12 @@
--- A call that is handed on keeps its promise in numbers. Assumes nothing.
+-- A tally that is handed on keeps its promise in numbers. Assumes nothing.
 use Prim.Native.Nat.{ℕ}
-use mathlib.Core.Path.{_≡_, ap, _∙_}
+use mathlib.Core.Path.{_≡_}
 use mathlib.Core.List.{List}
-use Rattle.answer.specs.Answer.{Verdict, inNumbers}
-use Rattle.answer.specs.Output.{Outcome, leaves}
-use Rattle.answer.specs.declared.Answer.{Answer}
 use Rattle.jp2.specs.Tally.{Counts}
 use Rattle.host_numbers.specs.Numbers.{verdictIn}
-use Rattle.qalithonda.specs.Numbers.{left, counted}
 use Rattle.host_numbers.specs.declared.Numbers.{Numbers}
+use Rattle.qalithonda.specs.Numbers.{counted}
 
-pub handed-on : (r : Numbers) (a : Answer) {out : List ℕ} {x : Outcome} → verdictIn r ≡ inNumbers a → leaves a out ≡ x → left r out ≡ x
-handed-on r a {out = out} e q = ap (λ (v : Verdict). record { verdict = v; out = out }) e ∙ q
-
-pub counted-on : (r : Numbers) {counts : List ℕ} (x : Counts) → verdictIn r ≡ x .verdict → counts ≡ x .counts → counted r counts ≡ x
+pub counted-on :
+    (r : Numbers) {counts : List ℕ} (x : Counts) → verdictIn r ≡ x .verdict → counts ≡ x .counts → counted r counts ≡ x
 counted-on r x e q = λ i. record { verdict = e i; counts = q i }

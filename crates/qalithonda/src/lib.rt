@@ -14,7 +14,8 @@ ghost use Rattle.mailbox.specs.Rule.{mailbox};
 ghost use Rattle.jp2.specs.Rule.{jp2};
 ghost use Rattle.jp2.specs.Writing as jp2-writing;
 ghost use Rattle.jp2.specs.Tally.{tallyOf};
-ghost use Rattle.qalithonda.specs.Numbers.{left, counted};
+ghost use Rattle.host_numbers.specs.Numbers.{left};
+ghost use Rattle.qalithonda.specs.Numbers.{counted};
 
 #[no_mangle]
 pub extern "C" fn qalithonda_utf7_read(text: &[u8], cells: &mut [u32]) -> Numbers
