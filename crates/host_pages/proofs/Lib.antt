@@ -1,2 +1,3 @@
 pub mod OnPages
 pub mod Runs
+pub mod Sessions

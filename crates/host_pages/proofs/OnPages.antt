@@ -6,6 +6,8 @@ use lib.Dec.{eqb}
 use native.Mathlib.Omega.{arith}
 use borrow.Author.Tests.{lt-ltb, le-ltb, eqb-true}
 use Rattle.answer.specs.Answer.{inNumbers}
+use Rattle.answer.specs.Output as output
+use Rattle.answer.specs.declared.Answer.{Answer}
 use Rattle.answer.proofs.Below.{allBelow, below, cond-case}
 use Rattle.editor.specs.declared.Mark.{Mark}
 use Rattle.ledger.specs.Page.{State, stateOf, Outcome, keeps, replies}
@@ -13,11 +15,13 @@ use Rattle.ledger.specs.Calls.{unchangedOf}
 use Rattle.ledger.specs.declared.Asked.{Asked}
 use Rattle.ledger.specs.declared.Edited.{Edited}
 use Rattle.ledger.specs.declared.Page.{Page}
-use Rattle.host_numbers.specs.Numbers.{verdictIn}
+use Rattle.page_file.specs.Calls.{keepOf}
+use Rattle.host_numbers.specs.Numbers.{verdictIn, left}
 use Rattle.host_numbers.specs.declared.Numbers.{Numbers}
+use Rattle.host_numbers.proofs.HandedOn.{handed-on}
 use Rattle.host_pages.specs.Pages.{kindOf, kindNumber, never, markIn, markNumber, pageIn, hostPage}
 use Rattle.host_pages.specs.Pages.{HostOutcome, hosted, unsound, noKind, onPage, findsOutput}
-use Rattle.host_pages.specs.Pages.{HostReply, inReply, askedOn, hears}
+use Rattle.host_pages.specs.Pages.{HostReply, inReply, askedOn, hears, keptOn}
 use Rattle.host_pages.specs.declared.HostPage.{HostPage}
 use Rattle.host_pages.specs.declared.HostEdited.{HostEdited}
 use Rattle.host_pages.specs.declared.HostAsked.{HostAsked}
@@ -84,3 +88,18 @@ module _ (p : HostPage) (text history : List ℕ) where
   unfolding askedOn
   asked-found r a page h q w f =
       w ∙ ap inReply f ∙ rw (le-ltb 2 (p .kind) h, q)
+
+-- and keeping
+module _ (p : HostPage) (text history arrived out : List ℕ) where
+  pub none-kept :
+      (n : Numbers) → 2 < p .kind → verdictIn n ≡ unsound arrived text history →
+      left n out ≡ keptOn p text history arrived out
+  unfolding keptOn
+  none-kept n h e = rw (lt-ltb 2 (p .kind) h) (λ i. record { verdict = e i; out = out })
+
+  pub kept-found :
+      (n : Numbers) (a : Answer) (page : Page) (out' : List ℕ) → p .kind ≤ 2 → page ≡ pageIn p →
+      verdictIn n ≡ inNumbers a → output.leaves a out' ≡ keepOf (stateOf page text history) arrived out →
+      left n out' ≡ keptOn p text history arrived out
+  unfolding keptOn
+  kept-found n a page out' h q w f = handed-on n a w f ∙ rw (le-ltb 2 (p .kind) h, q)

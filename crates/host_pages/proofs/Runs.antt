@@ -29,10 +29,13 @@ use Rattle.ledger.proofs.Marks.{mark-parts}
 use Rattle.ledger.proofs.Lying.{Lies, page-lays}
 use Rattle.ledger.proofs.Opens.{begun, open-refused}
 use Rattle.ledger.proofs.Demand.{refused-same}
+use Rattle.page_file.specs.Calls.{keepOf, readOf}
+use Rattle.page_file.proofs.Again as again
 use Rattle.host_pages.specs.Pages.{kindOf, kindNumber, never, markIn, markNumber, pageIn, hostPage}
-use Rattle.host_pages.specs.Pages.{HostOutcome, hosted, onPage, inReply, askedOn}
+use Rattle.host_pages.specs.Pages.{HostOutcome, hosted, onPage, inReply, askedOn, keptOn}
 use Rattle.host_pages.specs.Runs.{HostState, hostState, leftBy, hostTaken, hostOutcome, hostAfter, hostHeard}
 use Rattle.host_pages.specs.Runs.{HostPromised, HostDemand3, hostRefusing, HostRefusedSame, HostOpenRefused}
+use Rattle.host_pages.specs.Runs.{HostReadRefused}
 use Rattle.host_pages.proofs.OnPages.{page-back}
 
 -- a kind has a number of its own, 0, 1 or 2
@@ -70,7 +73,7 @@ mark-used es m h =
     and-first within standing (and-first (within && standing) _ all)
 
 -- the mark of a page in which an editor lies
-mark-lies :
+pub mark-lies :
     {opening : ℕ} {s : State} {e : Editor} → Lies opening s e → markIn (markNumber (s .page .saved)) ≡ s .page .saved
 mark-lies {e = e} l =
     rw (l .state)
@@ -88,7 +91,13 @@ module _ (s : State) (own : markIn (markNumber (s .page .saved)) ≡ s .page .sa
   unfolding askedOn
   asked-own = rw (kind-few (s .page .kind), kind-there (s .page .kind), own)
 
-  host-call : (c : Call) → hostOutcome (hostState s) c ≡ hosted (outcomeOf s c)
+  pub kept-own :
+      (arrived out : List ℕ) →
+      keptOn (hostPage (s .page)) (s .text) (s .history) arrived out ≡ keepOf s arrived out
+  unfolding keptOn
+  kept-own arrived out = rw (kind-few (s .page .kind), kind-there (s .page .kind), own)
+
+  pub host-call : (c : Call) → hostOutcome (hostState s) c ≡ hosted (outcomeOf s c)
   host-call (replace place count cells) = on-own [] cells (λ x. replaceOf x place count cells)
   host-call undo = on-own [] [] undoOf
   host-call redo = on-own [] [] redoOf
@@ -115,7 +124,7 @@ module _ {arrived : List ℕ} where
       ∙ host-heard (kept-call page-lays k c) cs
 
   -- what is in hand
-  host-here : {s : State} {l : Ledger} → Kept page-lays arrived s l → HostPromised arrived (hostState s) l
+  pub host-here : {s : State} {l : Ledger} → Kept page-lays arrived s l → HostPromised arrived (hostState s) l
   host-here {s} {l} k =
       let p : Promised arrived s l = promised page-lays k in
       let own : markIn (markNumber (s .page .saved)) ≡ s .page .saved = mark-lies (k .lies) in
@@ -167,3 +176,11 @@ host-open-refused kind arrived text history t =
     λ i.
     hosted
     (record { verdict = openOf kind arrived text history .verdict; state = u .state i; output = u .output i })
+
+pub host-read-refused : HostReadRefused
+unfolding markNumber kindNumber
+host-read-refused arrived text history file t =
+    let u = again.calls .read-refused arrived text history file t in
+    λ i.
+    hosted
+    (record { verdict = readOf arrived text history file .verdict; state = u .state i; output = u .output i })

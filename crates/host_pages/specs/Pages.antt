@@ -5,6 +5,7 @@ use mathlib.Core.Bool.{cond, _||_}
 use mathlib.Core.List.{List, []}
 use lib.Dec.{ltb, eqb}
 use Rattle.answer.specs.Answer.{Verdict, numbered, tooLong}
+use Rattle.answer.specs.Output as output
 use Rattle.codec.specs.declared.Kind.{Kind}
 use Rattle.codec.specs.declared.Kind.the-variants.{Utf7Header, Utf7Body, Jp2}
 use Rattle.editor.specs.declared.Mark.{Mark}
@@ -12,6 +13,7 @@ use Rattle.editor.specs.declared.Mark.the-variants.{None, At}
 use Rattle.ledger.specs.Page.{State, stateOf, Outcome}
 use Rattle.ledger.specs.Calls.{over, Reply, unchangedOf}
 use Rattle.ledger.specs.declared.Page.{Page}
+use Rattle.page_file.specs.Calls.{keepOf}
 use Rattle.host_numbers.specs.Numbers.{verdictIn}
 use Rattle.host_pages.specs.declared.HostPage.{HostPage}
 use Rattle.host_pages.specs.declared.HostEdited.{HostEdited}
@@ -90,7 +92,8 @@ unfoldable pub onPage : HostPage → List ℕ → List ℕ → List ℕ → List
 onPage p text history output list call =
     cond (ltb 2 (p .kind)) (noKind p text history output list) (hosted (call (stateOf (pageIn p) text history)))
 
--- what a host is given by save or squeeze, and finds in its buffers; the output is save's, or squeeze's work buffer
+-- what a host is given by save, squeeze or read, and finds in its buffers; the output is save's, or squeeze's work
+-- buffer, or read's buffer for the arrived bytes
 abbrev pub findsOutput : HostEdited → List ℕ → List ℕ → List ℕ → HostOutcome
 findsOutput r text history out =
     record { verdict = verdictIn (r .answer); page = r .page; text = text; history = history; output = out }
@@ -116,3 +119,9 @@ askedOn p text history =
 -- what a host is given by the question
 abbrev pub hears : HostAsked → HostReply
 hears r = record { verdict = verdictIn (r .answer); unchanged = r .unchanged }
+
+-- keeping a page that came from a host: nothing but the output is changed
+unfoldable pub keptOn : HostPage → List ℕ → List ℕ → List ℕ → List ℕ → output.Outcome
+keptOn p text history arrived out =
+    cond (ltb 2 (p .kind)) (output.refusing (unsound arrived text history) out)
+    (keepOf (stateOf (pageIn p) text history) arrived out)

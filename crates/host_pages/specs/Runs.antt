@@ -6,12 +6,14 @@ use mathlib.Core.List.{List, [], _∷_}
 use lib.Dec.{eqb}
 use Rattle.answer.specs.Answer.{Verdict, numbered}
 use Rattle.codec.specs.declared.Kind.{Kind}
+use Rattle.codec.specs.declared.Kind.the-variants.{Utf7Header}
 use Rattle.editor.specs.Editor.{outputOf}
 use Rattle.ledger.specs.Page.{State}
 use Rattle.ledger.specs.Calls.{openOf, replaceOf, undoOf, redoOf, saveOf, squeezeOf}
 use Rattle.ledger.specs.Words.{inWords}
 use Rattle.ledger.specs.Ledger.{Ledger, Call, replace, undo, redo, save, squeeze, opened, fed, unchangedBy}
 use Rattle.ledger.specs.Demand.{Promised}
+use Rattle.page_file.specs.Calls.{readOf}
 use Rattle.host_pages.specs.Pages.{kindNumber, never, markIn, hostPage, HostOutcome, hosted, onPage, askedOn}
 use Rattle.host_pages.specs.declared.HostPage.{HostPage}
 
@@ -89,3 +91,11 @@ HostOpenRefused =
     hosted (openOf kind arrived text history)
     ≡ hostRefusing (record { page = hostNoPage kind; text = text; history = history }) []
     (openOf kind arrived text history .verdict)
+
+-- "Refused, the page is utf7h, zeros, none."
+abbrev pub HostReadRefused : Type 0
+HostReadRefused =
+    (arrived text history file : List ℕ) → hostTaken (hosted (readOf arrived text history file)) ≡ false →
+    hosted (readOf arrived text history file)
+    ≡ hostRefusing (record { page = hostNoPage Utf7Header; text = text; history = history }) arrived
+    (readOf arrived text history file .verdict)

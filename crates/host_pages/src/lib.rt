@@ -1,4 +1,4 @@
-// The page for hosts: its six calls and the question, with the kind and the mark as numbers.
+// The page for hosts: its six calls, the question and the page file, with the kind and the mark as numbers.
 use answer::Answer;
 use answer::Refusal;
 use codec::Kind;
@@ -15,9 +15,10 @@ ghost use mathlib.Core.List.{[]};
 ghost use Rattle.answer.specs.Answer.{inNumbers, numbered, limit, tooLong};
 ghost use Rattle.ledger.specs.Page.{replies};
 ghost use Rattle.ledger.specs.Calls.{openOf, replaceOf, undoOf, redoOf, saveOf, squeezeOf};
-ghost use Rattle.host_numbers.specs.Numbers.{verdictIn};
+ghost use Rattle.page_file.specs.Calls.{readOf};
+ghost use Rattle.host_numbers.specs.Numbers.{verdictIn, left};
 ghost use Rattle.host_pages.specs.Pages.{kindOf, kindNumber, markIn, markNumber, pageIn, hostPage};
-ghost use Rattle.host_pages.specs.Pages.{hosted, onPage, finds, findsOutput, inReply, askedOn, hears};
+ghost use Rattle.host_pages.specs.Pages.{hosted, onPage, finds, findsOutput, inReply, askedOn, hears, keptOn};
 
 // The number of no mark: C's SIZE_MAX.
 pub const NEVER: usize = 18446744073709551615;
@@ -33,7 +34,7 @@ pub struct HostPage {
     pub saved: usize,
 }
 
-// What open, replace, undo, redo, save and squeeze give back.
+// What open, replace, undo, redo, save, squeeze and read give back.
 #[repr(C)]
 pub struct HostEdited {
     pub answer: Numbers,
@@ -255,4 +256,23 @@ pub fn unchanged(p: HostPage, text: &[u32], history: &[u32]) -> HostAsked
         };
     }
     asked(page::unchanged(page_in(p), text, history))
+}
+
+// Puts the page's file into the output, and changes nothing else.
+pub fn keep(p: HostPage, text: &[u32], history: &[u32], arrived: &[u8], out: &mut [u8]) -> Numbers
+    ensures { λ r. ⌜ left r (now (out .exit))
+        ≡ keptOn p (now (text .entry)) (now (history .entry)) (now (arrived .entry)) (now (out .entry)) ⌝ }
+{
+    if 2 < p.kind {
+        return no_kind(arrived.len(), text.len(), history.len());
+    }
+    in_numbers(page_keep::keep(page_in(p), text, history, arrived, out))
+}
+
+// A page file may have any length: 16 looks at the three buffers.
+pub fn read(file: &[u8], arrived: &mut [u8], text: &mut [u32], history: &mut [u32]) -> HostEdited
+    ensures { λ r. ⌜ findsOutput r (now (text .exit)) (now (history .exit)) (now (arrived .exit))
+        ≡ hosted (readOf (now (arrived .entry)) (now (text .entry)) (now (history .entry)) (now (file .entry))) ⌝ }
+{
+    edited(page_read::read(file, arrived, text, history))
 }

@@ -1,5 +1,6 @@
-// The page for hosts: its six calls and the question, with the kind and the mark as numbers.
+// The page for hosts: its six calls, the question and the page file, with the kind and the mark as numbers.
 use codec::Kind;
+use host_numbers::Numbers;
 use host_pages::HostAsked;
 use host_pages::HostEdited;
 use host_pages::HostPage;
@@ -7,7 +8,9 @@ ghost use mathlib.Core.Path.{_≡_};
 ghost use mathlib.Core.List.{[]};
 ghost use Rattle.ledger.specs.Calls.{openOf, replaceOf, undoOf, redoOf, saveOf, squeezeOf};
 ghost use Rattle.codec.specs.declared.Kind.the-variants.{Utf7Header, Utf7Body, Jp2};
-ghost use Rattle.host_pages.specs.Pages.{hosted, onPage, finds, findsOutput, askedOn, hears};
+ghost use Rattle.page_file.specs.Calls.{readOf};
+ghost use Rattle.host_numbers.specs.Numbers.{left};
+ghost use Rattle.host_pages.specs.Pages.{hosted, onPage, finds, findsOutput, askedOn, hears, keptOn};
 
 #[no_mangle]
 pub extern "C" fn qalithonda_utf7_header_open(
@@ -112,4 +115,31 @@ pub extern "C" fn qalithonda_unchanged(p: HostPage, text: &[u32], history: &[u32
     ensures { λ r. ⌜ hears r ≡ askedOn p (now (text .entry)) (now (history .entry)) ⌝ }
 {
     host_pages::unchanged(p, text, history)
+}
+
+#[no_mangle]
+pub extern "C" fn qalithonda_page_keep(
+    p: HostPage,
+    text: &[u32],
+    history: &[u32],
+    arrived: &[u8],
+    out: &mut [u8],
+) -> Numbers
+    ensures { λ r. ⌜ left r (now (out .exit))
+        ≡ keptOn p (now (text .entry)) (now (history .entry)) (now (arrived .entry)) (now (out .entry)) ⌝ }
+{
+    host_pages::keep(p, text, history, arrived, out)
+}
+
+#[no_mangle]
+pub extern "C" fn qalithonda_page_read(
+    file: &[u8],
+    arrived: &mut [u8],
+    text: &mut [u32],
+    history: &mut [u32],
+) -> HostEdited
+    ensures { λ r. ⌜ findsOutput r (now (text .exit)) (now (history .exit)) (now (arrived .exit))
+        ≡ hosted (readOf (now (arrived .entry)) (now (text .entry)) (now (history .entry)) (now (file .entry))) ⌝ }
+{
+    host_pages::read(file, arrived, text, history)
 }
