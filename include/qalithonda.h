@@ -2,8 +2,8 @@
  * Qalithonda: the text part of a journal program.
  *
  * It reads and writes UTF-7 (RFC 2152), ISO-2022-JP-2 (RFC 1554, "JP-2") and mailbox names of IMAP
- * (RFC 3501, section 5.1.3), steps through a text cell by cell, and keeps an editable page with
- * undo and redo. Link with libqalithonda.a or libqalithonda.so.
+ * (RFC 3501, section 5.1.3), steps through a text cell by cell, and has an editable page with undo
+ * and redo, which a file can keep. Link with libqalithonda.a or libqalithonda.so.
  *
  * Cells. A text is read to cells, which are 32-bit numbers. A cell of UTF-7 or of a mailbox name is
  * a UTF-16 unit, 0 to 65535; half a surrogate pair is a unit like any other. A JP-2 cell is its
@@ -15,8 +15,9 @@
  * that are looked for first in front. In reading, the fault at the earliest place decides.
  *
  * What a call leaves. A refused call changes no buffer (only a tally's nine counts become zeros).
- * An accepted read, write or save fills the first `count` elements of its output and no others, a
- * squeeze the first elements of its work buffer.
+ * An accepted read, write, save or keep fills the first `count` elements of its output and no
+ * others, a squeeze the first elements of its work buffer. Reading a page file fills all three of
+ * its buffers to their ends.
  *
  * What the caller owes. A length is a number of elements, not of bytes.
  *   - Every pointer is valid for its length, aligned for its type, and not null, not even for a
@@ -39,8 +40,8 @@
 extern "C" {
 #endif
 
-/* The most elements that a lent text or list, a text buffer or a history may have. An output or a
-   work buffer may have more. */
+/* The most elements that a lent text or list, a text buffer or a history may have. An output, a
+   work buffer or a page file may have more. */
 #define QALITHONDA_LIMIT 65536
 
 /* The numbers, each with the place that is given with it. */
@@ -67,7 +68,8 @@ enum qalithonda_number {
     QALITHONDA_HISTORY_FULL = 12,   /* record does not fit the history: the words needed in all */
     QALITHONDA_NOTHING_LEFT = 13,   /* nothing to undo or redo: 0 */
     QALITHONDA_UNSOUND = 14,        /* page not sound: 0 */
-    QALITHONDA_NOT_THE_TEXT = 15,   /* arrived bytes do not read as the text: 0 */
+    QALITHONDA_NOT_THE_TEXT = 15,   /* arrived bytes do not read as the text, or in a page file as
+                                       so many cells as the page was opened with: 0 */
     QALITHONDA_OVER_LIMIT = 16,     /* more than 65,536 elements lent: 65,536 */
     QALITHONDA_NEEDLESS_SHIFT = 17, /* needless shift in a mailbox name. A unit of 32 to 126 in a
                                        run: the letter that completes it. A run directly after a
@@ -304,9 +306,9 @@ typedef struct {
                         QALITHONDA_NEVER_SAVED, no mark */
 } qalithonda_page;
 
-/* What open, replace, undo, redo, save and squeeze give back. Refused, an open gives the kind with
-   four zeros and no mark (QALITHONDA_NEVER_SAVED), which is no page to go on with; the others give
-   the page that was handed in. */
+/* What open, replace, undo, redo, save, squeeze and page_read give back. Refused, an open gives the
+   kind, and page_read QALITHONDA_UTF7_HEADER, with four zeros and no mark (QALITHONDA_NEVER_SAVED),
+   which is no page to go on with; the others give the page that was handed in. */
 typedef struct {
     qalithonda_numbers answer;
     qalithonda_page page;
@@ -409,6 +411,65 @@ qalithonda_edited qalithonda_squeeze(qalithonda_page page, size_t steps,
 qalithonda_asked qalithonda_unchanged(qalithonda_page page,
                                       const uint32_t *text, size_t text_len,
                                       const uint32_t *history, size_t history_len);
+
+
+/* ---- Page files ----
+ *
+ * A page can be kept whole in a file, with its steps, undone ones too, its mark and the bytes that
+ * it was opened on. Read back, it goes on as it was when it was kept: undo and redo, the question
+ * and save give what they would have given then.
+ *
+ * A page file is text of ten lines, and the same bytes on every kind of machine. One page with its
+ * arrived bytes has one file. That of "A+ImIDkQ." with one cell replaced, not saved since:
+ *
+ *     form=1
+ *     kind=utf7b
+ *     opening=00004
+ *     length=00004
+ *     used=00005
+ *     done=00005
+ *     saved=00000
+ *     arrived=412B496D49446B512E
+ *     text=000000410000003D000003910000002E
+ *     history=000000010000000100000001000022620000003D
+ *
+ * A file that no keeping made is safe to read: it is refused, or it is that of a sound page and is
+ * taken for what it says.
+ */
+
+/*
+ * Puts the page's file into `out`. `arrived` are the bytes that the page was opened on, or that
+ * `qalithonda_page_read` gave back. Neither the page nor its mark is changed: to keep a page is not
+ * to save the letter.
+ *
+ * The bytes that the file needs are told by 9, so ask first with an out_len of 0. Room for
+ * 2 * arrived_len + 8 * (length + used) + 103 bytes is always enough.
+ * Accepted: the count of bytes, which are in `out`.
+ * Refused: 16 (text, history, arrived); 14; 15; 9 (out).
+ */
+qalithonda_numbers qalithonda_page_keep(qalithonda_page page,
+                                        const uint32_t *text, size_t text_len,
+                                        const uint32_t *history, size_t history_len,
+                                        const uint8_t *arrived, size_t arrived_len,
+                                        uint8_t *out, size_t out_len);
+
+/*
+ * Reads a page file. `text` and `history` are the page's buffers from then on; the first `count`
+ * bytes of `arrived` are those that the page was opened on, for `save` and the next keeping. What
+ * is past the ends becomes 0 in all three.
+ *
+ * The buffers need not be as long as those that the page was kept from: the text buffer's length is
+ * again the most cells that the text can grow to. 65,536 elements are always enough, and for
+ * `arrived` half of file_len too.
+ * Accepted: the count of arrived bytes.
+ * Refused: 16 (arrived, text, history; the file may be longer); 18; 9 (the first of arrived, text
+ * and history that lacks room); 14 (also if the text buffer is too short for the text as it was
+ * opened, or as it was between two steps); 15.
+ */
+qalithonda_edited qalithonda_page_read(const uint8_t *file, size_t file_len,
+                                       uint8_t *arrived, size_t arrived_len,
+                                       uint32_t *text, size_t text_len,
+                                       uint32_t *history, size_t history_len);
 
 #ifdef __cplusplus
 }
