@@ -46,12 +46,15 @@ class Refusal(enum.IntEnum):
     BEYOND_LENGTH = 11
     HISTORY_FULL = 12  #: the step does not fit the history: the words needed in all
     NOTHING_LEFT = 13  #: nothing to undo or redo: 0
-    UNSOUND = 14  #: the page is not sound: 0 (a Page always is)
-    NOT_THE_TEXT = 15  #: the arrived bytes do not read as the text: 0 (those of a Page always do)
+    UNSOUND = 14  #: the page of a page file is not sound, or does not fit the room for text: 0 (a Page is always sound)
+    #: the arrived bytes of a page file do not read as the text, or as so many cells as the page was opened with: 0
+    #: (those of a Page that was opened always do)
+    NOT_THE_TEXT = 15
     OVER_LIMIT = 16  #: more than LIMIT elements: that limit
     #: a needless shift in a mailbox name. A unit of 32 to 126 in a run: the letter that completes it. A run directly
     #: after a run: its first letter. Six or more left-over bits, all zero: the '-' that closes the run.
     NEEDLESS_SHIFT = 17
+    BAD_PAGE_FILE = 18  #: a bad page file: the first byte that no page file can have there, or its length
     NO_GAIN = 19  #: squeezed, the history would not become shorter: 0
 
 
@@ -73,6 +76,7 @@ _MESSAGES = {
     Refusal.NOT_THE_TEXT: "the arrived bytes do not read as the text",
     Refusal.OVER_LIMIT: "there are more than {} elements",
     Refusal.NEEDLESS_SHIFT: "there is a needless shift, noticed at {}",
+    Refusal.BAD_PAGE_FILE: "it is no page file, as is seen at {}",
     Refusal.NO_GAIN: "squeezed, the history would not become shorter",
 }
 
@@ -235,6 +239,8 @@ _redo = _function("redo", _Edited, _Page, *_WORDS, *_WORDS)
 _save = _function("save", _Edited, _Page, *_WORDS, *_WORDS, *_BYTES, *_OUT)
 _squeeze = _function("squeeze", _Edited, _Page, _Size, *_WORDS, *_WORDS, *_WORDS)
 _unchanged = _function("unchanged", _Asked, _Page, *_WORDS, *_WORDS)
+_page_keep = _function("page_keep", _Numbers, _Page, *_WORDS, *_WORDS, *_BYTES, *_OUT)
+_page_read = _function("page_read", _Edited, *_BYTES, *_OUT, *_WORDS, *_WORDS)
 
 
 # From Python to C and back. ctypes would cut a number that is too large down without a word, so none gets there.
@@ -452,7 +458,8 @@ _OPEN = {Kind.UTF7_HEADER: _utf7_header_open, Kind.UTF7_BODY: _utf7_body_open, K
 
 
 class Page:
-    """A letter that can be edited, undone, redone and saved. It is for one thread at a time.
+    """A letter that can be edited, undone, redone and saved, and kept in a file to go on with another day. It is for
+    one thread at a time.
 
     >>> page = Page.open(Kind.UTF7_BODY, b"A+ImIDkQ.", 100, 100)
     >>> page.replace(1, 1, [0x3D])
@@ -467,11 +474,8 @@ class Page:
 
     def __init__(self, kind: Kind, arrived: bytes, text_room: int, history_room: int) -> None:
         self._arrived = _bytes(arrived)
-        # One element over the limit is enough to be refused, so no more than that is allocated.
-        self._text = (_Word * min(_size(text_room), LIMIT + 1))()
-        self._history = (_Word * min(_size(history_room), LIMIT + 1))()
-        self._numbers = _Page()
-        self._keep(_OPEN[Kind(kind)](self._arrived, len(self._arrived), *self._buffers()))
+        self._lend(text_room, history_room)
+        self._take(_OPEN[Kind(kind)](self._arrived, len(self._arrived), *self._buffers()))
 
     @classmethod
     def open(cls, kind: Kind, arrived: bytes, text_room: int, history_room: int) -> "Page":
@@ -484,6 +488,27 @@ class Page:
         """
         return cls(kind, arrived, text_room, history_room)
 
+    @classmethod
+    def read(cls, file: bytes, text_room: int, history_room: int) -> "Page":
+        """Reads a page that was kept (`keep`): it goes on as it was then, undo and redo too. The rooms are those of
+        `open`, and need not be as they were.
+
+        Refused with 16, 18, 9 (text_room, or else history_room, is too small), 14 (also if the text was longer than
+        text_room when it was opened or between two steps) or 15. Of a file that `keep` gave, only with 16, or for too
+        little room.
+
+        A file that was made in another way may say what no editing leads to. If it is accepted, the page is sound, but
+        saving and keeping may be refused with 15 or 10.
+        """
+        file = _bytes(file)
+        page = cls.__new__(cls)
+        page._lend(text_room, history_room)
+        # A file has two digits for each arrived byte.
+        arrived = (_Byte * min(len(file) // 2, LIMIT))()
+        count = page._take(_page_read(file, len(file), arrived, len(arrived), *page._buffers()))
+        page._arrived = bytes(arrived[:count])
+        return page
+
     def replace(self, place: int, count: int, cells: Iterable[int]) -> int:
         """Puts cells in the place of the count cells from place on, and gives the new length. Steps that could be
         redone are dropped, and the mark with them if it is among them.
@@ -491,17 +516,17 @@ class Page:
         Refused with 16, 11, 10 (an index in cells), 9 (the new length) or 12.
         """
         cells = _words(cells)
-        return self._keep(
+        return self._take(
             _replace(self._numbers, _size(place), _size(count), cells, len(cells), *self._buffers())
         )
 
     def undo(self) -> int:
         """Takes the last standing step back, and gives the new length. Refused with 13."""
-        return self._keep(_undo(self._numbers, *self._buffers()))
+        return self._take(_undo(self._numbers, *self._buffers()))
 
     def redo(self) -> int:
         """Does the next undone step again, and gives the new length. Refused with 13."""
-        return self._keep(_redo(self._numbers, *self._buffers()))
+        return self._take(_redo(self._numbers, *self._buffers()))
 
     def save(self) -> bytes:
         """The letter's bytes: those that arrived if no step stands, otherwise the text written in the page's kind. The
@@ -562,7 +587,26 @@ class Page:
         """
         # Where there is a gain, the new step is shorter than those that stand.
         work = (_Word * self.done)()
-        return self._keep(_squeeze(self._numbers, _size(steps), *self._buffers(), work, len(work)))
+        return self._take(_squeeze(self._numbers, _size(steps), *self._buffers(), work, len(work)))
+
+    def keep(self) -> bytes:
+        """The page's file, to read it back another day (`read`): the whole page, with its steps, undone ones too, its
+        mark and the bytes that arrived. It is the same bytes on every kind of machine, and one page has one file.
+        Keeping changes nothing: it is not saving.
+
+        >>> page = Page.open(Kind.UTF7_BODY, b"A+ImIDkQ.", 100, 100)
+        >>> page.replace(1, 1, [0x3D])
+        4
+        >>> page = Page.read(page.keep(), 100, 100)
+        >>> page.save()
+        b'A=+A5E-.'
+        >>> page.undo()
+        4
+        >>> page.save()
+        b'A+ImIDkQ.'
+        """
+        lent = (self._numbers, *self._buffers(), self._arrived, len(self._arrived))
+        return bytes(_filled(_Byte, lambda out, room: _page_keep(*lent, out, room)))
 
     @property
     def unchanged(self) -> bool:
@@ -618,10 +662,16 @@ class Page:
         ones. It is unchanged if this is what is done."""
         return None if self._numbers.saved == _NEVER_SAVED else self._numbers.saved
 
+    def _lend(self, text_room: int, history_room: int) -> None:
+        # One element over the limit is enough to be refused, so no more than that is allocated.
+        self._text = (_Word * min(_size(text_room), LIMIT + 1))()
+        self._history = (_Word * min(_size(history_room), LIMIT + 1))()
+        self._numbers = _Page()
+
     def _buffers(self):
         return self._text, len(self._text), self._history, len(self._history)
 
-    def _keep(self, edited: _Edited) -> int:
+    def _take(self, edited: _Edited) -> int:
         """A refused call gives the page back as it was."""
         self._numbers = edited.page
         return _accepted(edited.answer)

@@ -18,6 +18,18 @@ HEADER, BODY = utf7.Style.HEADER, utf7.Style.BODY
 P2 = b"A+ImIDkQ."
 P2_CELLS = [0x41, 0x2262, 0x391, 0x2E]
 P9 = b'\x1b$B$"\x1b(B'
+#: The file of the worked page.
+KEPT = b"""form=1
+kind=utf7b
+opening=00004
+length=00004
+used=00005
+done=00005
+saved=00000
+arrived=412B496D49446B512E
+text=000000410000003D000003910000002E
+history=000000010000000100000001000022620000003D
+"""
 NAME = b"~peter/mail/&U,BTFw-/&ZeVnLIqe-"
 
 
@@ -325,6 +337,76 @@ class Pages(Case):
         page.replace(0, 1, [])
         self.assertEqual(page.squeeze(4), 9)
 
+    def test_a_page_is_kept_and_goes_on(self):
+        page = Page.open(Kind.UTF7_BODY, P2, 5, 6)
+        page.replace(1, 1, [0x3D])
+        self.assertEqual((page.keep(), page.saved, page.unchanged), (KEPT, 0, False))
+        page = Page.read(KEPT, 5, 6)
+        self.assertEqual((page.kind, page.arrived, page.saved), (Kind.UTF7_BODY, P2, 0))
+        self.assertEqual((page.text(), page.history()), ([0x41, 0x3D, 0x391, 0x2E], [1, 1, 1, 0x2262, 0x3D]))
+        self.assertEqual((self.numbers(page), page.unchanged, page.keep()), ((4, 4, 5, 5), False, KEPT))
+        page.save()
+        page.undo()
+        # The steps that can be redone and the mark are kept too.
+        page = Page.read(bytearray(page.keep()), 5, 6)
+        self.assertEqual((self.numbers(page), page.saved, page.text()), ((4, 4, 5, 0), 5, P2_CELLS))
+        self.assertEqual((page.redo(), page.unchanged), (4, True))
+        page.undo()
+        page.replace(0, 1, [])
+        page = Page.read(page.keep(), 5, 6)
+        self.assertEqual((page.saved, page.unchanged), (None, False))
+
+    def test_a_page_of_each_kind_is_kept(self):
+        for kind, arrived in ((Kind.UTF7_HEADER, P2), (Kind.UTF7_BODY, b""), (Kind.JP2, P9)):
+            page = Page.open(kind, arrived, 9, 9)
+            read = Page.read(page.keep(), 9, 9)
+            self.assertEqual((read.kind, read.arrived, read.text()), (kind, arrived, page.text()))
+            self.assertEqual((self.numbers(read), read.saved), (self.numbers(page), 0))
+
+    def test_a_kept_page_is_read_into_other_rooms(self):
+        page = Page.read(KEPT, LIMIT, LIMIT)
+        self.assertEqual((page.replace(0, 0, [0x41]), page.undo()), (5, 4))
+        file = page.keep()
+        self.refused(14, 0, Page.read, file, 4, 9)
+        self.assertEqual(self.numbers(Page.read(file, 5, 9)), (4, 4, 9, 5))
+        self.refused(9, 4, Page.read, file, 3, 8)
+        self.refused(9, 9, Page.read, file, 5, 8)
+        for room in (LIMIT + 1, 2**64 - 1):
+            self.refused(16, LIMIT, Page.read, file, room, 9)
+            self.refused(16, LIMIT, Page.read, b"", 9, room)
+        for room in (-1, 2**64):
+            with self.assertRaises(OverflowError):
+                Page.read(file, room, 9)
+        full = Page.open(Kind.UTF7_BODY, b"A" * LIMIT, LIMIT, LIMIT).keep()
+        self.assertEqual((len(full), Page.read(full, LIMIT, 0).arrived), (10 * LIMIT + 103, b"A" * LIMIT))
+
+    def test_what_is_no_page_file_is_refused(self):
+        for end in range(len(KEPT)):
+            self.refused(18, end, Page.read, KEPT[:end], 9, 9)
+        self.refused(18, len(KEPT), Page.read, KEPT + b"\n", 9, 9)
+        changes = (
+            (b"form=1", b"form=2", 5),
+            (b"kind=utf7b", b"kind=utf7x", 9),
+            (b"opening=00004", b"opening=65537", 12),
+            (b"length=00004", b"length=4", 8),
+            (b"saved=00000", b"saved=never", 7),
+            (b"arrived=412B", b"arrived=412b", 11),
+            (b"arrived=41", b"arrived=41 ", 10),
+            (b"000003910000002E\n", b"00000391\n", 8),
+        )
+        for old, new, at in changes:
+            self.refused(18, KEPT.index(old) + at, Page.read, KEPT.replace(old, new, 1), 9, 9)
+
+    def test_a_page_file_is_judged(self):
+        self.refused(14, 0, Page.read, KEPT.replace(b"done=00005", b"done=00004"), 9, 9)
+        self.refused(14, 0, Page.read, KEPT.replace(b"saved=00000", b"saved=00001"), 9, 9)
+        self.refused(15, 0, Page.read, KEPT.replace(b"412B496D49446B512E", b"41"), 9, 9)
+        # With a step standing the text is not judged. Undone, it is not what the arrived bytes read as.
+        page = Page.read(KEPT.replace(b"text=00000041", b"text=00000042"), 9, 9)
+        self.assertEqual(page.undo(), 4)
+        self.refused(15, 0, page.save)
+        self.refused(15, 0, page.keep)
+
     def test_four_words_of_history(self):
         page = Page.open(Kind.UTF7_BODY, P2, 5, 4)
         self.refused(12, 5, page.replace, 1, 1, [0x3D])
@@ -391,11 +473,12 @@ class Pages(Case):
 
     def follow(self, kind, read, cells, rng):
         """Every text so far is kept, with the words of the step that led to each; undo and redo go to and fro between
-        them, a squeeze forgets those that it folds, and one of them may be the saved one."""
+        them, a squeeze forgets those that it folds, and one of them may be the saved one. Kept and read back, nothing
+        is changed."""
         page = Page.open(kind, P2, 12, 60)
         texts, words, now, saved = [page.text()], [0], 0, 0
         for _ in range(100):
-            call = rng.choice(("undo", "redo", "save", "squeeze", "replace", "replace", "replace"))
+            call = rng.choice(("undo", "redo", "save", "keep", "squeeze", "replace", "replace", "replace"))
             if call == "replace":
                 place, count, added = rng.randrange(14), rng.randrange(4), rng.choices(cells, k=rng.randrange(4))
                 try:
@@ -410,6 +493,10 @@ class Pages(Case):
             elif call == "save":
                 self.assertEqual(read(page.save()), texts[now])
                 saved = now
+            elif call == "keep":
+                file = page.keep()
+                page = Page.read(file, 12, 60)
+                self.assertEqual(page.keep(), file)
             elif call == "squeeze":
                 steps = rng.randrange(7)
                 if not 2 <= steps <= now:
@@ -435,7 +522,7 @@ class Pages(Case):
 
 class Refusals(Case):
     def test_each_number_has_its_name_and_message(self):
-        self.assertEqual([refusal.value for refusal in Refusal], [*range(1, 18), 19])
+        self.assertEqual([refusal.value for refusal in Refusal], [*range(1, 20)])
         for refusal in Refusal:
             message = str(Refused(int(refusal), 12))
             self.assertTrue(message.startswith("refused with {}: ".format(int(refusal))), message)

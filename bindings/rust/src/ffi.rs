@@ -208,6 +208,27 @@ extern "C" {
         history: *const u32,
         history_len: usize,
     ) -> Asked;
+    pub fn qalithonda_page_keep(
+        page: Page,
+        text: *const u32,
+        text_len: usize,
+        history: *const u32,
+        history_len: usize,
+        arrived: *const u8,
+        arrived_len: usize,
+        out: *mut u8,
+        out_len: usize,
+    ) -> Numbers;
+    pub fn qalithonda_page_read(
+        file: *const u8,
+        file_len: usize,
+        arrived: *mut u8,
+        arrived_len: usize,
+        text: *mut u32,
+        text_len: usize,
+        history: *mut u32,
+        history_len: usize,
+    ) -> Edited;
 }
 
 #[cfg(test)]

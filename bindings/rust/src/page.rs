@@ -11,7 +11,7 @@ pub enum Kind {
     Jp2,
 }
 
-/// A letter that can be edited, undone, redone and saved.
+/// A letter that can be edited, undone, redone and saved, and kept in a file to go on with another day.
 ///
 /// It owns its text, its history and the bytes that arrived. A refused call changes nothing.
 ///
@@ -69,6 +69,45 @@ impl Page {
         Ok(Page { kind, numbers: edited.page, text, history, arrived })
     }
 
+    /// Reads a page that was [kept](Page::keep): it goes on as it was then, undo and redo too. The rooms are those of
+    /// [`open`](Page::open), and need not be as they were.
+    ///
+    /// Refused with [`OverLimit`], with [`BadPageFile`], with [`NoRoom`] if `text_room`, or else `history_room`, is too
+    /// small, with [`Unsound`], also if the text was longer than `text_room` when it was opened or between two steps,
+    /// or with [`NotTheText`]. Of a file that [`keep`](Page::keep) gave, only with [`OverLimit`], or for too little
+    /// room.
+    ///
+    /// A file that was made in another way may say what no editing leads to. If it is accepted, the page is sound, but
+    /// saving and keeping may be refused with [`NotTheText`] or [`Unwritable`].
+    ///
+    /// [`OverLimit`]: crate::Refusal::OverLimit
+    /// [`BadPageFile`]: crate::Refusal::BadPageFile
+    /// [`NoRoom`]: crate::Refusal::NoRoom
+    /// [`Unsound`]: crate::Refusal::Unsound
+    /// [`NotTheText`]: crate::Refusal::NotTheText
+    /// [`Unwritable`]: crate::Refusal::Unwritable
+    pub fn read(file: &[u8], text_room: usize, history_room: usize) -> Result<Page, Refused> {
+        // A file has two digits for each arrived byte.
+        let mut arrived = vec![0; LIMIT.min(file.len() / 2)];
+        let (mut text, mut history) = (buffer(text_room), buffer(history_room));
+        // SAFETY: each pointer comes with the length of its slice or vector.
+        let edited = unsafe {
+            ffi::qalithonda_page_read(
+                file.as_ptr(),
+                file.len(),
+                arrived.as_mut_ptr(),
+                arrived.len(),
+                text.as_mut_ptr(),
+                text.len(),
+                history.as_mut_ptr(),
+                history.len(),
+            )
+        };
+        arrived.truncate(edited.answer.answer()?);
+        let kind = [Kind::Utf7Header, Kind::Utf7Body, Kind::Jp2][edited.page.kind as usize];
+        Ok(Page { kind, numbers: edited.page, text, history, arrived })
+    }
+
     /// Puts `cells` in the place of the `count` cells from `place` on, and gives the new length. Steps that could be
     /// redone are dropped, and the mark with them if it is among them.
     ///
@@ -95,7 +134,7 @@ impl Page {
                 self.history.len(),
             )
         };
-        self.keep(edited)
+        self.take(edited)
     }
 
     /// Takes the last standing step back, and gives the new length. Refused with [`NothingLeft`].
@@ -107,7 +146,7 @@ impl Page {
         let edited = unsafe {
             ffi::qalithonda_undo(self.numbers, text.as_mut_ptr(), text.len(), history.as_ptr(), history.len())
         };
-        self.keep(edited)
+        self.take(edited)
     }
 
     /// Does the next undone step again, and gives the new length. Refused with [`NothingLeft`].
@@ -119,7 +158,7 @@ impl Page {
         let edited = unsafe {
             ffi::qalithonda_redo(self.numbers, text.as_mut_ptr(), text.len(), history.as_ptr(), history.len())
         };
-        self.keep(edited)
+        self.take(edited)
     }
 
     /// Fills the first elements of `out` with the letter's bytes, and gives their count: the bytes that arrived if no
@@ -132,7 +171,7 @@ impl Page {
     /// [`NoRoom`]: crate::Refusal::NoRoom
     pub fn save(&mut self, out: &mut [u8]) -> Result<usize, Refused> {
         let edited = self.saved_in(out);
-        self.keep(edited)
+        self.take(edited)
     }
 
     /// The letter's bytes, as [`save`](Page::save) gives them, in a vector of exactly their number.
@@ -211,7 +250,45 @@ impl Page {
                 work.len(),
             )
         };
-        self.keep(edited)
+        self.take(edited)
+    }
+
+    /// The page's file, to [read](Page::read) it back another day: the whole page, with its steps, undone ones too, its
+    /// mark and the bytes that arrived. It is the same bytes on every kind of machine, and one page has one file.
+    /// Keeping changes nothing: it is not saving.
+    ///
+    /// ```
+    /// use qalithonda::{Kind, Page};
+    ///
+    /// let mut page = Page::open(Kind::Utf7Body, b"A+ImIDkQ.", 100, 100)?;
+    /// page.replace(1, 1, &[0x3D])?;
+    /// let file = page.keep()?;
+    ///
+    /// let mut page = Page::read(&file, 100, 100)?;
+    /// assert_eq!(page.text(), [0x41, 0x3D, 0x391, 0x2E]);
+    /// page.undo()?;
+    /// assert_eq!(page.save_to_vec()?, b"A+ImIDkQ.");
+    /// # Ok::<(), qalithonda::Refused>(())
+    /// ```
+    pub fn keep(&self) -> Result<Vec<u8>, Refused> {
+        let (text, history, arrived) = (&self.text, &self.history, &self.arrived);
+        room::filled(|out: &mut [u8]| {
+            // SAFETY: each pointer comes with the length of its slice or vector.
+            let answer = unsafe {
+                ffi::qalithonda_page_keep(
+                    self.numbers,
+                    text.as_ptr(),
+                    text.len(),
+                    history.as_ptr(),
+                    history.len(),
+                    arrived.as_ptr(),
+                    arrived.len(),
+                    out.as_mut_ptr(),
+                    out.len(),
+                )
+            };
+            answer.answer()
+        })
     }
 
     /// Whether it is as it was saved last, or opened if it was not saved since. Steps that were undone and done again
@@ -293,7 +370,7 @@ impl Page {
     }
 
     /// A refused call gives the page back as it was.
-    fn keep(&mut self, edited: ffi::Edited) -> Result<usize, Refused> {
+    fn take(&mut self, edited: ffi::Edited) -> Result<usize, Refused> {
         self.numbers = edited.page;
         edited.answer.answer()
     }

@@ -35,9 +35,11 @@ pub enum Refusal {
     HistoryFull = 12,
     /// Nothing to undo or redo. The place is 0.
     NothingLeft = 13,
-    /// The page is not sound. The place is 0. (A [`Page`](crate::Page) is always sound.)
+    /// The page of a page file is not sound, or does not fit the room for text. The place is 0. (A
+    /// [`Page`](crate::Page) is always sound.)
     Unsound = 14,
-    /// The arrived bytes do not read as the text. The place is 0. (Those of a [`Page`](crate::Page) always do.)
+    /// The arrived bytes of a page file do not read as the text, or as so many cells as the page was opened with. The
+    /// place is 0. (Those of a [`Page`](crate::Page) that was opened always do.)
     NotTheText = 15,
     /// More than [`LIMIT`](crate::LIMIT) elements. The place is that limit.
     OverLimit = 16,
@@ -45,12 +47,14 @@ pub enum Refusal {
     /// for a run directly after a run its first letter, and for six or more left-over bits, all zero, the `-` that
     /// closes the run.
     NeedlessShift = 17,
+    /// A bad page file. The place is the first byte that no page file can have there, or the length if it ends early.
+    BadPageFile = 18,
     /// Squeezed, the history would not become shorter. The place is 0.
     NoGain = 19,
 }
 
 impl Refusal {
-    const ALL: [Refusal; 18] = [
+    const ALL: [Refusal; 19] = [
         Refusal::HighByte,
         Refusal::LoneSign,
         Refusal::StrayByte,
@@ -68,10 +72,11 @@ impl Refusal {
         Refusal::NotTheText,
         Refusal::OverLimit,
         Refusal::NeedlessShift,
+        Refusal::BadPageFile,
         Refusal::NoGain,
     ];
 
-    /// Its number, 1 to 17, or 19.
+    /// Its number, 1 to 19.
     pub fn number(self) -> u32 {
         self as u32
     }
@@ -126,6 +131,7 @@ impl Display for Refused {
             Refusal::NotTheText => write!(f, "the arrived bytes do not read as the text"),
             Refusal::OverLimit => write!(f, "there are more than {place} elements"),
             Refusal::NeedlessShift => write!(f, "there is a needless shift, noticed at {place}"),
+            Refusal::BadPageFile => write!(f, "it is no page file, as is seen at {place}"),
             Refusal::NoGain => write!(f, "squeezed, the history would not become shorter"),
         }
     }
@@ -140,7 +146,7 @@ mod tests {
     #[test]
     fn each_number_has_its_refusal() {
         let numbers: Vec<u32> = (0..=20).filter_map(Refusal::of).map(Refusal::number).collect();
-        assert_eq!(numbers, (1..=17).chain([19]).collect::<Vec<_>>());
+        assert_eq!(numbers, (1..=19).collect::<Vec<_>>());
     }
 
     #[test]

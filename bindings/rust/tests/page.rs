@@ -126,6 +126,129 @@ fn squeeze_is_refused_and_changes_nothing() {
     assert_eq!(page.squeeze(4), Ok(9));
 }
 
+/// The worked page's file, one line a part.
+const KEPT: [&str; 10] = [
+    "form=1\n",
+    "kind=utf7b\n",
+    "opening=00004\n",
+    "length=00004\n",
+    "used=00005\n",
+    "done=00005\n",
+    "saved=00000\n",
+    "arrived=412B496D49446B512E\n",
+    "text=000000410000003D000003910000002E\n",
+    "history=000000010000000100000001000022620000003D\n",
+];
+
+/// That file with one line changed.
+fn kept_with(line: usize, changed: &str) -> Vec<u8> {
+    let mut lines = KEPT;
+    lines[line] = changed;
+    lines.concat().into_bytes()
+}
+
+#[test]
+fn a_page_is_kept_and_goes_on() {
+    let mut page = Page::open(Kind::Utf7Body, P2, 5, 6).unwrap();
+    page.replace(1, 1, &[0x3D]).unwrap();
+    let file = page.keep().unwrap();
+    assert_eq!((&file[..], file.capacity()), (KEPT.concat().as_bytes(), file.len()));
+    assert_eq!((page.saved(), page.is_unchanged()), (Some(0), false));
+
+    let mut page = Page::read(&file, 5, 6).unwrap();
+    assert_eq!((page.kind(), page.arrived(), page.saved()), (Kind::Utf7Body, P2, Some(0)));
+    assert_eq!((page.text(), page.history()), (&[0x41, 0x3D, 0x391, 0x2E][..], &[1, 1, 1, 0x2262, 0x3D][..]));
+    assert_eq!((numbers(&page), page.is_unchanged()), ([4, 4, 5, 5], false));
+    assert_eq!(page.keep().unwrap(), file);
+    page.save_to_vec().unwrap();
+    page.undo().unwrap();
+
+    // The steps that can be redone and the mark are kept too.
+    let mut page = Page::read(&page.keep().unwrap(), 5, 6).unwrap();
+    assert_eq!((numbers(&page), page.saved(), page.text()), ([4, 4, 5, 0], Some(5), &[0x41, 0x2262, 0x391, 0x2E][..]));
+    assert_eq!(page.redo(), Ok(4));
+    assert!(page.is_unchanged());
+    page.undo().unwrap();
+    page.replace(0, 1, &[]).unwrap();
+    let page = Page::read(&page.keep().unwrap(), 5, 6).unwrap();
+    assert_eq!((page.saved(), page.is_unchanged()), (None, false));
+}
+
+#[test]
+fn a_page_of_each_kind_is_kept() {
+    for (kind, arrived) in [(Kind::Utf7Header, P2), (Kind::Utf7Body, b""), (Kind::Jp2, b"\x1b$B$\"\x1b(B")] {
+        let page = Page::open(kind, arrived, 9, 9).unwrap();
+        let read = Page::read(&page.keep().unwrap(), 9, 9).unwrap();
+        assert_eq!((read.kind(), read.arrived(), read.text()), (kind, arrived, page.text()));
+        assert_eq!((numbers(&read), read.saved()), (numbers(&page), Some(0)));
+    }
+}
+
+#[test]
+fn a_kept_page_is_read_into_other_rooms() {
+    let mut page = Page::open(Kind::Utf7Body, P2, 4, 5).unwrap();
+    page.replace(1, 1, &[0x3D]).unwrap();
+    assert_eq!(page.replace(0, 0, &[0x41]), refused(Refusal::NoRoom, 5));
+    let mut page = Page::read(&page.keep().unwrap(), LIMIT, LIMIT).unwrap();
+    assert_eq!(page.replace(0, 0, &[0x41]), Ok(5));
+    page.undo().unwrap();
+    let file = page.keep().unwrap();
+    assert_eq!(Page::read(&file, 4, 9).map(drop), refused(Refusal::Unsound, 0));
+    assert_eq!(numbers(&Page::read(&file, 5, 9).unwrap()), [4, 4, 9, 5]);
+    assert_eq!(Page::read(&file, 3, 8).map(drop), refused(Refusal::NoRoom, 4));
+    assert_eq!(Page::read(&file, 5, 8).map(drop), refused(Refusal::NoRoom, 9));
+    for room in [LIMIT + 1, usize::MAX] {
+        assert_eq!(Page::read(&file, room, 9).map(drop), refused(Refusal::OverLimit, LIMIT));
+        assert_eq!(Page::read(b"", 9, room).map(drop), refused(Refusal::OverLimit, LIMIT));
+    }
+}
+
+#[test]
+fn a_full_page_is_kept() {
+    let page = Page::open(Kind::Utf7Body, vec![b'A'; LIMIT], LIMIT, LIMIT).unwrap();
+    let file = page.keep().unwrap();
+    assert_eq!(file.len(), 10 * LIMIT + 103);
+    assert_eq!(Page::read(&file, LIMIT, 0).unwrap().arrived(), page.arrived());
+}
+
+#[test]
+fn what_is_no_page_file_is_refused() {
+    let read = |file: &[u8]| Page::read(file, 9, 9).map(drop);
+    let file = KEPT.concat().into_bytes();
+    assert_eq!(read(&file), Ok(()));
+    for end in 0..file.len() {
+        assert_eq!(read(&file[..end]), refused(Refusal::BadPageFile, end));
+    }
+    assert_eq!(read(&[&file[..], b"\n"].concat()), refused(Refusal::BadPageFile, file.len()));
+    let place = |line: usize| KEPT[..line].concat().len();
+    let cases = [
+        (0, "form=2\n", 5),
+        (1, "kind=utf7x\n", 9),
+        (2, "opening=65537\n", 12),
+        (3, "length=4\n", 8),
+        (6, "saved=never\n", 7),
+        (7, "arrived=412b496D49446B512E\n", 11),
+        (7, "arrived=41 2B496D49446B512E\n", 10),
+        (8, "text=000000410000003D00000391\n", 29),
+    ];
+    for (line, changed, at) in cases {
+        assert_eq!(read(&kept_with(line, changed)), refused(Refusal::BadPageFile, place(line) + at), "{changed}");
+    }
+}
+
+#[test]
+fn a_page_file_is_judged() {
+    let read = |file: &[u8]| Page::read(file, 9, 9).map(drop);
+    assert_eq!(read(&kept_with(5, "done=00004\n")), refused(Refusal::Unsound, 0));
+    assert_eq!(read(&kept_with(6, "saved=00001\n")), refused(Refusal::Unsound, 0));
+    assert_eq!(read(&kept_with(7, "arrived=41\n")), refused(Refusal::NotTheText, 0));
+    // With a step standing the text is not judged. Undone, it is not what the arrived bytes read as.
+    let mut page = Page::read(&kept_with(8, "text=000000420000003D000003910000002E\n"), 9, 9).unwrap();
+    assert_eq!(page.undo(), Ok(4));
+    assert_eq!(page.save_to_vec(), refused(Refusal::NotTheText, 0));
+    assert_eq!(page.keep(), refused(Refusal::NotTheText, 0));
+}
+
 #[test]
 fn four_words_of_history() {
     let mut page = Page::open(Kind::Utf7Body, P2, 5, 4).unwrap();
@@ -231,7 +354,7 @@ fn squeezed(texts: &[Vec<u32>], words: &[usize], now: usize, steps: usize) -> Re
 }
 
 /// Every text so far is kept, with the words of the step that led to each; undo and redo go to and fro between them, a
-/// squeeze forgets those that it folds, and one of them may be the saved one.
+/// squeeze forgets those that it folds, and one of them may be the saved one. Kept and read back, nothing is changed.
 fn follow(kind: Kind, cells: &[u32], seed: &mut u64) {
     let mut page = Page::open(kind, P2, 12, 60).unwrap();
     let read = if kind == Kind::Jp2 { jp2::read_to_vec } else { utf7::read_to_vec };
@@ -239,7 +362,7 @@ fn follow(kind: Kind, cells: &[u32], seed: &mut u64) {
     let mut words = vec![0];
     let (mut now, mut saved) = (0, Some(0));
     for _ in 0..200 {
-        match below(seed, 7) {
+        match below(seed, 8) {
             0 => {
                 assert_eq!(page.undo().is_ok(), now > 0);
                 now -= usize::from(now > 0);
@@ -254,6 +377,11 @@ fn follow(kind: Kind, cells: &[u32], seed: &mut u64) {
                 saved = Some(now);
             }
             3 => {
+                let file = page.keep().unwrap();
+                page = Page::read(&file, 12, 60).unwrap();
+                assert_eq!(page.keep().unwrap(), file);
+            }
+            4 => {
                 let steps = below(seed, 7);
                 let answer = page.squeeze(steps);
                 assert_eq!(answer, squeezed(&texts, &words, now, steps));
