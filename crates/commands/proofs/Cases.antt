@@ -1,6 +1,7 @@
 -- Lines and what they say, computed. Assumes nothing.
 use Prim.Native.Nat.{ℕ}
 use mathlib.Core.Path.{_≡_, refl}
+use mathlib.Core.Bool.{true, false}
 use mathlib.Core.List.{List, [], _∷_, map}
 use mathlib.Core.Option.{none, some}
 use lib.ListN.{length}
@@ -8,10 +9,10 @@ use Rattle.answer.specs.Answer.{limit, numbered}
 use Rattle.answer.specs.Output.{refusing, deliver}
 use Rattle.reading.specs.Reading.{readFrom, reading, readInto}
 use Rattle.codec.specs.declared.Kind.the-variants.{Utf7Header, Jp2}
-use Rattle.commands.specs.Lines.{stretch, same, verbOf, saidIn, kindNamed}
+use Rattle.commands.specs.Lines.{stretch, same, verbOf, saidIn, kindNamed, pageNamed}
 use Rattle.commands.specs.Numbers.{digitValue, raised, byteDoes, endsIn, numbers}
 use Rattle.commands.specs.declared.Verb.{Verb}
-use Rattle.commands.specs.declared.Verb.the-variants.{Nothing, Replace, Squeeze, Unknown}
+use Rattle.commands.specs.declared.Verb.the-variants.{Nothing, Replace, Squeeze, Keep, Unknown}
 
 -- a line reads as the numbers asked for, or is refused with a number and a place
 abbrev Reads : ℕ → List ℕ → List ℕ → Type 0
@@ -51,6 +52,9 @@ pub record Cases : Type 0 where
   pub squeeze : Says (115 ∷ 113 ∷ 117 ∷ 101 ∷ 101 ∷ 122 ∷ 101 ∷ 32 ∷ 51 ∷ 10 ∷ []) Squeeze 8
   pub one : Reads 1 (51 ∷ 10 ∷ []) (3 ∷ [])
   pub squeezed : Says (115 ∷ 113 ∷ 117 ∷ 101 ∷ 101 ∷ 122 ∷ 101 ∷ 100 ∷ []) Unknown 8
+  -- `keep a`, LF; `keeps`
+  pub keep : Says (107 ∷ 101 ∷ 101 ∷ 112 ∷ 32 ∷ 97 ∷ 10 ∷ []) Keep 5
+  pub keeps : Says (107 ∷ 101 ∷ 101 ∷ 112 ∷ 115 ∷ []) Unknown 5
   -- of a squeeze: no number; `3 4`, LF; `A`, LF
   pub none-asked-one : Fails 1 [] 7 0
   pub two-asked-one : Fails 1 (51 ∷ 32 ∷ 52 ∷ 10 ∷ []) 7 4
@@ -61,6 +65,9 @@ pub record Cases : Type 0 where
   pub header : kindNamed (117 ∷ 116 ∷ 102 ∷ 55 ∷ 104 ∷ []) ≡ some Utf7Header
   pub jp2 : kindNamed (106 ∷ 112 ∷ 50 ∷ []) ≡ some Jp2
   pub no-kind : kindNamed (106 ∷ 112 ∷ []) ≡ none
+  -- `page`, `pages`
+  pub page : pageNamed (112 ∷ 97 ∷ 103 ∷ 101 ∷ []) ≡ true
+  pub no-page : pageNamed (112 ∷ 97 ∷ 103 ∷ 101 ∷ 115 ∷ []) ≡ false
 
 pub cases : Cases
 unfolding limit readFrom reading readInto deliver stretch same verbOf saidIn kindNamed digitValue raised byteDoes endsIn
@@ -80,6 +87,8 @@ cases =
       squeeze = refl;
       one = refl;
       squeezed = refl;
+      keep = refl;
+      keeps = refl;
       none-asked-one = λ out. refl;
       two-asked-one = λ out. refl;
       hex-asked-one = λ out. refl;
@@ -87,4 +96,6 @@ cases =
       header = refl;
       jp2 = refl;
       no-kind = refl;
+      page = refl;
+      no-page = refl;
     }

@@ -1,5 +1,5 @@
--- A desk's line, as docs/DESK.md has it: `show`, `replace PLACE COUNT CELL..`, `undo`, `redo`, `save FILE`, `quit` or
--- `squeeze K`.
+-- A desk's line, as docs/DESK.md has it: `show`, `replace PLACE COUNT CELL..`, `undo`, `redo`, `save FILE`, `quit`,
+-- `squeeze K` or `keep FILE`.
 use Prim.Native.Nat.{ℕ, suc, _+_}
 use mathlib.Core.Bool.{Bool, true, false, cond, not, _&&_, _||_}
 use mathlib.Core.List.{List, [], _∷_}
@@ -10,7 +10,7 @@ use Rattle.codec.specs.declared.Kind.{Kind}
 use Rattle.codec.specs.declared.Kind.the-variants.{Utf7Header, Utf7Body, Jp2}
 use Rattle.commands.specs.declared.Verb.{Verb}
 use Rattle.commands.specs.declared.Verb.the-variants.{Nothing, Show, Replace, Undo, Redo, Save, Quit}
-use Rattle.commands.specs.declared.Verb.the-variants.{Squeeze, Unknown}
+use Rattle.commands.specs.declared.Verb.the-variants.{Squeeze, Keep, Unknown}
 use Rattle.commands.specs.declared.Said.{Said}
 use Rattle.commands.specs.declared.Named.{Named}
 use Rattle.commands.specs.declared.Named.the-variants.{Known, NoKind}
@@ -31,7 +31,7 @@ same [] (y ∷ ys) = false
 same (x ∷ xs) [] = false
 same (x ∷ xs) (y ∷ ys) = eqb x y && same xs ys
 
--- `show`, `replace`, `undo`, `redo`, `save`, `quit`, `squeeze`
+-- `show`, `replace`, `undo`, `redo`, `save`, `quit`, `squeeze`, `keep`
 unfoldable pub verbOf : List ℕ → Verb
 verbOf w =
     cond (same w []) Nothing
@@ -41,7 +41,8 @@ verbOf w =
     (cond (same w (114 ∷ 101 ∷ 100 ∷ 111 ∷ [])) Redo
     (cond (same w (115 ∷ 97 ∷ 118 ∷ 101 ∷ [])) Save
     (cond (same w (113 ∷ 117 ∷ 105 ∷ 116 ∷ [])) Quit
-    (cond (same w (115 ∷ 113 ∷ 117 ∷ 101 ∷ 101 ∷ 122 ∷ 101 ∷ [])) Squeeze Unknown)))))))
+    (cond (same w (115 ∷ 113 ∷ 117 ∷ 101 ∷ 101 ∷ 122 ∷ 101 ∷ [])) Squeeze
+    (cond (same w (107 ∷ 101 ∷ 101 ∷ 112 ∷ [])) Keep Unknown))))))))
 
 -- a line's command: its first word's; what follows begins at the next byte that is no blank
 unfoldable pub saidIn : List ℕ → Said
@@ -62,3 +63,7 @@ kindNamed w =
 abbrev pub kindIn : Named → Option Kind
 kindIn (Known kind) = some kind
 kindIn NoKind = none
+
+-- `page`, in a kind's place: a page that was kept
+abbrev pub pageNamed : List ℕ → Bool
+pageNamed w = same w (112 ∷ 97 ∷ 103 ∷ 101 ∷ [])

@@ -6,7 +6,7 @@ ghost use mathlib.Core.Path.{_≡_};
 ghost use mathlib.Core.Bool.{cond, not};
 ghost use Prim.Native.Nat.{_+_, _≤_};
 ghost use lib.ListN.{length, drop};
-ghost use Rattle.commands.specs.Lines.{blank, stretch, same, verbOf, saidIn, kindNamed, kindIn};
+ghost use Rattle.commands.specs.Lines.{blank, stretch, same, verbOf, saidIn, kindNamed, kindIn, pageNamed};
 
 pub enum Verb {
     Nothing,
@@ -17,6 +17,7 @@ pub enum Verb {
     Save,
     Quit,
     Squeeze,
+    Keep,
     Unknown,
 }
 
@@ -115,6 +116,9 @@ fn verb_of(word: &[u8]) -> Verb
     if is_word(word, b"squeeze") {
         return Verb::Squeeze;
     }
+    if is_word(word, b"keep") {
+        return Verb::Keep;
+    }
     Verb::Unknown
 }
 
@@ -143,4 +147,11 @@ pub fn kind_named(word: &[u8]) -> Named
         return Named::Known(Kind::Jp2);
     }
     Named::NoKind
+}
+
+// Whether a word stands for a page that was kept, in a kind's place.
+pub fn is_page(word: &[u8]) -> bool
+    ensures { λ r. ⌜ r ≡ pageNamed (now (word .entry)) ⌝ }
+{
+    is_word(word, b"page")
 }

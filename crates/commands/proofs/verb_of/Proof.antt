@@ -151,10 +151,17 @@ returns-8 c =
       sym (c .before .is-word7 .ensures) ∙ c .if8 .taken,
     )
 
+slice-aggregate-is-word-8 : tie.Need-slice-aggregate-is-word-8
+slice-aggregate-is-word-8 c = search needs
+
+is-word-requires-8 : tie.Need-is-word-requires-8
+is-word-requires-8 c κs = search needs
+
 returns-9 : tie.Need-returns-9
 unfolding verbOf
 returns-9 c =
-    let u = c .before .before .before in
+    let t = c .before .before .before in
+    let u = t .before .before .before in
     let z = u .before .before .before in
     let y = z .before .before .before in
     let x = y .before .before .before in
@@ -168,7 +175,30 @@ returns-9 c =
       sym (y .before .is-word4 .ensures) ∙ y .if5 .left,
       sym (z .before .is-word5 .ensures) ∙ z .if6 .left,
       sym (u .before .is-word6 .ensures) ∙ u .if7 .left,
-      sym (c .before .is-word7 .ensures) ∙ c .if8 .left,
+      sym (t .before .is-word7 .ensures) ∙ t .if8 .left,
+      sym (c .before .is-word8 .ensures) ∙ c .if9 .taken,
+    )
+
+returns-10 : tie.Need-returns-10
+unfolding verbOf
+returns-10 c =
+    let t = c .before .before .before in
+    let u = t .before .before .before in
+    let z = u .before .before .before in
+    let y = z .before .before .before in
+    let x = y .before .before .before in
+    let w = x .before .before .before in
+    let v = w .before .before .before in
+    rw (
+      some (v .before .before .before),
+      sym (v .before .is-word .ensures) ∙ v .if2 .left,
+      sym (w .before .is-word2 .ensures) ∙ w .if3 .left,
+      sym (x .before .is-word3 .ensures) ∙ x .if4 .left,
+      sym (y .before .is-word4 .ensures) ∙ y .if5 .left,
+      sym (z .before .is-word5 .ensures) ∙ z .if6 .left,
+      sym (u .before .is-word6 .ensures) ∙ u .if7 .left,
+      sym (t .before .is-word7 .ensures) ∙ t .if8 .left,
+      sym (c .before .is-word8 .ensures) ∙ c .if9 .left,
     )
 
 pub verb-of-spec : {M : Type 1} → statement M
@@ -197,4 +227,7 @@ verb-of-spec =
     slice-aggregate-is-word-7
     is-word-requires-7
     returns-8
-    returns-9)
+    slice-aggregate-is-word-8
+    is-word-requires-8
+    returns-9
+    returns-10)
