@@ -4,6 +4,8 @@ use mathlib.Core.Path.{_≡_, refl, sym, ap, _∙_}
 use mathlib.Core.Bool.{Bool, true, false, _||_, false≢true}
 use mathlib.Core.List.{List}
 use native.Mathlib.Omega.{arith}
+use lib.ListN.{length, take}
+use lib.Seq.{length-take-le}
 use lib.Dec.{eqb}
 use borrow.Author.Tests.{eq-eqb, ne-eqb}
 use Rattle.answer.specs.Answer.{inNumbers, numberOf}
@@ -12,13 +14,17 @@ use Rattle.answer.specs.declared.Answer.the-variants.{Accepted, Refused}
 use Rattle.answer.specs.declared.Refusal.{Refusal}
 use Rattle.answer.proofs.Once.{number-pos}
 use Rattle.codec.specs.declared.Kind.{Kind}
-use Rattle.ledger.specs.Page.{State, stateOf, Outcome, leaves}
+use Rattle.ledger.specs.Words.{pad}
+use Rattle.ledger.specs.Page.{State, stateOf, Outcome, leaves, keeps}
 use Rattle.ledger.specs.declared.Page.{Page}
 use Rattle.ledger.specs.declared.Edited.{Edited}
 use Rattle.ledger.specs.Calls.{openOf}
 use Rattle.ledger.specs.Running.{taken}
+use Rattle.ledger.proofs.Words.{length-pad}
+use Rattle.page_file.specs.Calls.{readOf}
+use Rattle.page_file.proofs.Calls.{accepts}
 use Rattle.desk_lines.specs.Desk.{Desk, begun, afterLine, Turn, obeys, passes, waits, Turns, none-yet, then}
-use Rattle.desk.specs.Hands.{deskIn, sitting, Took, passed, obeyed, closed, Worked, Served}
+use Rattle.desk.specs.Hands.{deskIn, sitting, Took, passed, obeyed, closed, Worked, Served, Resumed}
 use Rattle.desk.specs.declared.lines.Hand.{Hand}
 
 -- a line that was taken is a turn, and so is a page that stays
@@ -130,5 +136,63 @@ module _
       answered (Refused why place) a ∙ ne-eqb (numberOf why) 0 (λ z. omega (arith, number-pos why)) in
       record {
         refused = λ _. ap (λ (x : Hand). deskIn x text' history') e ∙ ap begun (sym state-left);
+        worked = λ y. absurd (false≢true (sym no ∙ y));
+      }
+
+-- the first elements of a list that has as many
+pub counted : (n : ℕ) (l : List ℕ) → n ≤ length l → n ≡ length (take n l)
+counted n l h = sym (length-take-le n l h)
+
+-- what is done with the page of a file
+module _
+    (file letter text history : List ℕ) (r : Edited) (text' history' letter' : List ℕ)
+    (o : keeps r text' history' letter' ≡ readOf letter text history file) where
+  given-state : readOf letter text history file .state ≡ stateOf (r .page) text' history'
+  given-state = ap (λ (x : Outcome). x .state) (sym o)
+
+  given-letter : readOf letter text history file .output ≡ letter'
+  given-letter = ap (λ (x : Outcome). x .output) (sym o)
+
+  given-place : (n : ℕ) → r .answer ≡ Accepted n → readOf letter text history file .verdict .place ≡ n
+  given-place n e = ap (λ (x : Outcome). x .verdict .place) (sym o) ∙ ap (λ (x : Answer). inNumbers x .place) e
+
+  read-answered :
+      (a : Answer) → r .answer ≡ a → taken (readOf letter text history file) ≡ eqb (inNumbers a .number) 0
+  read-answered a e = ap taken (sym o) ∙ ap (λ (x : Answer). eqb (inNumbers x .number) 0) e
+
+  -- the letter that is given back lies in its buffer
+  pub given-within : (n : ℕ) → r .answer ≡ Accepted n → n ≤ length letter'
+  given-within n e =
+      let q = accepts letter text history file (read-answered (Accepted n) e) in
+      let p : n ≡ length (q .content .arrived) =
+      sym (given-place n e) ∙ ap (λ (x : Outcome). x .verdict .place) (q .outcome) in
+      let l : letter' ≡ pad (length letter) (q .content .arrived) =
+      sym given-letter ∙ ap (λ (x : Outcome). x .output) (q .outcome) in
+      omega (
+        arith,
+        p,
+        ap length l,
+        length-pad (length letter) (q .content .arrived) (q .arrived-room),
+        q .arrived-room,
+      )
+
+  pub resumed-worked :
+      {to : Desk} {hand : Hand} (n : ℕ) → r .answer ≡ Accepted n →
+      Worked (take n letter') (sitting (r .page) false text' history') to hand →
+      Resumed file letter text history to hand
+  resumed-worked n a w =
+      record {
+        refused = λ e. absurd (false≢true (sym e ∙ read-answered (Accepted n) a));
+        worked = λ _. rw (given-state, given-letter, given-place n a) w;
+      }
+
+  pub resumed-idle :
+      {hand : Hand} (why : Refusal) (place : ℕ) → r .answer ≡ Refused why place → hand ≡ empty (r .page) →
+      Resumed file letter text history (deskIn hand text' history') hand
+  resumed-idle why place a e =
+      let no : taken (readOf letter text history file) ≡ false =
+      read-answered (Refused why place) a ∙ ne-eqb (numberOf why) 0 (λ z. omega (arith, number-pos why)) in
+      record {
+        refused = λ _. ap (λ (x : Hand). deskIn x text' history') e ∙ ap begun (sym given-state);
         worked = λ y. absurd (false≢true (sym no ∙ y));
       }

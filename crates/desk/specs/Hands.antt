@@ -12,6 +12,7 @@ use Rattle.ledger.specs.Page.{stateOf}
 use Rattle.ledger.specs.declared.Page.{Page}
 use Rattle.ledger.specs.Calls.{openOf}
 use Rattle.ledger.specs.Running.{taken}
+use Rattle.page_file.specs.Calls.{readOf}
 use Rattle.desk_lines.specs.Desk.{Desk, begun, afterLine, Turns}
 use Rattle.desk.specs.declared.lines.Hand.{Hand}
 use Rattle.desk.specs.declared.orders.Done.{Done}
@@ -62,3 +63,13 @@ pub record Served (kind : Kind) (letter text history : List ℕ) (to : Desk) (ha
   pub worked :
       taken (openOf kind letter text history) ≡ true →
       Worked letter (begun (openOf kind letter text history .state)) to hand
+
+-- it works on the page of an accepted reading, with the letter that is given back, and does nothing to that of a refused
+-- one
+pub record Resumed (file letter text history : List ℕ) (to : Desk) (hand : Hand) : Type 0 where
+  pub refused :
+      taken (readOf letter text history file) ≡ false → to ≡ begun (readOf letter text history file .state)
+  pub worked :
+      taken (readOf letter text history file) ≡ true →
+      Worked (take (readOf letter text history file .verdict .place) (readOf letter text history file .output))
+      (begun (readOf letter text history file .state)) to hand

@@ -26,6 +26,14 @@ enum Spot {
     Barred,
 }
 
+// Zeros, a byte more than the longest page file has: 103 besides its lists, 2 for each byte that arrived, and 8 for each
+// cell and word.
+pub fn page_room() -> [u8; 1179752]
+    ensures { λ r. ⌜ 1179752 ≡ length r ⌝ }
+{
+    [0; 1179752]
+}
+
 // Reads once behind the first bytes of a buffer, and says how many there are then: no more at the end of the file.
 fn read_on(fd: i32, name: &[u8], buf: &mut [u8], at: usize) -> Got
     requires { ⌜ at ≤ length (now buf) ⌝ }

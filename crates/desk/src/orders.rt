@@ -224,6 +224,33 @@ fn save(p: Page, words: &[u8], letter: &[u8], text: &[u32], history: &[u32]) -> 
     save_in(p, &words[..end], letter, text, history, &mut out)
 }
 
+// Keeps a page under a name, by way of an output. The page is as it was.
+fn keep_in(p: Page, name: &[u8], letter: &[u8], text: &[u32], history: &[u32], out: &mut [u8]) {
+    let answer = page_keep::keep(p, text, history, letter, &mut *out);
+    let n = answer::place(answer);
+    match answer {
+        Answer::Accepted(_) => {
+            if n <= out.len() {
+                if files::put(name, &out[..n]) {
+                    replies::tell(answer);
+                }
+            }
+        }
+        Answer::Refused(_, _) => replies::tell(answer),
+    }
+}
+
+// `keep FILE`: the name is as a save's. There is room for every page's file.
+fn keep(p: Page, words: &[u8], letter: &[u8], text: &[u32], history: &[u32]) {
+    let end = name_end(words);
+    if end == 0 {
+        replies::complain(b"keep FILE: the name is missing");
+        return;
+    }
+    let mut out = files::page_room();
+    keep_in(p, &words[..end], letter, text, history, &mut out);
+}
+
 // Whether a page may be left: it is saved, or whoever leaves it was warned.
 pub fn may_leave(p: Page, warned: bool, text: &[u32], history: &[u32]) -> bool
     ensures { λ r. ⌜ r
@@ -285,7 +312,7 @@ fn act(
         },
         Verb::Unknown => {
             replies::complain(
-                b"no such command: show, replace PLACE COUNT CELL.., undo, redo, squeeze K, save FILE, quit",
+                b"no such command: show, replace PLACE COUNT CELL.., undo, redo, squeeze K, save FILE, keep FILE, quit",
             );
             stays(p)
         }
@@ -298,6 +325,10 @@ fn act(
         Verb::Undo => stays(undo(p, words, &mut *text, &*history)),
         Verb::Redo => stays(redo(p, words, &mut *text, &*history)),
         Verb::Squeeze => stays(squeeze(p, words, &*text, &mut *history)),
+        Verb::Keep => {
+            keep(p, words, letter, &*text, &*history);
+            stays(p)
+        }
         Verb::Quit => quit(p, words, warned, &*text, &*history),
     }
 }

@@ -29,7 +29,7 @@ AsksPut put line call = callIn [] (record { line = line; put = put }) ≡ call
 abbrev Asks : List ℕ → Option Call → Type 0
 Asks = AsksPut false
 
--- `quit`, `quit 1`, `undo`, `replace 0 1 62`, `squeeze 32`, `save a`, `x`, and a line with no word
+-- `quit`, `quit 1`, `undo`, `replace 0 1 62`, `squeeze 32`, `save a`, `keep a`, `x`, and a line with no word
 abbrev quit : List ℕ
 quit = 113 ∷ 117 ∷ 105 ∷ 116 ∷ 10 ∷ []
 
@@ -48,6 +48,9 @@ folds = 115 ∷ 113 ∷ 117 ∷ 101 ∷ 101 ∷ 122 ∷ 101 ∷ 32 ∷ 51 ∷ 50
 abbrev saves : List ℕ
 saves = 115 ∷ 97 ∷ 118 ∷ 101 ∷ 32 ∷ 97 ∷ 10 ∷ []
 
+abbrev keeps : List ℕ
+keeps = 107 ∷ 101 ∷ 101 ∷ 112 ∷ 32 ∷ 97 ∷ 10 ∷ []
+
 abbrev odd : List ℕ
 odd = 120 ∷ 10 ∷ []
 
@@ -61,6 +64,7 @@ pub record Cases : Type 0 where
   pub followed-stays : leftBy true followed ≡ false
   pub undo-stays : leftBy true undo ≡ false
   pub folds-stays : leftBy true folds ≡ false
+  pub keeps-stays : leftBy true keeps ≡ false
   pub odd-stays : leftBy true odd ≡ false
   pub empty-stays : leftBy true empty ≡ false
   -- after it a `quit` is the second one, also behind lines with no word; after all others it is not
@@ -70,6 +74,7 @@ pub record Cases : Type 0 where
   pub followed-between : quitBy true followed ≡ false
   pub undo-between : quitBy true undo ≡ false
   pub folds-between : quitBy true folds ≡ false
+  pub keeps-between : quitBy true keeps ≡ false
   pub odd-between : quitBy true odd ≡ false
 
 pub cases : Cases
@@ -81,6 +86,7 @@ cases =
       followed-stays = refl;
       undo-stays = refl;
       folds-stays = refl;
+      keeps-stays = refl;
       odd-stays = refl;
       empty-stays = refl;
       second = refl;
@@ -89,6 +95,7 @@ cases =
       followed-between = refl;
       undo-between = refl;
       folds-between = refl;
+      keeps-between = refl;
       odd-between = refl;
     }
 
@@ -104,6 +111,9 @@ pub record Asking : Type 0 where
   -- `save a` is a save where the file was put
   pub saved : AsksPut true saves (some (save [] room))
   pub not-put : AsksPut false saves none
+  -- `keep a` asks for nothing of the page, whatever became of its file
+  pub kept : AsksPut true keeps none
+  pub not-kept : AsksPut false keeps none
 
 pub asking : Asking
 unfolding callIn saidIn verbOf same stretch limit readFrom reading readInto deliver digitValue raised byteDoes endsIn
@@ -117,4 +127,6 @@ asking =
       two-numbers = refl;
       saved = refl;
       not-put = refl;
+      kept = refl;
+      not-kept = refl;
     }

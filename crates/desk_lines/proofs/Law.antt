@@ -18,7 +18,7 @@ use Rattle.ledger.proofs.Demand.{demand3}
 use Rattle.commands.specs.Lines.{saidIn}
 use Rattle.commands.specs.declared.Verb.{Verb}
 use Rattle.commands.specs.declared.Verb.the-variants.{Nothing, Show, Replace, Undo, Redo, Save, Quit}
-use Rattle.commands.specs.declared.Verb.the-variants.{Squeeze, Unknown}
+use Rattle.commands.specs.declared.Verb.the-variants.{Squeeze, Keep, Unknown}
 use Rattle.desk_lines.specs.Desk.{Desk, begun, free, leaving, Came, callIn, afterCall, afterLine, afterLines, withCall, callsIn}
 use Rattle.desk_lines.specs.Desk.{Turn, obeys, passes, waits, Turns, none-yet, then}
 use Rattle.desk_lines.specs.Demand.{Keeps, Left}
@@ -99,6 +99,7 @@ leaves-free may Undo words e = absurd (false≢true e)
 leaves-free may Redo words e = absurd (false≢true e)
 leaves-free may Save words e = absurd (false≢true e)
 leaves-free may Squeeze words e = absurd (false≢true e)
+leaves-free may Keep words e = absurd (false≢true e)
 leaves-free may Unknown words e = absurd (false≢true e)
 
 line-leaves : (letter : List ℕ) (d : Desk) (c : Came) → afterLine letter d c .left ≡ true → free d ≡ true

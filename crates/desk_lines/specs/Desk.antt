@@ -18,7 +18,8 @@ use Rattle.ledger.specs.Running.{outcomeOf}
 use Rattle.commands.specs.Lines.{saidIn}
 use Rattle.commands.specs.Numbers.{numbers}
 use Rattle.commands.specs.declared.Verb.{Verb}
-use Rattle.commands.specs.declared.Verb.the-variants.{Nothing, Show, Replace, Undo, Redo, Save, Quit, Squeeze, Unknown}
+use Rattle.commands.specs.declared.Verb.the-variants.{Nothing, Show, Replace, Undo, Redo, Save, Quit}
+use Rattle.commands.specs.declared.Verb.the-variants.{Squeeze, Keep, Unknown}
 
 -- `replace PLACE COUNT CELL..`, where all of it can be read
 abbrev pub replacing : Ending → List ℕ → Option Call
@@ -43,7 +44,8 @@ room = replicate mostBytes 0
 abbrev pub saving : List ℕ → List ℕ → Bool → Option Call
 saving letter out put = cond put (some (save letter out)) none
 
--- what a command asks for, given what a `save` does: `undo` and `redo` stand alone, `show` and `quit` change nothing
+-- what a command asks for, given what a `save` does: `undo` and `redo` stand alone; `show`, `keep` and `quit`
+-- change nothing
 abbrev pub asked : Option Call → Verb → List ℕ → Option Call
 asked saved Replace words = replacing (reading (numbers 2) words .ending) (reading (numbers 2) words .cells)
 asked saved Undo words = cond (eqb (length words) 0) (some undo) none
@@ -52,6 +54,7 @@ asked saved Squeeze words = squeezing (readInto (numbers 1) words (0 ∷ []))
 asked saved Save words = saved
 asked saved Nothing words = none
 asked saved Show words = none
+asked saved Keep words = none
 asked saved Quit words = none
 asked saved Unknown words = none
 
@@ -65,6 +68,7 @@ leaving free Undo words = false
 leaving free Redo words = false
 leaving free Save words = false
 leaving free Squeeze words = false
+leaving free Keep words = false
 leaving free Unknown words = false
 
 -- whether the last command was a `quit`: a line with no word is no command
@@ -77,6 +81,7 @@ warnedBy warned Undo words = false
 warnedBy warned Redo words = false
 warnedBy warned Save words = false
 warnedBy warned Squeeze words = false
+warnedBy warned Keep words = false
 warnedBy warned Unknown words = false
 
 abbrev pub afterCall : Option Call → State → State

@@ -73,6 +73,15 @@ stays-requires-6 c κs = search needs
 enum-told-9 : tie.Need-enum-told-9
 enum-told-9 c = search needs
 
+keep-requires : tie.Need-keep-requires
+keep-requires c κs = search needs
+
+stays-requires-7 : tie.Need-stays-requires-7
+stays-requires-7 c κs = search needs
+
+enum-told-10 : tie.Need-enum-told-10
+enum-told-10 c = search needs
+
 quit-requires : tie.Need-quit-requires
 quit-requires c κs = search needs
 
@@ -148,7 +157,16 @@ same-length-13 : tie.Need-same-length-13
 same-length-13 c = search needs
 
 returns-9 : tie.Need-returns-9
-returns-9 c = rw (c .before .before .before .enum-told9 .given .1) (c .quit .ensures)
+returns-9 c = rw (c .before .before .before .before .enum-told9 .given .1, c .stays7 .ensures)
+
+same-length-14 : tie.Need-same-length-14
+same-length-14 c = search needs
+
+same-length-15 : tie.Need-same-length-15
+same-length-15 c = search needs
+
+returns-10 : tie.Need-returns-10
+returns-10 c = rw (c .before .before .before .enum-told10 .given .1) (c .quit .ensures)
 
 pub act-spec : {M : Type 1} → statement M
 act-spec =
@@ -177,6 +195,9 @@ act-spec =
     squeeze-requires
     stays-requires-6
     enum-told-9
+    keep-requires
+    stays-requires-7
+    enum-told-10
     quit-requires
     returns
     returns-2
@@ -199,4 +220,7 @@ act-spec =
     returns-8
     same-length-12
     same-length-13
-    returns-9)
+    returns-9
+    same-length-14
+    same-length-15
+    returns-10)
