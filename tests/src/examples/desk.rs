@@ -502,8 +502,8 @@ fn gained() -> Transcript {
 
 /// Starts that fail, each with what is complained of; and letters that are refused. None reads a command.
 pub fn starts() -> Vec<Transcript> {
-    let use_ = "desk: use: desk KIND FILE, where KIND is utf7h, utf7b or jp2\n";
-    let kind = "desk: KIND is utf7h, utf7b or jp2\n";
+    let use_ = "desk: use: desk KIND FILE, where KIND is utf7h, utf7b or jp2, or desk page FILE\n";
+    let kind = "desk: KIND is utf7h, utf7b or jp2, or page for a page that was kept\n";
     let fails = |arguments: &[&str], errors: &str| start(arguments, "", errors);
     let refused = |arguments: &[&str], output: &str| start(arguments, output, "");
     let (part, long_part) = ("n".repeat(255), "n".repeat(256));
