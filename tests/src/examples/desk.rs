@@ -104,7 +104,7 @@ const BEFORE: &[(&str, &str)] = &[
 /// Lines that are complained of, in groups, each with the complaint.
 pub const BAD_LINES: [(&str, &[&[u8]]); 5] = [
     (
-        "desk: no such command: show, replace PLACE COUNT CELL.., undo, redo, squeeze K, save FILE, quit\n",
+        "desk: no such command: show, replace PLACE COUNT CELL.., undo, redo, squeeze K, save FILE, keep FILE, quit\n",
         &[
             b"Show",
             b"SHOW",
@@ -398,7 +398,7 @@ fn quits_apart() -> Transcript {
         (b"quit quit\n", "desk: nothing may follow this command\n"),
         (
             b"exit\n",
-            "desk: no such command: show, replace PLACE COUNT CELL.., undo, redo, squeeze K, save FILE, quit\n",
+            "desk: no such command: show, replace PLACE COUNT CELL.., undo, redo, squeeze K, save FILE, keep FILE, quit\n",
         ),
         (b"replace 0 5\n", "status=11\nplace=4\n"),
         (b"squeeze 2\n", "status=11\nplace=0\n"),

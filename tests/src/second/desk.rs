@@ -1,11 +1,13 @@
 //! The program `desk`. Of document 01 it has the page and the listers' style; quotations in comments are sentences of
-//! docs/DESK.md, which tells the rest and is README.md's part on `desk`. It was written without a look at the proved code.
+//! docs/DESK.md, which tells the rest and is README.md's part on `desk`. It was written without a look at the proved code, but
+//! for `keep` and `page`, which were written after it by the same hand.
 //! Where docs/DESK.md is silent, a comment says what is taken.
 
 use std::mem;
 
 use super::files::{Entry, Errno, Files};
 use super::page::{self, Page, State};
+use super::page_file;
 use super::{print_listing, Answer, Call, Kind, LIMIT};
 
 /// All that `desk` is started with.
@@ -64,6 +66,7 @@ pub enum Complaint {
     Replace,
     Squeeze,
     NameMissing,
+    KeepNameMissing,
     NameTooLong,
     NameWithNul,
     /// FILE cannot be looked at, or what is saved cannot take its place.
@@ -98,6 +101,11 @@ pub const UNDO: &str = "desk-undo";
 pub const REDO: &str = "desk-redo";
 pub const SQUEEZE: &str = "desk-squeeze";
 pub const SAVE: &str = "desk-save";
+pub const KEEP: &str = "desk-keep";
+pub const PAGE: &str = "desk-page";
+
+/// The first argument that stands for a page that was kept.
+const PAGE_WORD: &[u8] = b"page";
 
 /// "FILE longer than 4,096 bytes"
 const LONGEST_LETTER_NAME: usize = 4_096;
@@ -139,12 +147,12 @@ impl Told {
 impl Complaint {
     fn text(&self) -> Vec<u8> {
         let text = match self {
-            Complaint::Use => "use: desk KIND FILE, where KIND is utf7h, utf7b or jp2",
-            Complaint::Kind => "KIND is utf7h, utf7b or jp2",
+            Complaint::Use => "use: desk KIND FILE, where KIND is utf7h, utf7b or jp2, or desk page FILE",
+            Complaint::Kind => "KIND is utf7h, utf7b or jp2, or page for a page that was kept",
             Complaint::LetterNameTooLong => "FILE: File name too long",
             Complaint::LineTooLong => "a line is longer than 65535 bytes",
             Complaint::NoSuchCommand => {
-                "no such command: show, replace PLACE COUNT CELL.., undo, redo, squeeze K, save FILE, quit"
+                "no such command: show, replace PLACE COUNT CELL.., undo, redo, squeeze K, save FILE, keep FILE, quit"
             }
             Complaint::NothingMayFollow => "nothing may follow this command",
             Complaint::NotSaved => "the page is not saved: save FILE, or quit again to leave it",
@@ -154,6 +162,7 @@ impl Complaint {
             }
             Complaint::Squeeze => "squeeze K: one decimal number, not over 4294967295",
             Complaint::NameMissing => "save FILE: the name is missing",
+            Complaint::KeepNameMissing => "keep FILE: the name is missing",
             Complaint::NameTooLong => "the name of the file is too long",
             Complaint::NameWithNul => "the name of the file has a NUL",
             Complaint::Letter(name, errno) | Complaint::Save(name, errno) => return of_name(name, &errno.text()),
@@ -200,24 +209,37 @@ pub fn lines(input: &[u8]) -> impl Iterator<Item = &[u8]> {
 fn open(start: &Start) -> Result<(Told, Desk), Told> {
     let complain = |complaint| Err(Told::Complaint(complaint));
     let [word, name] = &start.arguments[..] else { return complain(Complaint::Use) };
-    let Some(kind) = Kind::ALL.into_iter().find(|&kind| kind_word(kind).as_bytes() == word) else {
+    let kind = Kind::ALL.into_iter().find(|&kind| kind_word(kind).as_bytes() == word);
+    if kind.is_none() && word != PAGE_WORD {
         return complain(Complaint::Kind);
-    };
+    }
     if name.len() > LONGEST_LETTER_NAME {
         return complain(Complaint::LetterNameTooLong);
     }
-    let arrived = match start.files.read(name) {
+    let bytes = match start.files.read(name) {
         Ok(bytes) => bytes,
         Err(errno) => return complain(Complaint::Letter(name.clone(), errno)),
     };
     // "the page opened with a text buffer and a history of 65,536 each; the answer is told"
-    let blank = State { page: Page::opened(kind, 0), text: vec![0; LIMIT], history: vec![0; LIMIT] };
-    let opened = page::left(&blank, &Call::Open { kind, arrived: arrived.clone() }, &[]);
-    let told = Told::Answer(open_name(kind), opened.answer);
-    if opened.answer.number != 0 {
+    let blank =
+        State { page: Page::opened(kind.unwrap_or(Kind::Utf7Header), 0), text: vec![0; LIMIT], history: vec![0; LIMIT] };
+    let (name, answer, state, arrived) = match kind {
+        Some(kind) => {
+            let opened = page::left(&blank, &Call::Open { kind, arrived: bytes.clone() }, &[]);
+            (open_name(kind), opened.answer, opened.state, bytes)
+        }
+        // "The letter that is lent to `save` and `keep` is then the one that the file gave back."
+        None => {
+            let read = page_file::left(&bytes, &blank, &vec![0; LIMIT]);
+            let letter = read.arrived[..read.answer.place.min(LIMIT)].to_vec();
+            (PAGE, read.answer, read.state, letter)
+        }
+    };
+    let told = Told::Answer(name, answer);
+    if answer.number != 0 {
         return Err(told);
     }
-    Ok((told, Desk { arrived, state: opened.state, warned: false, files: start.files.clone(), umask: start.umask }))
+    Ok((told, Desk { arrived, state, warned: false, files: start.files.clone(), umask: start.umask }))
 }
 
 /// "space, tab, CR, LF"
@@ -268,6 +290,7 @@ impl Desk {
             [b"replace", numbers @ ..] => self.replace(numbers),
             [b"squeeze", numbers @ ..] => self.squeeze(numbers),
             [b"save", ..] => self.save(trimmed(&trimmed(line)[b"save".len()..])),
+            [b"keep", ..] => self.keep(trimmed(&trimmed(line)[b"keep".len()..])),
             [b"show" | b"undo" | b"redo" | b"quit", _, ..] => Told::Complaint(Complaint::NothingMayFollow),
             [b"show"] => Told::Cells(self.state.text[..self.state.page.length].to_vec()),
             [b"undo"] => self.call(UNDO, &Call::Undo),
@@ -336,6 +359,20 @@ impl Desk {
             }
             // "the desk keeps its old page, with its mark"
             Err(complaint) => Told::Complaint(complaint),
+        }
+    }
+
+    /// "The page stays as it is, saved or not: a `keep` is no `save`."
+    fn keep(&mut self, name: &[u8]) -> Told {
+        if name.is_empty() {
+            return Told::Complaint(Complaint::KeepNameMissing);
+        }
+        match page_file::keep(&self.state, &self.arrived) {
+            Err(answer) => Told::Answer(KEEP, answer),
+            Ok(file) => match self.put(name, &file) {
+                Ok(()) => Told::Answer(KEEP, Answer { number: 0, place: file.len() }),
+                Err(complaint) => Told::Complaint(complaint),
+            },
         }
     }
 
