@@ -102,7 +102,7 @@ const BEFORE: &[(&str, &str)] = &[
 ];
 
 /// Lines that are complained of, in groups, each with the complaint.
-pub const BAD_LINES: [(&str, &[&[u8]]); 5] = [
+pub const BAD_LINES: [(&str, &[&[u8]]); 6] = [
     (
         "desk: no such command: show, replace PLACE COUNT CELL.., undo, redo, squeeze K, save FILE, keep FILE, quit\n",
         &[
@@ -251,6 +251,7 @@ pub const BAD_LINES: [(&str, &[&[u8]]); 5] = [
         ],
     ),
     ("desk: save FILE: the name is missing\n", &[b"save", b" save", b"save \t\r ", b"\tsave\t"]),
+    ("desk: keep FILE: the name is missing\n", &[b"keep", b" keep", b"keep \t\r ", b"\tkeep\t"]),
 ];
 
 /// Every line that is complained of, ended by LF and by CR LF; nothing is done for them.

@@ -155,6 +155,7 @@ fn label(complaint: &Complaint) -> String {
         Complaint::Replace => "replace",
         Complaint::Squeeze => "squeeze",
         Complaint::NameMissing => "name missing",
+        Complaint::KeepNameMissing => "name missing to keep",
         Complaint::NameTooLong => "name too long",
         Complaint::NameWithNul => "name with a NUL",
         Complaint::Save(_, errno) => return format!("FILE: {}", errno.text()),

@@ -83,7 +83,7 @@ fn check_kind(report: &mut Report, kind: Kind, seed: u64) {
 
 /// The statuses that scripts can be told. These they cannot: 9 of open, for no letter within the limit has more cells
 /// than the text buffer; 16 of all but open, for the buffers and the letter are within the limit, and no line has room
-/// for so many cells; 14, for each call is lent what the last one left; 15, for save is lent the letter that was opened;
+/// for so many cells; 14, for each call is lent what the last one left; 15, for save and keep are lent the letter that was opened;
 /// 10 and 9 of save, for all that is read or added is writable, and the output has room for the longest writing; 9 of
 /// squeeze, for its work buffer is as long as the history, and a record no shorter than what it stands for is 19.
 fn expect_statuses(report: &mut Report, kind: Kind) {
@@ -94,10 +94,11 @@ fn expect_statuses(report: &mut Report, kind: Kind) {
     report.expect_statuses(second::REDO, &[0, 13]);
     report.expect_statuses(second::SQUEEZE, &[0, 11, 19]);
     report.expect_statuses(second::SAVE, &[0]);
+    report.expect_statuses(second::KEEP, &[0]);
 }
 
 /// What can be complained of in scripts, and the errors of the system that names in them can cause.
-const COMPLAINTS: [&str; 14] = [
+const COMPLAINTS: [&str; 15] = [
     "line too long",
     "no such command",
     "nothing may follow",
@@ -106,6 +107,7 @@ const COMPLAINTS: [&str; 14] = [
     "replace",
     "squeeze",
     "name missing",
+    "name missing to keep",
     "name too long",
     "name with a NUL",
     "a directory",

@@ -125,7 +125,8 @@ impl Draft {
             22..=24 if self.saves < SAVES => {
                 self.saves += 1;
                 let name = name(rng);
-                self.lines.push(line(rng, &[b"save".to_vec(), name]));
+                let word: &[u8] = rng.pick(&[b"save", b"save", b"keep"]);
+                self.lines.push(line(rng, &[word.to_vec(), name]));
             }
             25..=27 => {
                 let (_, group) = rng.pick(&BAD_LINES);
@@ -191,7 +192,7 @@ impl Draft {
     fn damaged(&self, rng: &mut Rng) -> Vec<u8> {
         let mut damaged = match rng.below(6) {
             0..=3 => {
-                let right: &[u8] = rng.pick(&[b"show", b"undo", b"redo", b"squeeze 2", b"save out"]);
+                let right: &[u8] = rng.pick(&[b"show", b"undo", b"redo", b"squeeze 2", b"save out", b"keep out"]);
                 line(rng, &[right.to_vec()])
             }
             _ => {
