@@ -44,7 +44,8 @@ fn mark_size(mark: Mark) -> usize
 // The size of a page's file: what every file has besides its kind, its mark and its lists is 93 bytes.
 fn size_of(page: Page, arrived: &[u8], cells: &[u32], words: &[u32]) -> usize
     requires { ⌜ (length (now arrived) ≤ limit) × (length (now cells) ≤ limit) × (length (now words) ≤ limit) ⌝ }
-    ensures { λ r. ⌜ r ≡ length (fileOf (contentBy page (now (cells .entry)) (now (words .entry)) (now (arrived .entry)))) ⌝ }
+    ensures { λ r. ⌜ r ≡ length (fileOf (contentBy page (now (cells .entry)) (now (words .entry))
+        (now (arrived .entry)))) ⌝ }
 {
     let kind = page.kind;
     let saved = page.saved;
@@ -92,7 +93,8 @@ fn put_head(page: Page, out: &mut [u8]) -> usize
 fn put_file(page: Page, cells: &[u32], words: &[u32], arrived: &[u8], out: &mut [u8])
     requires { ⌜ length (fileOf (contentBy page (now cells) (now words) (now arrived))) ≤ length (now out) ⌝ }
     ensures { λ _. ⌜ now (out .exit)
-        ≡ filled (fileOf (contentBy page (now (cells .entry)) (now (words .entry)) (now (arrived .entry)))) (now (out .entry)) ⌝ }
+        ≡ filled (fileOf (contentBy page (now (cells .entry)) (now (words .entry)) (now (arrived .entry))))
+        (now (out .entry)) ⌝ }
 {
     let head = put_head(page, &mut *out);
     let text = put::put_arrived(arrived, &mut *out, head);
@@ -105,7 +107,8 @@ fn keep_sound(page: Page, cells: &[u32], words: &[u32], arrived: &[u8], out: &mu
     requires { ⌜ (length (now arrived) ≤ limit) × (length (now cells) ≤ limit) × (length (now words) ≤ limit) ⌝ }
     ensures { λ r. ⌜ leaves r (now (out .exit))
         ≡ cond (belongsBy page (now (cells .entry)) (now (arrived .entry)))
-        (deliver (fileOf (contentBy page (now (cells .entry)) (now (words .entry)) (now (arrived .entry)))) (now (out .entry)))
+        (deliver (fileOf (contentBy page (now (cells .entry)) (now (words .entry)) (now (arrived .entry))))
+        (now (out .entry)))
         (refusing (numbered 15 0) (now (out .entry))) ⌝ }
 {
     if !opened::belongs(page, cells, arrived) {

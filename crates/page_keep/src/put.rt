@@ -10,7 +10,8 @@ ghost use Rattle.parsing.specs.Digits.{digit, digits, groups, LF};
 // These bytes.
 pub fn put_bytes(bytes: &[u8], out: &mut [u8], at: usize) -> usize
     requires { ⌜ at + length (now bytes) ≤ length (now out) ⌝ }
-    ensures { λ r. ⌜ (r ≡ at + length (now (bytes .entry))) × (now (out .exit) ≡ sets (now (out .entry)) at (now (bytes .entry))) ⌝ }
+    ensures { λ r. ⌜ (r ≡ at + length (now (bytes .entry)))
+        × (now (out .exit) ≡ sets (now (out .entry)) at (now (bytes .entry))) ⌝ }
 {
     let mut i: usize = 0;
     while i < bytes.len() {
@@ -67,7 +68,8 @@ fn put_eight(w: u32, out: &mut [u8], at: usize)
 // Bytes as pairs of hex digits.
 fn put_pairs(bytes: &[u8], out: &mut [u8], at: usize) -> usize
     requires { ⌜ at + length (now bytes) * 2 ≤ length (now out) ⌝ }
-    ensures { λ r. ⌜ (r ≡ at + length (now (bytes .entry)) * 2) × (now (out .exit) ≡ sets (now (out .entry)) at (groups 2 (now (bytes .entry)))) ⌝ }
+    ensures { λ r. ⌜ (r ≡ at + length (now (bytes .entry)) * 2)
+        × (now (out .exit) ≡ sets (now (out .entry)) at (groups 2 (now (bytes .entry)))) ⌝ }
 {
     let mut i: usize = 0;
     while i < bytes.len() {
@@ -80,7 +82,8 @@ fn put_pairs(bytes: &[u8], out: &mut [u8], at: usize) -> usize
 // Words as groups of eight hex digits.
 fn put_groups(words: &[u32], out: &mut [u8], at: usize) -> usize
     requires { ⌜ at + length (now words) * 8 ≤ length (now out) ⌝ }
-    ensures { λ r. ⌜ (r ≡ at + length (now (words .entry)) * 8) × (now (out .exit) ≡ sets (now (out .entry)) at (groups 8 (now (words .entry)))) ⌝ }
+    ensures { λ r. ⌜ (r ≡ at + length (now (words .entry)) * 8)
+        × (now (out .exit) ≡ sets (now (out .entry)) at (groups 8 (now (words .entry)))) ⌝ }
 {
     let mut i: usize = 0;
     while i < words.len() {

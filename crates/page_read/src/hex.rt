@@ -65,7 +65,8 @@ pub fn read_words(s: &[u8], from: usize, n: usize, out: &mut [u32])
 // Sets every byte from a place on to 0.
 pub fn clear_bytes(out: &mut [u8], from: usize)
     requires { ⌜ from ≤ length (now out) ⌝ }
-    ensures { λ _. ⌜ now (out .exit) ≡ take from (now (out .entry)) ++ replicate (length (now (out .entry)) - from) 0 ⌝ }
+    ensures { λ _. ⌜ now (out .exit) ≡ take from (now (out .entry))
+        ++ replicate (length (now (out .entry)) - from) 0 ⌝ }
 {
     let mut i = from;
     while i < out.len() {

@@ -66,9 +66,11 @@ fn take_in(
     text: &mut [u32],
     history: &mut [u32],
 ) -> Edited
-    requires { ⌜ Lists (now file) plan × (plan .count ≤ length (now arrived)) × (plan .page .length ≤ length (now text)) × (plan .page .used ≤ length (now history)) ⌝ }
+    requires { ⌜ Lists (now file) plan × (plan .count ≤ length (now arrived)) × (plan .page .length ≤ length (now text))
+        × (plan .page .used ≤ length (now history)) ⌝ }
     ensures { λ r. ⌜ keeps r (now (text .exit)) (now (history .exit)) (now (arrived .exit))
-        ≡ given (now (arrived .entry)) (now (text .entry)) (now (history .entry)) (contentIn (now (file .entry)) plan) ⌝ }
+        ≡ given (now (arrived .entry)) (now (text .entry)) (now (history .entry))
+        (contentIn (now (file .entry)) plan) ⌝ }
 {
     let page = plan.page;
     let count = plan.count;
@@ -89,11 +91,14 @@ fn read_sound(
     text: &mut [u32],
     history: &mut [u32],
 ) -> Edited
-    requires { ⌜ Lists (now file) plan × (plan .count ≤ length (now arrived)) × (plan .page .length ≤ length (now text)) × (plan .page .used ≤ length (now history))
+    requires { ⌜ Lists (now file) plan × (plan .count ≤ length (now arrived)) × (plan .page .length ≤ length (now text))
+        × (plan .page .used ≤ length (now history))
         × (length (now text) ≤ limit) × (length (now history) ≤ limit) ⌝ }
     ensures { λ r. ⌜ keeps r (now (text .exit)) (now (history .exit)) (now (arrived .exit))
-        ≡ readParted (now (arrived .entry)) (now (text .entry)) (now (history .entry)) (contentIn (now (file .entry)) plan)
-        (records (stateFrom (now (arrived .entry)) (now (text .entry)) (now (history .entry)) (contentIn (now (file .entry)) plan))) ⌝ }
+        ≡ readParted (now (arrived .entry)) (now (text .entry)) (now (history .entry))
+        (contentIn (now (file .entry)) plan)
+        (records (stateFrom (now (arrived .entry)) (now (text .entry)) (now (history .entry))
+        (contentIn (now (file .entry)) plan))) ⌝ }
 {
     let page = plan.page;
     if !walk::is_sound(file, plan.history, page, text.len()) {
@@ -115,7 +120,8 @@ fn read_fitting(
 ) -> Edited
     requires { ⌜ Lists (now file) plan × (length (now text) ≤ limit) × (length (now history) ≤ limit) ⌝ }
     ensures { λ r. ⌜ keeps r (now (text .exit)) (now (history .exit)) (now (arrived .exit))
-        ≡ readFitting (now (arrived .entry)) (now (text .entry)) (now (history .entry)) (contentIn (now (file .entry)) plan) ⌝ }
+        ≡ readFitting (now (arrived .entry)) (now (text .entry)) (now (history .entry))
+        (contentIn (now (file .entry)) plan) ⌝ }
 {
     let page = plan.page;
     if arrived.len() < plan.count {

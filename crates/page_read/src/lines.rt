@@ -14,7 +14,8 @@ ghost use Rattle.parsing.specs.Digits.{number, LF};
 ghost use Rattle.scan.specs.Found.{foundIn, passedIn};
 ghost use Rattle.page_file.specs.File.{form1};
 ghost use Rattle.page_file.specs.Reading.{kindName, mark, linesOf, parse};
-ghost use Rattle.page_read.specs.Inner.{kindOf, kindIn, markIn, keyLine, keyList, listedIn, listLines, headThen, planIn, Lies, Planned};
+ghost use Rattle.page_read.specs.Inner.{kindOf, kindIn, markIn, keyLine, keyList};
+ghost use Rattle.page_read.specs.Inner.{listedIn, listLines, headThen, planIn, Lies, Planned};
 
 // A mark and the place behind it, or the place of the first byte that cannot stand there.
 pub struct FoundMark {
@@ -70,7 +71,8 @@ fn further(a: usize, b: usize) -> usize
 
 // A value, if LF stands behind it.
 fn ended(file: &[u8], value: usize, at: usize) -> Found
-    ensures { λ r. ⌜ (r .value ≡ value) × (passedIn (now (file .entry)) r ≡ literal LF (drop at (now (file .entry))) at) ⌝ }
+    ensures { λ r. ⌜ (r .value ≡ value)
+        × (passedIn (now (file .entry)) r ≡ literal LF (drop at (now (file .entry))) at) ⌝ }
 {
     let end = scan::word(file, at, b"\n");
     Found {
@@ -81,7 +83,8 @@ fn ended(file: &[u8], value: usize, at: usize) -> Found
 }
 
 fn number_line(file: &[u8], from: usize, key: &[u8]) -> Found
-    ensures { λ r. ⌜ foundIn (now (file .entry)) r ≡ keyLine (now (key .entry)) (number 10 5 limit) (drop from (now (file .entry))) from ⌝ }
+    ensures { λ r. ⌜ foundIn (now (file .entry)) r
+        ≡ keyLine (now (key .entry)) (number 10 5 limit) (drop from (now (file .entry))) from ⌝ }
 {
     let start = scan::word(file, from, key);
     if !start.ok {
@@ -127,7 +130,8 @@ fn kind_name(file: &[u8], from: usize) -> Found
 }
 
 fn kind_line(file: &[u8], from: usize) -> Found
-    ensures { λ r. ⌜ kindIn (now (file .entry)) r ≡ keyLine (bytes "kind=") kindName (drop from (now (file .entry))) from ⌝ }
+    ensures { λ r. ⌜ kindIn (now (file .entry)) r
+        ≡ keyLine (bytes "kind=") kindName (drop from (now (file .entry))) from ⌝ }
 {
     let start = scan::word(file, from, b"kind=");
     if !start.ok {
@@ -189,7 +193,8 @@ fn mark_value(file: &[u8], from: usize) -> FoundMark
 }
 
 fn mark_line(file: &[u8], from: usize) -> FoundMark
-    ensures { λ r. ⌜ markIn (now (file .entry)) r ≡ keyLine (bytes "saved=") (mark form1) (drop from (now (file .entry))) from ⌝ }
+    ensures { λ r. ⌜ markIn (now (file .entry)) r
+        ≡ keyLine (bytes "saved=") (mark form1) (drop from (now (file .entry))) from ⌝ }
 {
     let start = scan::word(file, from, b"saved=");
     if !start.ok {
@@ -237,7 +242,8 @@ fn head_of(
     at: usize,
 ) -> Head
     ensures { λ r. ⌜ (r .ok ≡ true) × (r .at ≡ at)
-        × (r .page ≡ record { kind = kind; opening = opening; length = length; used = used; done = done; saved = saved }) ⌝ }
+        × (r .page
+        ≡ record { kind = kind; opening = opening; length = length; used = used; done = done; saved = saved }) ⌝ }
 {
     Head {
         ok: true,
@@ -310,7 +316,8 @@ fn no_list(at: usize) -> Listed
 }
 
 fn arrived_line(file: &[u8], from: usize) -> Listed
-    ensures { λ r. ⌜ (listedIn 2 (now (file .entry)) r ≡ keyList (bytes "arrived=") 2 0 limit (drop from (now (file .entry))) from)
+    ensures { λ r. ⌜ (listedIn 2 (now (file .entry)) r
+        ≡ keyList (bytes "arrived=") 2 0 limit (drop from (now (file .entry))) from)
         × Lies 2 (now (file .entry)) r × (r .ok ≡ true → r .count ≤ limit) ⌝ }
 {
     let key = scan::word(file, from, b"arrived=");
@@ -327,7 +334,8 @@ fn arrived_line(file: &[u8], from: usize) -> Listed
 }
 
 fn words_line(file: &[u8], from: usize, key: &[u8], n: usize) -> Listed
-    ensures { λ r. ⌜ (listedIn 8 (now (file .entry)) r ≡ keyList (now (key .entry)) 8 n n (drop from (now (file .entry))) from)
+    ensures { λ r. ⌜ (listedIn 8 (now (file .entry)) r
+        ≡ keyList (now (key .entry)) 8 n n (drop from (now (file .entry))) from)
         × Lies 8 (now (file .entry)) r × (r .ok ≡ true → r .count ≡ n) ⌝ }
 {
     let start = scan::word(file, from, key);

@@ -99,7 +99,8 @@ fn has_cells(kind: Kind, file: &[u8], base: usize, n: usize, cells: usize) -> bo
 // The n bytes are accepted and read as the m words of the text.
 fn utf7_same(file: &[u8], base: usize, n: usize, text: usize, m: usize) -> bool
     requires { ⌜ (base + n * 2 ≤ length (now file)) × (text + m * 8 ≤ length (now file)) ⌝ }
-    ensures { λ r. ⌜ r ≡ matching.readsAs utf7 (hexesAt (now (file .entry)) base 2 n) (hexesAt (now (file .entry)) text 8 m) ⌝ }
+    ensures { λ r. ⌜ r ≡ matching.readsAs utf7 (hexesAt (now (file .entry)) base 2 n)
+        (hexesAt (now (file .entry)) text 8 m) ⌝ }
 {
     let mut at: usize = 0;
     let mut count: usize = 0;
@@ -135,7 +136,8 @@ fn utf7_same(file: &[u8], base: usize, n: usize, text: usize, m: usize) -> bool
 
 fn jp2_same(file: &[u8], base: usize, n: usize, text: usize, m: usize) -> bool
     requires { ⌜ (base + n * 2 ≤ length (now file)) × (text + m * 8 ≤ length (now file)) ⌝ }
-    ensures { λ r. ⌜ r ≡ matching.readsAs jp2 (hexesAt (now (file .entry)) base 2 n) (hexesAt (now (file .entry)) text 8 m) ⌝ }
+    ensures { λ r. ⌜ r ≡ matching.readsAs jp2 (hexesAt (now (file .entry)) base 2 n)
+        (hexesAt (now (file .entry)) text 8 m) ⌝ }
 {
     let mut at: usize = 0;
     let mut count: usize = 0;
@@ -183,7 +185,8 @@ fn same_text(kind: Kind, file: &[u8], base: usize, n: usize, text: usize, m: usi
 // On a sound page: with nothing standing the bytes read as the text, else as the opening number of cells.
 pub fn belongs(file: &[u8], plan: Plan) -> bool
     requires { ⌜ Lists (now file) plan ⌝ }
-    ensures { λ r. ⌜ r ≡ belongsBy (plan .page) (contentIn (now (file .entry)) plan .text) (contentIn (now (file .entry)) plan .arrived) ⌝ }
+    ensures { λ r. ⌜ r ≡ belongsBy (plan .page) (contentIn (now (file .entry)) plan .text)
+        (contentIn (now (file .entry)) plan .arrived) ⌝ }
 {
     let page = plan.page;
     let kind = page.kind;

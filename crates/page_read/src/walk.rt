@@ -36,7 +36,8 @@ fn walk_records(
     before: usize,
     room: usize,
 ) -> Walk
-    requires { ⌜ (from ≤ to) × (to ≤ n) × (n ≤ limit) × (base + n * 8 ≤ length (now file)) × (start ≤ room) × (room ≤ limit) ⌝ }
+    requires { ⌜ (from ≤ to) × (to ≤ n) × (n ≤ limit) × (base + n * 8 ≤ length (now file)) × (start ≤ room)
+        × (room ≤ limit) ⌝ }
     ensures { λ r. ⌜ r ≡ walkIn room from start before (slice from to (hexesAt (now (file .entry)) base 8 n)) ⌝ }
 {
     let mut at = from;
@@ -78,8 +79,10 @@ fn walk_marked(
     room: usize,
     mark: Mark,
 ) -> Walk
-    requires { ⌜ (from ≤ to) × (to ≤ n) × (n ≤ limit) × (base + n * 8 ≤ length (now file)) × (start ≤ room) × (room ≤ limit) ⌝ }
-    ensures { λ r. ⌜ r ≡ walkCut room from start from (cutIn mark from to - from) (slice from to (hexesAt (now (file .entry)) base 8 n)) ⌝ }
+    requires { ⌜ (from ≤ to) × (to ≤ n) × (n ≤ limit) × (base + n * 8 ≤ length (now file)) × (start ≤ room)
+        × (room ≤ limit) ⌝ }
+    ensures { λ r. ⌜ r ≡ walkCut room from start from (cutIn mark from to - from)
+        (slice from to (hexesAt (now (file .entry)) base 8 n)) ⌝ }
 {
     let cut = records::cut_in(mark, from, to);
     let first = walk_records(file, base, n, from, cut, start, from, room);
@@ -91,8 +94,10 @@ fn walk_marked(
 
 // The page is sound with any buffers that begin with its lists and hold zeros past them, the text's of this length.
 pub fn is_sound(file: &[u8], base: usize, page: Page, room: usize) -> bool
-    requires { ⌜ (page .length ≤ room) × (room ≤ limit) × (page .used ≤ limit) × (base + page .used * 8 ≤ length (now file)) ⌝ }
-    ensures { λ r. ⌜ ((t h : List ℕ) → Frames page room (hexesAt (now (file .entry)) base 8 (page .used)) t h → r ≡ isSome (records (stateOf page t h))) ⌝ }
+    requires { ⌜ (page .length ≤ room) × (room ≤ limit) × (page .used ≤ limit)
+        × (base + page .used * 8 ≤ length (now file)) ⌝ }
+    ensures { λ r. ⌜ ((t h : List ℕ) → Frames page room (hexesAt (now (file .entry)) base 8 (page .used)) t h →
+        r ≡ isSome (records (stateOf page t h))) ⌝ }
 {
     if room < page.opening {
         return false;

@@ -12,7 +12,8 @@ use Rattle.answer.specs.Lists.{Each}
 use Rattle.answer.proofs.Below.{cond-case}
 use Rattle.codec.specs.Kinds.{firstUnwritable}
 use Rattle.codec.proofs.Bounds.{Word, cells-added}
-use Rattle.editor.specs.Ledger.{Step, Ledger, Call, replace, undo, redo, save, squeeze, lastOf, beforeLast, acceptedCall, fed}
+use Rattle.editor.specs.Ledger.{Step, Ledger, Call, replace, undo, redo}
+use Rattle.editor.specs.Ledger.{save, squeeze, lastOf, beforeLast, acceptedCall, fed}
 use Rattle.editor.specs.Ledger.{textAfter}
 use Rattle.editor.specs.Editor.{Editor, Space, Turn, replaceAt, overlong}
 use Rattle.editor.specs.Layout.{Outcome, taken, Layout, callOn, outcomeOf}

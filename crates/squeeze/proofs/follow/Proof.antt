@@ -4,12 +4,14 @@ use Prim.Native.Nat.{_+_, _-_, _≤_}
 use mathlib.Core.Path.{refl, sym, _∙_}
 use Rattle.reading.specs.Stepping.{least}
 use Rattle.squeeze.specs.Tracing.{On}
-use Rattle.squeeze.proofs.Tracing.{seen, whole-next, kept-within, least-below, at-kept, at-end, on-passed, on-further}
+use Rattle.squeeze.proofs.Tracing.{seen, whole-next, kept-within, least-below}
+use Rattle.squeeze.proofs.Tracing.{at-kept, at-end, on-passed, on-further}
 use Rattle.squeeze.proofs.follow.Statement.{statement}
 use Rattle.squeeze.proofs.follow.Tie as tie
 
 abbrev Inv-loop : tie.InvT-loop
-Inv-loop history from to text start most at₀ cell₀ count₀ at cell count = On from to history text start most at cell count
+Inv-loop history from to text start most at₀ cell₀ count₀ at cell count =
+    On from to history text start most at cell count
 
 abbrev μ-loop : tie.MeasureT-loop
 μ-loop history from to text start most at₀ cell₀ count₀ at cell count = to - at

@@ -97,7 +97,8 @@ returns-3 c = c .before .before .before .before .before .before .before .before 
 
 past-requires : tie.Need-past-requires Inv-loop μ-loop
 past-requires c κs =
-    let a = c .before .before .before .before .before .before .before .before .before .before .before .before .before .before .args in
+    let a = c .before .before .before .before .before .before .before .before .before .before .before .before .before
+    .before .args in
     let l = c .before .before .before .before .before .before .before .before .before .before .before .loop in
     let o = l .inv .2 in
     let place = c .before .before .wide3 in
@@ -112,7 +113,8 @@ past-requires c κs =
 
 loop-less : tie.Need-loop-less Inv-loop μ-loop
 loop-less c =
-    let a = c .before .before .before .before .before .before .before .before .before .before .before .before .before .before .before .args in
+    let a = c .before .before .before .before .before .before .before .before .before .before .before .before .before
+    .before .before .args in
     let l = c .before .before .before .before .before .before .before .before .before .before .before .before .loop in
     let o = l .inv .2 in
     let place = c .before .before .before .wide3 in
@@ -128,7 +130,8 @@ loop-less c =
 
 loop-again : tie.Need-loop-again Inv-loop μ-loop
 loop-again c =
-    let a = c .before .before .before .before .before .before .before .before .before .before .before .before .before .before .before .args in
+    let a = c .before .before .before .before .before .before .before .before .before .before .before .before .before
+    .before .before .args in
     let l = c .before .before .before .before .before .before .before .before .before .before .before .before .loop in
     let o = l .inv .2 in
     let place = c .before .before .before .wide3 in

@@ -4,7 +4,8 @@ use lib.Seq.{length-take-le}
 use borrow.Author.Tests.{lt-ltb}
 use Rattle.ledger.specs.Page.{State, stateOf}
 use Rattle.records.proofs.Found.{fit}
-use Rattle.squeeze.proofs.Folding.{too-few, leads-standing, opens-standing, over-standing, squeezes, history-filled}
+use Rattle.squeeze.proofs.Folding.{too-few, leads-standing, opens-standing}
+use Rattle.squeeze.proofs.Folding.{over-standing, squeezes, history-filled}
 use borrow.Author.Needs.{needs}
 use Rattle.squeeze.proofs.squeeze_sound.Statement.{statement}
 use Rattle.squeeze.proofs.squeeze_sound.Tie as tie
@@ -72,10 +73,12 @@ same-length-3 c = search needs
 
 returns-3 : tie.Need-returns-3
 returns-3 c =
-    let a = c .before .before .before .before .before .before .before .before .before .before .before .before .before .before .before .before .args in
+    let a = c .before .before .before .before .before .before .before .before .before .before .before .before .before
+    .before .before .before .args in
     let s : State = stateOf (a .page) (a .text .now) (a .history .now) in
     let f = fit s refl
-    (c .before .before .before .before .before .before .before .before .before .before .before .before .before .before .before .before .pre) in
+    (c .before .before .before .before .before .before .before .before .before .before .before .before .before .before
+    .before .before .pre) in
     let o = c .before .before .before .before .before .before .before .before .before .oldest in
     let q = squeezes s (f .parted) (f .sound) (f .short) (f .found) (f .short-text) (a .k) (a .work .now) (o .result)
     (o .ensures) (omega arith) (omega arith) in

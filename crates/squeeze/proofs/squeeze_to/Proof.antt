@@ -75,14 +75,26 @@ same-length-2 c = search needs
 
 returns-3 : tie.Need-returns-3
 returns-3 c =
-    let a = c .before .before .before .before .before .before .before .before .before .before .before .before .before .before .before .before .before .before .before .args in
-    let p = c .before .before .before .before .before .before .before .before .before .before .before .before .before .before .before .before .before .before .before .pre in
+    let a = c .before .before .before .before .before .before .before .before .before .before .before .before .before
+    .before .before .before .before .before .before .args in
+    let p = c .before .before .before .before .before .before .before .before .before .before .before .before .before
+    .before .before .before .before .before .before .pre in
     let s : State = stateOf (a .page) (a .text .now) (a .history .now) in
     let w = c .before .before .before .before .before .before .before .before .write-record in
     let h = c .before .before .before .splice-in in
     rw (c .shrunk .ensures)
     (squeezed-so s (a .work .now) (a .fold) (p .0)
-    (omega (arith, c .before .before .before .before .before .before .before .before .before .before .before .before .before .if1 .left)) (omega (arith, c .before .before .before .before .before .before .before .before .before .before .before .before .if2 .left)) (p .2) (p .3) (p .4) (w .last .0) (h .last .0) (w .ensures) (h .ensures .1))
+    (omega (
+      arith,
+      c .before .before .before .before .before .before .before .before .before .before .before .before
+          .before .if1 .left,
+    ))
+    (omega (
+      arith,
+      c .before .before .before .before .before .before .before .before .before .before .before .before
+          .if2 .left,
+    ))
+    (p .2) (p .3) (p .4) (w .last .0) (h .last .0) (w .ensures) (h .ensures .1))
 
 pub squeeze-to-spec : {M : Type 1} → statement M
 squeeze-to-spec =

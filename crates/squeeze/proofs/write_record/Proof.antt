@@ -47,8 +47,10 @@ add-second c =
 
 trace-requires-2 : tie.Need-trace-requires-2
 trace-requires-2 c κs =
-    let a = c .before .before .before .before .before .before .before .before .before .before .before .before .before .args in
-    let p = c .before .before .before .before .before .before .before .before .before .before .before .before .before .pre in
+    let a = c .before .before .before .before .before .before .before .before .before .before .before .before
+    .before .args in
+    let p = c .before .before .before .before .before .before .before .before .before .before .before .before
+    .before .pre in
     let e = c .before .before .before .before .before .before .before .splice-in in
     let t = c .before .before .before .trace in
     let n = three (a .work .now) (textSince 0 (a .done) (a .history .now) (a .text .now))
@@ -64,8 +66,10 @@ same-length c = search needs
 
 returns : tie.Need-returns
 returns c =
-    let a = c .before .before .before .before .before .before .before .before .before .before .before .before .before .before .before .before .args in
-    let p = c .before .before .before .before .before .before .before .before .before .before .before .before .before .before .before .before .pre in
+    let a = c .before .before .before .before .before .before .before .before .before .before .before .before .before
+    .before .before .before .args in
+    let p = c .before .before .before .before .before .before .before .before .before .before .before .before .before
+    .before .before .before .pre in
     let e = c .before .before .before .before .before .before .before .before .before .before .splice-in in
     let t = c .before .before .before .before .before .before .trace in
     let u = c .before .before .trace2 in

@@ -76,7 +76,8 @@ returns-3 c =
             list-is "arrived" 2 0 limit
                 (drop (first-lines′ .result .at) (a .file .now)) (first-lines′ .result .at) ∙ is-found
                 (hexesAt (a .file .now) (arrived-line′ .result .from) 2 (arrived-line′ .result .count)) (a .file .now)
-                (arrived-line′ .result .ok) (arrived-line′ .result .at) (arrived-line′ .ensures .0) (not-no _ (if2′ .left)),
+                (arrived-line′ .result .ok) (arrived-line′ .result .at) (arrived-line′ .ensures .0)
+                (not-no _ (if2′ .left)),
             list-is "text" 8 (first-lines′ .result .page .length) (first-lines′ .result .page .length)
                 (drop (arrived-line′ .result .at) (a .file .now)) (arrived-line′ .result .at) ∙ is-failed
                 (hexesAt (a .file .now) (words-line′ .result .from) 8 (words-line′ .result .count)) (a .file .now)
@@ -115,7 +116,8 @@ returns-4 c =
             list-is "arrived" 2 0 limit
                 (drop (first-lines′ .result .at) (a .file .now)) (first-lines′ .result .at) ∙ is-found
                 (hexesAt (a .file .now) (arrived-line′ .result .from) 2 (arrived-line′ .result .count)) (a .file .now)
-                (arrived-line′ .result .ok) (arrived-line′ .result .at) (arrived-line′ .ensures .0) (not-no _ (if2′ .left)),
+                (arrived-line′ .result .ok) (arrived-line′ .result .at) (arrived-line′ .ensures .0)
+                (not-no _ (if2′ .left)),
             list-is "text" 8 (first-lines′ .result .page .length) (first-lines′ .result .page .length)
                 (drop (arrived-line′ .result .at) (a .file .now)) (arrived-line′ .result .at) ∙ is-found
                 (hexesAt (a .file .now) (words-line′ .result .from) 8 (words-line′ .result .count)) (a .file .now)
@@ -124,7 +126,8 @@ returns-4 c =
                 "history" 8 (first-lines′ .result .page .used) (first-lines′ .result .page .used)
                 (drop (words-line′ .result .at) (a .file .now)) (words-line′ .result .at) ∙ is-failed
                 (hexesAt (a .file .now) (words-line2′ .result .from) 8 (words-line2′ .result .count)) (a .file .now)
-                (words-line2′ .result .ok) (words-line2′ .result .at) (words-line2′ .ensures .0) (not-yes _ (if4′ .taken)),
+                (words-line2′ .result .ok) (words-line2′ .result .at) (words-line2′ .ensures .0)
+                (not-yes _ (if4′ .taken)),
           ))),
       never _ (no-plan4′ .ensures .0),
     )
@@ -154,7 +157,8 @@ returns-5 c =
             list-is "arrived" 2 0 limit
                 (drop (first-lines′ .result .at) (a .file .now)) (first-lines′ .result .at) ∙ is-found
                 (hexesAt (a .file .now) (arrived-line′ .result .from) 2 (arrived-line′ .result .count)) (a .file .now)
-                (arrived-line′ .result .ok) (arrived-line′ .result .at) (arrived-line′ .ensures .0) (not-no _ (if2′ .left)),
+                (arrived-line′ .result .ok) (arrived-line′ .result .at) (arrived-line′ .ensures .0)
+                (not-no _ (if2′ .left)),
             list-is "text" 8 (first-lines′ .result .page .length) (first-lines′ .result .page .length)
                 (drop (arrived-line′ .result .at) (a .file .now)) (arrived-line′ .result .at) ∙ is-found
                 (hexesAt (a .file .now) (words-line′ .result .from) 8 (words-line′ .result .count)) (a .file .now)
@@ -163,7 +167,8 @@ returns-5 c =
                 "history" 8 (first-lines′ .result .page .used) (first-lines′ .result .page .used)
                 (drop (words-line′ .result .at) (a .file .now)) (words-line′ .result .at) ∙ is-found
                 (hexesAt (a .file .now) (words-line2′ .result .from) 8 (words-line2′ .result .count)) (a .file .now)
-                (words-line2′ .result .ok) (words-line2′ .result .at) (words-line2′ .ensures .0) (not-no _ (if4′ .left)),
+                (words-line2′ .result .ok) (words-line2′ .result .at) (words-line2′ .ensures .0)
+                (not-no _ (if4′ .left)),
           )
           (goes-on (record {
             page = first-lines′ .result .page;
