@@ -115,14 +115,14 @@ fn resume(file: &[u8], letter: &mut [u8], text: &mut [u32], history: &mut [u32])
 {
     let given = page_read::read(file, &mut *letter, &mut *text, &mut *history);
     let answer = given.answer;
-    let p = given.page;
+    let kept = given.page;
     replies::tell(answer);
     match answer {
         Answer::Accepted(n) => {
-            let hand = lines::work(p, &letter[..n], &mut *text, &mut *history);
+            let hand = lines::work(kept, &letter[..n], &mut *text, &mut *history);
             lines::see_out(hand, &*text, &*history);
             hand
         }
-        Answer::Refused(_, _) => lines::holding(p, 0, false, false, false),
+        Answer::Refused(_, _) => lines::holding(kept, 0, false, false, false),
     }
 }

@@ -1,26 +1,42 @@
--- The desk keeps demand 3: its lines are a list of calls on its page. And a line leaves it only where the ledger calls
--- the page saved, or the last command was a `quit` too. Assumes nothing.
+-- The desk keeps demand 3, across the runs that a page is kept between: its lines are a list of calls on its page. And a
+-- line leaves it only where the ledger calls the page saved, or the last command was a `quit` too. Assumes nothing.
 use Prim.Native.Nat.{ℕ}
-use mathlib.Core.Path.{_≡_, refl, sym, ap, _∙_}
+use mathlib.Core.Path.{_≡_, refl, sym, ap, _∙_, subst₂}
 use mathlib.Core.Bool.{Bool, true, false, _&&_, _||_, false≢true}
-use mathlib.Core.List.{List, [], _∷_, _++_}
+use mathlib.Core.List.{List, [], _∷_, _++_, map}
 use mathlib.Core.Option.{Option, none, some}
-use lib.ListN.{length}
+use native.Mathlib.Omega.{arith}
+use lib.ListN.{length, take, drop}
+use lib.Seq.{take-append-seam}
 use lib.Dec.{eqb}
+use borrow.Author.Tests.{eq-eqb, ltb-false}
+use Rattle.answer.specs.Answer.{limit}
+use Rattle.answer.specs.Output as output
 use Rattle.codec.specs.declared.Kind.{Kind}
+use Rattle.editor.specs.Editor.{over}
+use Rattle.editor.proofs.Steps.{or-parts}
+use Rattle.editor.proofs.Ends.{Fills, leaves, fills, deliver-fills}
 use Rattle.ledger.specs.Page.{State}
-use Rattle.ledger.specs.Words.{inWords}
-use Rattle.ledger.specs.Calls.{openOf, Reply}
-use Rattle.ledger.specs.Ledger.{Call, opened, unchangedBy}
+use Rattle.ledger.specs.Calls.{Reply}
+use Rattle.ledger.specs.Ledger.{Ledger, Call}
 use Rattle.ledger.specs.Running.{taken, after, heard}
 use Rattle.ledger.specs.Demand.{Promised}
-use Rattle.ledger.proofs.Demand.{demand3}
+use Rattle.ledger.proofs.Lying.{page-lays}
+use Rattle.page_file.specs.Calls.{keepOf, readOf}
+use Rattle.sessions.specs.Books as books
+use Rattle.sessions.specs.Books.{restore, opening, told}
+use Rattle.sessions.specs.Sessions.{begins}
+use Rattle.sessions.specs.Demand.{RoomFor, fileFor}
+use Rattle.sessions.proofs.Restores.{keep-accepted}
+use Rattle.sessions.proofs.Sessions.{Holds, Shelved, Together, together, calls-alone}
+use Rattle.sessions.proofs.Demand.{begins-together, goes-on}
 use Rattle.commands.specs.Lines.{saidIn}
 use Rattle.commands.specs.declared.Verb.{Verb}
 use Rattle.commands.specs.declared.Verb.the-variants.{Nothing, Show, Replace, Undo, Redo, Save, Quit}
 use Rattle.commands.specs.declared.Verb.the-variants.{Squeeze, Keep, Unknown}
 use Rattle.desk_lines.specs.Desk.{Desk, begun, free, leaving, Came, callIn, afterCall, afterLine, afterLines, withCall, callsIn}
 use Rattle.desk_lines.specs.Desk.{Turn, obeys, passes, waits, Turns, none-yet, then}
+use Rattle.desk_lines.specs.Runs.{Put, Reached, opens, works, resumes, Demand3}
 use Rattle.desk_lines.specs.Demand.{Keeps, Left}
 
 -- a line's call comes before those of the lines that follow
@@ -63,23 +79,86 @@ module _ (letter : List ℕ) where
   along none-yet = record { lines = []; arrive = refl }
   along (then turns stays turn) = along-turn (along turns) turn
 
--- after every list of lines on a page that was opened, whatever became of their files, all that demand 3 promises holds
--- of it and of the ledger that heard their calls
-pub desk-keeps :
-    (kind : Kind) (arrived text history : List ℕ) → taken (openOf kind arrived text history) ≡ true → (lines : List Came) →
-    Promised arrived (afterLines arrived (openOf kind arrived text history .state) lines)
-    (heard (opened kind arrived) (openOf kind arrived text history .state) (callsIn arrived lines))
-desk-keeps kind arrived text history ok lines =
-    rw (lines-call arrived (openOf kind arrived text history .state) lines)
-    (demand3 kind arrived text history ok (callsIn arrived lines))
+-- an output that was filled, and not refused, has the file at its front
+filled-file :
+    (out file : List ℕ) (o : output.Outcome) → Fills out file o → o .verdict .number ≡ 0 →
+    take (o .verdict .place) (o .out) ≡ file
+filled-file out file o (leaves v n) e = absurd (false≢true (sym n ∙ eq-eqb (v .number) 0 e))
+filled-file out file o fills e = take-append-seam file (drop (length file) out)
 
--- so does every desk that turns lead to, from the accepted open on
-pub turns-keep :
-    (kind : Kind) (letter text history : List ℕ) {to : Desk} {n : ℕ} → taken (openOf kind letter text history) ≡ true →
-    Turns letter (begun (openOf kind letter text history .state)) n to → Keeps kind letter text history (to .state)
-turns-keep kind letter text history ok turns =
-    let a = along letter turns in
-    record { lines = a .lines; promised = rw (a .arrive) at (desk-keeps kind letter text history ok (a .lines)) }
+module _ {letter : List ℕ} {s : State} {l : Ledger} (h : Holds letter s l) where
+  alone : Together letter (begins s letter) (opening l)
+  alone = record { now = h; same-bytes = refl; shelf = tt }
+
+  -- what was put is the page's file
+  put-is : {file : List ℕ} → Put s letter file → file ≡ fileFor s letter
+  put-is put =
+      put .bytes
+      ∙ filled-file (put .out) (fileFor s letter) (keepOf s letter (put .out))
+      (rw (keep-accepted (h .kept) (put .out)) (deliver-fills (put .out) (fileFor s letter))) (put .accepted)
+
+  -- a list of actions reads it
+  module _ {file : List ℕ} (put : Put s letter file) (arrived text history : List ℕ) where
+    read : taken (readOf arrived text history file) ≡ true →
+        Holds letter (readOf arrived text history file .state) l
+        × (take (readOf arrived text history file .verdict .place) (readOf arrived text history file .output) ≡ letter)
+    unfolding told
+    read ok =
+        let shelved : Shelved letter file l = record { state = s; holds = h; is = put-is put } in
+        let held : Together letter (record { state = s; arrived = letter; files = file ∷ [] })
+        (record { ledger = l; kept = l ∷ [] }) = record { now = h; same-bytes = refl; shelf = (shelved, tt) } in
+        let t = rw ok at (together letter held (restore 0 arrived text history ∷ [])) in
+        (t .now, t .same-bytes)
+
+  room-for :
+      (arrived text history : List ℕ) → length arrived ≡ limit → length text ≡ limit → length history ≡ limit →
+      RoomFor s letter arrived text history
+  room-for arrived text history a t w =
+      let q = or-parts (over (s .text)) (over (s .history)) (page-lays .short (h .kept .lies)) in
+      record {
+        for-arrived = (omega (arith, h .kept .good .few, a), omega (arith, a));
+        for-text = (omega (arith, ltb-false limit (length (s .text)) (q .0), t), omega (arith, t));
+        for-history = (omega (arith, ltb-false limit (length (s .history)) (q .1), w), omega (arith, w));
+      }
+
+  -- lines are a list of actions
+  worked : (lines : List Came) → Holds letter (afterLines letter s lines) (heard l s (callsIn letter lines))
+  worked lines =
+      let q = calls-alone s letter l (callsIn letter lines) in
+      rw (lines-call letter s lines)
+      (subst₂ (Together letter) (q .0) (q .1) (together letter alone (map books.call (callsIn letter lines))) .now)
+
+-- a page that runs of desk lead to is the one that its ledger determines
+reached-holds : {kind : Kind} {letter : List ℕ} {s : State} {l : Ledger} → Reached kind letter s l → Holds letter s l
+reached-holds {kind} {letter} (opens text history ok) = begins-together kind letter text history ok .now
+reached-holds (works r lines) = worked (reached-holds r) lines
+reached-holds (resumes r put arrived text history ok) = read (reached-holds r) put arrived text history ok .0
+
+pub runs-on : Demand3
+runs-on kind letter s l r =
+    let h = reached-holds r in
+    let g = goes-on (alone h) in
+    record {
+      promised = g .promised;
+      keeps = g .keeps;
+      reads = λ file put arrived text history room.
+          ap taken (ap (readOf arrived text history) (put-is h put) ∙ g .restores arrived text history room);
+      room = room-for h;
+      letter-back = λ file put arrived text history ok. read h put arrived text history ok .1;
+    }
+
+module _ {kind : Kind} {letter : List ℕ} {s : State} {l : Ledger} (r : Reached kind letter s l) where
+  -- after every list of lines on such a page, whatever became of their files, all that demand 3 promises holds of it
+  -- and of the ledger that heard their calls
+  pub desk-keeps :
+      (lines : List Came) → Promised letter (afterLines letter s lines) (heard l s (callsIn letter lines))
+  desk-keeps lines = runs-on kind letter _ _ (works r lines) .promised
+
+  -- so it does at every desk that turns lead to
+  pub turns-keep : {to : Desk} {n : ℕ} → Turns letter (begun s) n to → Keeps letter s l (to .state)
+  turns-keep turns =
+      let a = along letter turns in
+      record { lines = a .lines; arrive = a .arrive; promised = rw (a .arrive) at (desk-keeps (a .lines)) }
 
 -- a second `quit` leaves the desk
 pub quit-again : (d : Desk) → d .warned ≡ true → free d ≡ true
@@ -113,18 +192,17 @@ turn-leaves (waits q) l = absurd (false≢true (sym (ap (λ (x : Desk). x .left)
 
 -- a desk that a line left was asked about
 pub left-asked :
-    (kind : Kind) (letter text history : List ℕ) {to : Desk} {n : ℕ} → taken (openOf kind letter text history) ≡ true →
-    Turns letter (begun (openOf kind letter text history .state)) n to → to .left ≡ true →
-    Left kind letter text history to
-left-asked kind letter text history ok none-yet l = absurd (false≢true l)
-left-asked kind letter text history ok (then {n} {d} turns stays turn) l =
-    let k = turns-keep kind letter text history ok turns in
+    {kind : Kind} {letter : List ℕ} {s : State} {l : Ledger} {to : Desk} {n : ℕ} → Reached kind letter s l →
+    Turns letter (begun s) n to → to .left ≡ true →
+    Left letter s l to
+left-asked r none-yet e = absurd (false≢true e)
+left-asked r (then {n} {d} turns stays turn) e =
+    let k = turns-keep r turns in
     record {
       turns = n;
       before = d;
       led = turns;
       turn = turn;
-      lines = k .lines;
-      promised = k .promised;
-      asked = rw (ap (λ (r : Reply). r .unchanged) (k .promised .asks)) at (turn-leaves turn l);
+      keeps = k;
+      asked = rw (ap (λ (r : Reply). r .unchanged) (k .promised .asks)) at (turn-leaves turn e);
     }

@@ -1,2 +1,3 @@
 pub mod Desk
+pub mod Runs
 pub mod Demand
