@@ -1,7 +1,6 @@
 //! The program `desk`. Of document 01 it has the page and the listers' style; quotations in comments are sentences of
-//! docs/DESK.md, which tells the rest and is README.md's part on `desk`. It was written without a look at the proved code, but
-//! for `keep` and `page`, which were written after it by the same hand.
-//! Where docs/DESK.md is silent, a comment says what is taken.
+//! docs/DESK.md, which tells the rest and is README.md's part on `desk`, or of order 6 of document 02 where a comment says
+//! so. It was written without a look at the proved code. Where docs/DESK.md is silent, a comment says what is taken.
 
 use std::mem;
 
@@ -104,9 +103,6 @@ pub const SAVE: &str = "desk-save";
 pub const KEEP: &str = "desk-keep";
 pub const PAGE: &str = "desk-page";
 
-/// The first argument that stands for a page that was kept.
-const PAGE_WORD: &[u8] = b"page";
-
 /// "FILE longer than 4,096 bytes"
 const LONGEST_LETTER_NAME: usize = 4_096;
 
@@ -121,6 +117,12 @@ pub const LONGEST_LINE: usize = 65_535;
 
 /// "Save is lent the letter as it arrived and an output of 393,219 bytes."
 const ROOM: usize = 393_219;
+
+/// "at most 1,179,752 bytes of it, one more than the longest page file has"
+const LONGEST_READ: usize = 1_179_752;
+
+/// "with room for every page's"
+const FILE_ROOM: usize = LONGEST_READ - 1;
 
 impl Told {
     /// What of it goes to standard output: "Answers go to standard output in the listers' style".
@@ -184,7 +186,7 @@ fn of_name(name: &[u8], text: &str) -> Vec<u8> {
 /// Runs the program.
 pub fn run(start: &Start) -> End {
     match open(start) {
-        // "A letter that is refused, or cannot be read, makes no page: nothing is said of it at the end."
+        // "A letter or a page file that is refused, or cannot be read, makes no page: nothing is said of it at the end."
         Err(told) => End { told: vec![told], last: Told::Nothing, files: start.files.clone() },
         Ok((told, mut desk)) => {
             let mut told = vec![told];
@@ -205,41 +207,56 @@ pub fn lines(input: &[u8]) -> impl Iterator<Item = &[u8]> {
     input.split_inclusive(|&byte| byte == b'\n')
 }
 
-/// What is told where the letter is opened, with the desk; or where it is not.
+/// What is told where there is a page, with the desk; or where there is none.
 fn open(start: &Start) -> Result<(Told, Desk), Told> {
     let complain = |complaint| Err(Told::Complaint(complaint));
     let [word, name] = &start.arguments[..] else { return complain(Complaint::Use) };
-    let kind = Kind::ALL.into_iter().find(|&kind| kind_word(kind).as_bytes() == word);
-    if kind.is_none() && word != PAGE_WORD {
-        return complain(Complaint::Kind);
-    }
+    let Some(begin) = beginning(word) else { return complain(Complaint::Kind) };
     if name.len() > LONGEST_LETTER_NAME {
         return complain(Complaint::LetterNameTooLong);
     }
-    let bytes = match start.files.read(name) {
-        Ok(bytes) => bytes,
-        Err(errno) => return complain(Complaint::Letter(name.clone(), errno)),
-    };
-    // "the page opened with a text buffer and a history of 65,536 each; the answer is told"
-    let blank =
-        State { page: Page::opened(kind.unwrap_or(Kind::Utf7Header), 0), text: vec![0; LIMIT], history: vec![0; LIMIT] };
-    let (name, answer, state, arrived) = match kind {
-        Some(kind) => {
-            let opened = page::left(&blank, &Call::Open { kind, arrived: bytes.clone() }, &[]);
-            (open_name(kind), opened.answer, opened.state, bytes)
-        }
-        // "The letter that is lent to `save` and `keep` is then the one that the file gave back."
-        None => {
-            let read = page_file::left(&bytes, &blank, &vec![0; LIMIT]);
-            let letter = read.arrived[..read.answer.place.min(LIMIT)].to_vec();
-            (PAGE, read.answer, read.state, letter)
-        }
-    };
-    let told = Told::Answer(name, answer);
-    if answer.number != 0 {
-        return Err(told);
+    match start.files.read(name) {
+        Err(errno) => complain(Complaint::Letter(name.clone(), errno)),
+        Ok(bytes) => match begin(bytes) {
+            (told, None) => Err(told),
+            (told, Some((arrived, state))) => {
+                Ok((told, Desk { arrived, state, warned: false, files: start.files.clone(), umask: start.umask }))
+            }
+        },
     }
-    Ok((told, Desk { arrived, state, warned: false, files: start.files.clone(), umask: start.umask }))
+}
+
+/// The answer that a file's bytes have at the start; accepted, with the letter that is lent later on, and the page.
+type Begun = (Told, Option<(Vec<u8>, State)>);
+
+/// What is done with a file's bytes for this first argument; for "one that is none of the four", nothing.
+fn beginning(word: &[u8]) -> Option<Box<dyn Fn(Vec<u8>) -> Begun>> {
+    if word == b"page" {
+        return Some(Box::new(gone_on));
+    }
+    let kind = Kind::ALL.into_iter().find(|&kind| kind_word(kind).as_bytes() == word)?;
+    Some(Box::new(move |letter| opened(kind, letter)))
+}
+
+/// "a text buffer and a history of 65,536 each"
+fn blank() -> State {
+    State { page: Page::opened(Kind::Utf7Header, 0), text: vec![0; LIMIT], history: vec![0; LIMIT] }
+}
+
+fn opened(kind: Kind, letter: Vec<u8>) -> Begun {
+    let left = page::left(&blank(), &Call::Open { kind, arrived: letter.clone() }, &[]);
+    let accepted = left.answer.number == 0;
+    (Told::Answer(open_name(kind), left.answer), accepted.then_some((letter, left.state)))
+}
+
+/// "The letter that is lent to `save` and `keep` is then the one that the file gave back": as many bytes of the 65,536
+/// as order 6 answers, "the count of arrived bytes".
+fn gone_on(mut file: Vec<u8>) -> Begun {
+    file.truncate(LONGEST_READ);
+    let left = page_file::left(&file, &blank(), &[0; LIMIT]);
+    let letter = left.arrived.get(..left.answer.place).map(<[u8]>::to_vec);
+    let accepted = letter.filter(|_| left.answer.number == 0);
+    (Told::Answer(PAGE, left.answer), accepted.map(|letter| (letter, left.state)))
 }
 
 /// "space, tab, CR, LF"
@@ -289,8 +306,7 @@ impl Desk {
             }
             [b"replace", numbers @ ..] => self.replace(numbers),
             [b"squeeze", numbers @ ..] => self.squeeze(numbers),
-            [b"save", ..] => self.save(trimmed(&trimmed(line)[b"save".len()..])),
-            [b"keep", ..] => self.keep(trimmed(&trimmed(line)[b"keep".len()..])),
+            [word @ (b"save" | b"keep"), ..] => self.write(word == b"save", trimmed(&trimmed(line)[word.len()..])),
             [b"show" | b"undo" | b"redo" | b"quit", _, ..] => Told::Complaint(Complaint::NothingMayFollow),
             [b"show"] => Told::Cells(self.state.text[..self.state.page.length].to_vec()),
             [b"undo"] => self.call(UNDO, &Call::Undo),
@@ -343,36 +359,30 @@ impl Desk {
         }
     }
 
-    fn save(&mut self, name: &[u8]) -> Told {
+    /// A `save FILE`, or else a `keep FILE`, whose "FILE is as a save's", with the same lent letter. What each leaves of
+    /// the page is the call's: "The page stays as it is, saved or not: a `keep` is no `save`."
+    fn write(&mut self, save: bool, name: &[u8]) -> Told {
+        let arrived = self.arrived.clone();
+        let (missing, told, call) = match save {
+            true => (Complaint::NameMissing, SAVE, Call::Save { arrived, room: ROOM }),
+            false => (Complaint::KeepNameMissing, KEEP, Call::Keep { arrived, room: FILE_ROOM }),
+        };
         if name.is_empty() {
-            return Told::Complaint(Complaint::NameMissing);
+            return Told::Complaint(missing);
         }
-        let saved = page::left(&self.state, &Call::Save { arrived: self.arrived.clone(), room: ROOM }, &vec![0; ROOM]);
+        let left = page::left(&self.state, &call, &vec![0; call.room()]);
         // "Refused: the answer is told, no file is touched."
-        if saved.answer.number != 0 {
-            return Told::Answer(SAVE, saved.answer);
+        if left.answer.number != 0 {
+            return Told::Answer(told, left.answer);
         }
-        match self.put(name, &saved.output[..saved.answer.place]) {
+        // "with the same complaints, in the same words; then the answer is told (count = bytes)"
+        match self.put(name, &left.output[..left.answer.place]) {
             Ok(()) => {
-                self.state = saved.state;
-                Told::Answer(SAVE, saved.answer)
+                self.state = left.state;
+                Told::Answer(told, left.answer)
             }
             // "the desk keeps its old page, with its mark"
             Err(complaint) => Told::Complaint(complaint),
-        }
-    }
-
-    /// "The page stays as it is, saved or not: a `keep` is no `save`."
-    fn keep(&mut self, name: &[u8]) -> Told {
-        if name.is_empty() {
-            return Told::Complaint(Complaint::KeepNameMissing);
-        }
-        match page_file::keep(&self.state, &self.arrived) {
-            Err(answer) => Told::Answer(KEEP, answer),
-            Ok(file) => match self.put(name, &file) {
-                Ok(()) => Told::Answer(KEEP, Answer { number: 0, place: file.len() }),
-                Err(complaint) => Told::Complaint(complaint),
-            },
         }
     }
 
@@ -464,6 +474,28 @@ mod tests {
     #[test]
     fn a_name_with_a_nul_is_of_no_file() {
         assert_eq!(told(b"save a\0b\n"), Told::Complaint(Complaint::NameWithNul));
+    }
+
+    #[test]
+    fn no_page_file_is_longer_than_is_said() {
+        let page = Page { kind: 0, opening: LIMIT, length: LIMIT, used: LIMIT, done: LIMIT, saved: Some(LIMIT) };
+        let (arrived, text, history) = (vec![0; LIMIT], vec![0; LIMIT], vec![0; LIMIT]);
+        let longest = page_file::Content { page, arrived, text, history };
+        assert_eq!(longest.file().len(), FILE_ROOM);
+    }
+
+    #[test]
+    fn what_is_behind_the_longest_file_is_not_missed() {
+        let page = Page { kind: 1, opening: LIMIT - 1, length: LIMIT, used: LIMIT, done: LIMIT, saved: Some(LIMIT) };
+        let words = [&[0, 0, 1, 0x61][..], &vec![0; LIMIT - 4]].concat();
+        let arrived = vec![b'a'; LIMIT - 1];
+        let file = page_file::Content { page, arrived, text: vec![0x61; LIMIT], history: words }.file();
+        for more in [0, 1, 2, 3, 70_000] {
+            let answer = if more == 0 { (0, LIMIT - 1) } else { (18, file.len()) };
+            let (number, place) = answer;
+            let (told, _) = gone_on([&file[..], &vec![b'0'; more]].concat());
+            assert_eq!(told, Told::Answer(PAGE, Answer { number, place }), "{more}");
+        }
     }
 
     #[test]
