@@ -22,7 +22,12 @@ pub struct Transcript {
 impl Transcript {
     /// The files in the end.
     pub fn after(&self, umask: u32) -> Files {
-        let mut after = self.before.clone();
+        self.after_on(&self.before, umask)
+    }
+
+    /// The files in the end where these were there before.
+    fn after_on(&self, before: &Files, umask: u32) -> Files {
+        let mut after = before.clone();
         for (path, saved) in files(&self.saved, 0o666 & !umask).entries {
             match (after.entries.get_mut(&path), saved) {
                 // A file that was there keeps its mode.
@@ -35,6 +40,30 @@ impl Transcript {
 }
 
 impl Display for Transcript {
+    fn fmt(&self, f: &mut Formatter) -> fmt::Result {
+        write!(f, "{}", self.name)
+    }
+}
+
+/// Runs one after another in one folder; what is there before a later one is what those before it left.
+pub struct Nights {
+    pub name: &'static str,
+    pub before: Files,
+    pub runs: Vec<Transcript>,
+}
+
+impl Nights {
+    /// The files after each run.
+    pub fn after(&self, umask: u32) -> Vec<Files> {
+        let next = |files: &mut Files, run: &Transcript| {
+            *files = run.after_on(files, umask);
+            Some(files.clone())
+        };
+        self.runs.iter().scan(self.before.clone(), next).collect()
+    }
+}
+
+impl Display for Nights {
     fn fmt(&self, f: &mut Formatter) -> fmt::Result {
         write!(f, "{}", self.name)
     }
@@ -141,6 +170,12 @@ pub const BAD_LINES: [(&str, &[&[u8]]); 6] = [
             b"saveout",
             b"save\x0Bout",
             b"save\0out",
+            b"Keep out",
+            b"keepout",
+            b"keeps out",
+            b"kee out",
+            b"keep\0out",
+            b"page out",
             b"Replace 0 0 61",
             b"replace0 0 61",
             b"replace\0 0 0 61",
@@ -523,6 +558,13 @@ pub fn starts() -> Vec<Transcript> {
         fails(&["letter", "utf7b"], kind),
         fails(&["jp", "missing"], kind),
         fails(&["jp3", &longer], kind),
+        fails(&["page"], use_),
+        fails(&["page", "letter", "kept"], use_),
+        fails(&["Page", "letter"], kind),
+        fails(&["pages", "letter"], kind),
+        fails(&["pag", "letter"], kind),
+        fails(&["page ", "letter"], kind),
+        fails(&["letter", "page"], kind),
         fails(&["jp2", "missing"], "desk: missing: No such file or directory\n"),
         fails(&["utf7h", "Letter"], "desk: Letter: No such file or directory\n"),
         fails(&["utf7h", ""], "desk: : No such file or directory\n"),
@@ -537,6 +579,18 @@ pub fn starts() -> Vec<Transcript> {
         fails(&["utf7b", &longest], &format!("desk: {longest}: Is a directory\n")),
         fails(&["utf7b", &long], &format!("desk: {long}: File name too long\n")),
         fails(&["utf7b", &longer], "desk: FILE: File name too long\n"),
+        fails(&["page", "missing"], "desk: missing: No such file or directory\n"),
+        fails(&["page", "page"], "desk: page: No such file or directory\n"),
+        fails(&["page", ""], "desk: : No such file or directory\n"),
+        fails(&["page", "letter/"], "desk: letter/: Not a directory\n"),
+        fails(&["page", "sub"], "desk: sub: Is a directory\n"),
+        fails(&["page", "."], "desk: .: Is a directory\n"),
+        fails(&["page", &long_part], &format!("desk: {long_part}: File name too long\n")),
+        fails(&["page", &long], &format!("desk: {long}: File name too long\n")),
+        fails(&["page", &longer], "desk: FILE: File name too long\n"),
+        refused(&["page", "letter"], "status=18\nplace=0\n"),
+        refused(&["page", "empty"], "status=18\nplace=0\n"),
+        refused(&["page", "sub/form"], "status=18\nplace=7\n"),
         refused(&["utf7h", "bare"], "status=2\nplace=1\n"),
         refused(&["utf7b", "sub/bits"], "status=4\nplace=4\n"),
         refused(&["jp2", "pair"], "status=7\nplace=4\n"),
@@ -551,8 +605,10 @@ fn start(arguments: &[&str], output: &str, errors: &str) -> Transcript {
         ("bare", "+"),
         ("pair", "\x1B$B$"),
         ("pairs", "\x1B$B$\""),
+        ("empty", ""),
         ("sub/", ""),
         ("sub/bits", "+AKN-"),
+        ("sub/form", "form=1\n"),
     ];
     Transcript {
         name: format!("a start with {shown:?}"),
@@ -565,8 +621,12 @@ fn start(arguments: &[&str], output: &str, errors: &str) -> Transcript {
     }
 }
 
-/// Every example, for the unit tests.
+/// Every example of one run, for the unit tests.
 #[cfg(test)]
 pub fn all() -> Vec<Transcript> {
-    [worked(), bad_lines(), odd_lines(), saves(), quits(), squeezes(), starts()].into_iter().flatten().collect()
+    let refused = super::nights::refused_files();
+    [worked(), bad_lines(), odd_lines(), saves(), quits(), squeezes(), starts(), refused]
+        .into_iter()
+        .flatten()
+        .collect()
 }

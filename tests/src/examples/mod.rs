@@ -3,6 +3,7 @@
 pub mod desk;
 pub mod jp2;
 pub mod mailbox;
+pub mod nights;
 pub mod page;
 pub mod page_file;
 pub mod squeeze;

@@ -421,18 +421,31 @@ impl Desk {
 #[cfg(test)]
 mod tests {
     use super::*;
-    use crate::examples::desk as examples;
+    use crate::examples::desk::{self as examples, Transcript};
+    use crate::examples::nights;
+
+    /// The files that a run leaves that finds these; it must tell what is written out by hand.
+    fn left_by(transcript: &Transcript, files: Files) -> Files {
+        let (arguments, input) = (transcript.arguments.clone(), transcript.input.clone());
+        let end = run(&Start { arguments, files, umask: 0o27, input });
+        let written = |of: fn(&Told) -> Vec<u8>| -> Vec<u8> { end.all().iter().flat_map(of).collect() };
+        let text = |bytes: &[u8]| bytes.escape_ascii().to_string();
+        assert_eq!(text(&written(Told::output)), text(&transcript.output), "{transcript}");
+        assert_eq!(text(&written(Told::errors)), text(&transcript.errors), "{transcript}");
+        end.files
+    }
 
     #[test]
     fn tells_and_leaves_what_is_written_out_by_hand() {
         for transcript in examples::all() {
-            let (arguments, files) = (transcript.arguments.clone(), transcript.before.clone());
-            let end = run(&Start { arguments, files, umask: 0o27, input: transcript.input.clone() });
-            let written = |of: fn(&Told) -> Vec<u8>| -> Vec<u8> { end.all().iter().flat_map(of).collect() };
-            let text = |bytes: &[u8]| bytes.escape_ascii().to_string();
-            assert_eq!(text(&written(Told::output)), text(&transcript.output), "{transcript}");
-            assert_eq!(text(&written(Told::errors)), text(&transcript.errors), "{transcript}");
-            assert_eq!(end.files, transcript.after(0o27), "{transcript}");
+            assert_eq!(left_by(&transcript, transcript.before.clone()), transcript.after(0o27), "{transcript}");
+        }
+        for nights in nights::all() {
+            let mut files = nights.before.clone();
+            for (transcript, after) in nights.runs.iter().zip(nights.after(0o27)) {
+                files = left_by(transcript, files);
+                assert_eq!(files, after, "{nights}: {transcript}");
+            }
         }
     }
 

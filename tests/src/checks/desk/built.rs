@@ -10,12 +10,13 @@ use std::time::Duration;
 
 use super::folder::{umask, Folder};
 use super::same::{same_bytes, same_files, same_told};
-use super::script::{show, Script};
+use super::script::{show, Nights, Script};
 use super::session::Session;
-use crate::examples::desk::Transcript;
+use crate::examples::desk::{self as examples, Transcript};
 use crate::program::Program;
 use crate::report::Statuses;
 use crate::second::desk::{self as second, Complaint, Told};
+use crate::second::files::Files;
 use crate::second::Answer;
 
 /// How long is waited for an answer, or for the end; and how long after that was once too short, while a script is made
@@ -62,10 +63,32 @@ impl Desk {
 
     /// Runs a script, and compares what it tells and leaves with what the second program does.
     pub fn follow(&self, script: &Script, statuses: &mut Statuses) -> Result<(), String> {
+        self.follow_in(&Folder::new(&Files::default())?, &Files::default(), script, statuses).map(drop)
+    }
+
+    /// Runs scripts one after another, each in the folder that those before it left.
+    pub fn follow_all(&self, nights: &Nights, statuses: &mut Statuses) -> Result<(), String> {
+        let folder = Folder::new(&Files::default())?;
+        let mut files = Files::default();
+        for (number, script) in (1..).zip(&nights.runs) {
+            let of_run = |difference| format!("in run {number}, {difference}");
+            files = self.follow_in(&folder, &files, script, statuses).map_err(of_run)?;
+        }
+        Ok(())
+    }
+
+    /// Runs a script in a folder that holds this and what the script puts there, and gives what it holds then.
+    fn follow_in(
+        &self,
+        folder: &Folder,
+        before: &Files,
+        script: &Script,
+        statuses: &mut Statuses,
+    ) -> Result<Files, String> {
         // The second program comes first, for it stops where a name leads out of the folder.
-        let expected = second::run(&script.start(self.umask));
-        let folder = Folder::new(&script.files)?;
-        let mut session = self.start(&script.arguments, &folder, "")?;
+        let expected = second::run(&script.start_in(before, self.umask));
+        folder.add(&script.files)?;
+        let mut session = self.start(&script.arguments, folder, "")?;
         session.feed(&script.lines.concat());
         session.close();
         let (output, errors) = self.end(&mut session)?;
@@ -74,7 +97,7 @@ impl Desk {
         same_told("standard error", &told, Told::errors, errors)?;
         same_files(&expected.files, &folder.files()?)?;
         self.count(&told, statuses);
-        Ok(())
+        Ok(expected.files)
     }
 
     /// Runs a script line by line: what is told for each is waited for before the next is written.
@@ -130,13 +153,28 @@ impl Desk {
     /// shell does something first.
     pub fn compare_transcript(&self, transcript: &Transcript, umask: u32, first: &str) -> Result<(), String> {
         let folder = Folder::new(&transcript.before)?;
-        let mut session = self.start(&transcript.arguments, &folder, first)?;
+        self.compare_run(transcript, &folder, first)?;
+        same_files(&transcript.after(umask), &folder.files()?)
+    }
+
+    /// The same of runs one after another in one folder.
+    pub fn compare_nights(&self, nights: &examples::Nights) -> Result<(), String> {
+        let folder = Folder::new(&nights.before)?;
+        for (number, (transcript, after)) in (1..).zip(nights.runs.iter().zip(nights.after(self.umask))) {
+            let of_run = |difference| format!("in run {number}, {difference}");
+            self.compare_run(transcript, &folder, "").map_err(of_run)?;
+            same_files(&after, &folder.files()?).map_err(of_run)?;
+        }
+        Ok(())
+    }
+
+    fn compare_run(&self, transcript: &Transcript, folder: &Folder, first: &str) -> Result<(), String> {
+        let mut session = self.start(&transcript.arguments, folder, first)?;
         session.feed(&transcript.input);
         session.close();
         let (output, errors) = session.end()?;
         same_bytes("standard output", &transcript.output, output)?;
-        same_bytes("standard error", &transcript.errors, errors)?;
-        same_files(&transcript.after(umask), &folder.files()?)
+        same_bytes("standard error", &transcript.errors, errors)
     }
 }
 

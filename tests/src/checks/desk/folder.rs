@@ -20,8 +20,13 @@ impl Folder {
     /// A folder with these files.
     pub fn new(files: &Files) -> Result<Folder, String> {
         let folder = Folder::empty().map_err(|error| format!("no new folder for temporary files: {error}"))?;
-        folder.put(files).map_err(|error| format!("cannot write to {}: {error}", folder.path.display()))?;
+        folder.add(files)?;
         Ok(folder)
+    }
+
+    /// Puts these files there too, in the place of those that are there.
+    pub fn add(&self, files: &Files) -> Result<(), String> {
+        self.put(files).map_err(|error| format!("cannot write to {}: {error}", self.path.display()))
     }
 
     fn empty() -> io::Result<Folder> {

@@ -17,6 +17,7 @@ mod trace;
 use std::collections::{BTreeMap, BTreeSet};
 
 use crate::examples::desk::{self as examples, Transcript};
+use crate::examples::nights;
 use crate::formats;
 use crate::parts::Part;
 use crate::report::Report;
@@ -47,6 +48,10 @@ fn check_by_hand(report: &mut Report) {
     check("saves", "files that are saved, and files that cannot be", examples::saves());
     check("quits", "pages that are left saved, and not saved", examples::quits());
     check("squeezes", "old steps folded, and marks in the fold and behind it", examples::squeezes());
+    check("page-files", "page files that are refused", nights::refused_files());
+    report.check("desk-nights", "pages that are kept and gone on with, over several runs", |_| {
+        try_examples(&nights::all(), |nights| desk.compare_nights(nights))
+    });
     system::run(report, &desk);
     harm::run(report, &desk);
 }

@@ -16,7 +16,43 @@ pub struct Script {
 
 impl Script {
     pub fn start(&self, umask: u32) -> Start {
-        Start { arguments: self.arguments.clone(), files: self.files.clone(), umask, input: self.lines.concat() }
+        self.start_in(&Files::default(), umask)
+    }
+
+    /// In a folder that holds this, to which its own files are put.
+    pub fn start_in(&self, before: &Files, umask: u32) -> Start {
+        let mut files = before.clone();
+        files.entries.extend(self.files.entries.clone());
+        Start { arguments: self.arguments.clone(), files, umask, input: self.lines.concat() }
+    }
+}
+
+/// Scripts that are run one after another in one folder. The files of each are put there before it, by whoever has the
+/// folder too.
+#[derive(Clone)]
+pub struct Nights {
+    pub runs: Vec<Script>,
+}
+
+impl Input for Nights {
+    fn length(&self) -> usize {
+        self.runs.iter().map(Input::length).sum()
+    }
+
+    fn without(&self, parts: Range<usize>) -> Nights {
+        let mut before = 0;
+        let shorter = self.runs.iter().map(|script| {
+            let within = |place: usize| place.saturating_sub(before).min(script.length());
+            let shorter = script.without(within(parts.start)..within(parts.end));
+            before += script.length();
+            shorter
+        });
+        Nights { runs: shorter.collect() }
+    }
+
+    fn show(&self) -> String {
+        let runs: Vec<String> = self.runs.iter().map(Input::show).collect();
+        runs.join("\n  and then ")
     }
 }
 
@@ -54,6 +90,22 @@ pub fn show(bytes: &[u8]) -> String {
 mod tests {
     use super::*;
     use crate::examples::desk::files;
+
+    #[test]
+    fn lines_are_left_out_of_all_runs() {
+        let script = |lines: &[&str]| Script {
+            arguments: vec![],
+            files: Files::default(),
+            lines: lines.iter().map(|line| line.as_bytes().to_vec()).collect(),
+        };
+        let nights = Nights { runs: vec![script(&["a", "b"]), script(&[]), script(&["c", "d", "e"])] };
+        let left = |parts| nights.without(parts).runs.iter().map(|run| run.lines.concat()).collect::<Vec<_>>();
+        assert_eq!(nights.length(), 5);
+        assert_eq!(left(0..1), [&b"b"[..], b"", b"cde"]);
+        assert_eq!(left(1..4), [&b"a"[..], b"", b"e"]);
+        assert_eq!(left(2..3), [&b"ab"[..], b"", b"de"]);
+        assert_eq!(left(0..5), [b"", b"", b""]);
+    }
 
     #[test]
     fn a_script_can_be_read() {
