@@ -10,6 +10,7 @@
 #include "instructions.h"
 #include "machine.h"
 #include "page.h"
+#include "page_files.h"
 #include "peers.h"
 #include "results.h"
 #include "texts.h"
@@ -125,8 +126,9 @@ static void measure_all(const Options &o) {
             for (const Row &row : wanted_rows(o, kind, size, bytes, agreements)) take(row);
     }
     for (const Row &row : page_rows()) take(row);
+    for (const Row &row : page_file_rows()) take(row);
     for (const Table &table : {reading_table(all), writing_table(all), stepping_table(all), page_table(all),
-                               squeeze_table(all), limit_table(all), agreement_table(agreements)})
+                               squeeze_table(all), page_file_table(all), limit_table(all), agreement_table(agreements)})
         print(table, o.markdown);
     if (o.ways) print(ways_table(all), o.markdown);
     std::printf("\n%zu runs of at least %.0f ms for each party, in turn, after a warm-up; medians.\n", o.effort.runs,

@@ -132,6 +132,20 @@ Table squeeze_table(const std::vector<Measured> &all) {
     return table;
 }
 
+Table page_file_table(const std::vector<Measured> &all) {
+    Table table{"Page files", {"kind", "call", "bytes of file", "ours MB/s", "hex copy MB/s", "ours/copy"}, {}, {}};
+    for (const Measured &m : all) {
+        const Timed *hex = fastest(m.timed, "hex");
+        if (!hex) continue;
+        const Timed &ours = *fastest(m.timed, "ours");
+        table.lines.push_back({m.task.subject, m.task.call, std::to_string(m.task.bytes), speed(m.task.bytes, ours),
+                               speed(m.task.bytes, *hex), shown(faster_by(ours, *hex))});
+    }
+    table.notes = {"A page of 65,536 cells with 10,000 steps, its arrived bytes and its steps in one file.",
+                   "The hex copy is a plain loop that puts the lists' digits, or takes them without judging any."};
+    return table;
+}
+
 Table ways_table(const std::vector<Measured> &all) {
     Table table{"Every way by itself", {"row", "party", "MB/s", "slowest", "fastest"}, {}, {}};
     for (const Measured &m : all) {

@@ -19,6 +19,7 @@ Table stepping_table(const std::vector<Measured> &all);
 Table limit_table(const std::vector<Measured> &all);
 Table page_table(const std::vector<Measured> &all);
 Table squeeze_table(const std::vector<Measured> &all);
+Table page_file_table(const std::vector<Measured> &all);
 
 // Every party and way by itself.
 Table ways_table(const std::vector<Measured> &all);

@@ -8,7 +8,7 @@
 // A party's way of doing the task once. Parties of one column (iconv to UTF-16LE, to UCS-4LE ..) are ways of one peer:
 // the table shows the fastest.
 struct Party {
-    std::string column; // "ours", "iconv", "ICU", "memcpy", "widen", "pass"
+    std::string column; // "ours", "iconv", "ICU", "memcpy", "widen", "pass", "hex"
     std::string way;    // "" where there is only one
     std::function<void()> pass;
 };
