@@ -1,5 +1,5 @@
--- The desk keeps demand 3, across the runs that a page is kept between: its lines are a list of calls on its page. And a
--- line leaves it only where the ledger calls the page saved, or the last command was a `quit` too. Assumes nothing.
+-- The desk keeps demand 3, from run to run of a page that is kept: its lines are a list of calls on its page. And a line
+-- leaves it only where the ledger calls the page saved, or the last command was a `quit` too. Assumes nothing.
 use Prim.Native.Nat.{ℕ}
 use mathlib.Core.Path.{_≡_, refl, sym, ap, _∙_, subst₂}
 use mathlib.Core.Bool.{Bool, true, false, _&&_, _||_, false≢true}

@@ -11,8 +11,8 @@ use Rattle.ledger.specs.Running.{heard}
 use Rattle.ledger.specs.Demand.{Promised}
 use Rattle.desk_lines.specs.Desk.{Desk, begun, Came, afterLines, callsIn, Turn, Turns}
 
--- demand 3 of a page that a desk leaves: some lines led to it from the page that the run began with, and the ledger that
--- heard their calls agrees with it
+-- demand 3 of a page that a desk leaves: some lines led to it from the page that the run began with, and the ledger
+-- that heard their calls agrees with it
 pub record Keeps (letter : List ℕ) (from : State) (l : Ledger) (to : State) : Type 0 where
   pub lines : List Came
   pub arrive : afterLines letter from lines ≡ to
