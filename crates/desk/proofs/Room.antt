@@ -22,6 +22,7 @@ use Rattle.page_keep.proofs.Keeping.{file-size}
 use Rattle.sessions.specs.Demand.{RoomFor, fileFor}
 use Rattle.desk_lines.specs.Runs.{Reached, RunsOn}
 use Rattle.desk_lines.proofs.Law.{runs-on}
+use Rattle.desk.specs.Hands.{pageRoom}
 
 name-most : (kind : Kind) → length (nameOf kind) ≤ 5
 name-most Utf7Header = lit≤ tt
@@ -55,7 +56,7 @@ file-most s letter a t h =
 -- a `keep` at the desk is accepted, on every page that runs of desk lead to
 pub keep-never-short :
     (kind : Kind) (letter : List ℕ) {s : State} {l : Ledger} → Reached kind letter s l → (out : List ℕ) →
-    1179752 ≡ length out →
+    pageRoom ≡ length out →
     keepOf s letter out .verdict ≡ numbered 0 (length (fileFor s letter))
 unfolding deliver
 keep-never-short kind letter {s} {l} r out e =

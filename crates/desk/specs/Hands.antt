@@ -22,6 +22,10 @@ use Rattle.desk.specs.declared.files.Got.the-variants.{Bytes, Failed}
 abbrev pub Holds : Hand → List ℕ → Type 0
 Holds h buf = (h .from ≤ h .to) × (h .to ≤ length buf) × (length buf ≤ limit)
 
+-- how many bytes are lent for a page file: one more than the longest has (proofs/Room.antt)
+abbrev pub pageRoom : ℕ
+pageRoom = 1179752
+
 -- the bytes in a buffer after a read behind its first `at`
 abbrev pub Within : Got → ℕ → List ℕ → Type 0
 Within (Bytes n) at buf = (at ≤ n) × (n ≤ length buf)

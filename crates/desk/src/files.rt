@@ -10,7 +10,7 @@ ghost use mathlib.Core.Path.{_≡_};
 ghost use lib.ListN.{length};
 ghost use Rattle.io.specs.Counts.{Counts};
 ghost use Rattle.libc.specs.Io.{Ended};
-ghost use Rattle.desk.specs.Hands.{Within};
+ghost use Rattle.desk.specs.Hands.{pageRoom, Within};
 
 // How many bytes of a file came; or none, since it could not be read, and that has been said.
 pub enum Got {
@@ -29,7 +29,7 @@ enum Spot {
 // Zeros, a byte more than the longest page file has: 103 besides its lists, 2 for each byte that arrived, and 8 for each
 // cell and word.
 pub fn page_room() -> [u8; 1179752]
-    ensures { λ r. ⌜ 1179752 ≡ length r ⌝ }
+    ensures { λ r. ⌜ pageRoom ≡ length r ⌝ }
 {
     [0; 1179752]
 }
