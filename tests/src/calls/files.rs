@@ -260,7 +260,7 @@ pub fn one(rng: &mut Rng, kind: Kind) -> Filed {
 }
 
 /// Changes a byte, leaves some out, doubles some, or cuts the file off.
-fn damage(rng: &mut Rng, file: &mut Vec<u8>) {
+pub fn damage(rng: &mut Rng, file: &mut Vec<u8>) {
     let at = rng.below(file.len());
     let end = (at + rng.between(1, 9)).min(file.len());
     match rng.below(6) {

@@ -207,7 +207,8 @@ fn squeezed() -> Nights {
     }
 }
 
-const OPENED: &str = "form=1
+/// The page of a letter "abc" that was only opened.
+pub const OPENED: &str = "form=1
 kind=utf7b
 opening=00003
 length=00003

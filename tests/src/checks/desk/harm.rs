@@ -1,5 +1,5 @@
 //! What a save leaves alone, and what it keeps of the file that it replaces: for root and for nobody, or for whoever
-//! runs the tests.
+//! runs the tests. A keep is held to the same.
 
 use std::fmt::{self, Display, Formatter};
 use std::fs::{self, Permissions};
@@ -16,6 +16,9 @@ use super::session::Session;
 use super::standing::{file, same_standing, standing};
 use crate::examples::desk::files;
 use crate::report::Report;
+use crate::second::page::Page;
+use crate::second::page_file::Content;
+use crate::second::Kind;
 use crate::trial::try_examples;
 use Outcome::{Kept, Saved, Warned};
 
@@ -158,52 +161,111 @@ fn of_others() -> Vec<Case> {
 }
 
 pub fn run(report: &mut Report, desk: &Desk) {
-    for (name, what, cases) in [
-        ("harm", "saves that meet what is no file to be replaced, and files whose mode is kept", of_the_saver()),
-        ("harm-others", "saves that meet files and folders of others", of_others()),
-    ] {
-        report.check(&format!("desk-{name}"), what, |_| {
-            let tried = Tried::new(desk)?;
-            let savers = Saver::all(&tried.place)?;
-            let savers = if name == "harm" || savers.len() == 2 { savers } else { vec![] };
-            let of_all = savers.iter().map(|saver| {
-                try_examples(&cases, |case| tried.compare(case, *saver))
-                    .map_err(|what| format!("as {}, {what}", saver.name))
-            });
-            of_all.sum()
+    for put in [SAVE, KEEP] {
+        let mut check = |name: &str, what: &str, run: &dyn Fn(&Tried) -> Result<usize, String>| {
+            let name = if put.saves { format!("desk-{name}") } else { format!("desk-{}-{name}", put.word) };
+            report.check(&name, &format!("{}s {what}", put.word), |_| run(&Tried::new(desk, put)?));
+        };
+        check("harm", "that meet what is no file to be replaced, and files whose mode is kept", &|tried| {
+            tried.compare_all(&of_the_saver(), Saver::all(&tried.place)?)
         });
+        check("harm-others", "that meet files and folders of others", &|tried| {
+            let savers = Saver::all(&tried.place)?;
+            tried.compare_all(&of_others(), if savers.len() == 2 { savers } else { vec![] })
+        });
+        check("harm-devices", "to devices", &Tried::devices);
+        check("harm-full", "on a disk that is full, where one can be mounted", &Tried::full);
+        check("harm-gone", "in a folder that is gone", &|tried| tried.gone().map(|()| 1));
     }
-    report.check("desk-harm-devices", "saves to devices", |_| Tried::new(desk)?.devices());
-    let what = "saves on a disk that is full, where one can be mounted";
-    report.check("desk-harm-full", what, |_| Tried::new(desk)?.full());
-    report.check("desk-harm-gone", "a save in a folder that is gone", |_| Tried::new(desk)?.gone().map(|()| 1));
 }
 
-/// What a letter "abc" is when its first cell is replaced.
+/// What a letter "abc" is when its first cell is replaced, and the page file then.
 pub const LETTER: &str = "abc";
-pub const NEW: &str = "Xbc";
-pub const LINES: &str = "replace 0 1 58\nsave ";
+const NEW: &str = "Xbc";
+const KEPT: &str = "form=1
+kind=utf7b
+opening=00003
+length=00003
+used=00005
+done=00005
+saved=00000
+arrived=616263
+text=000000580000006200000063
+history=0000000000000001000000010000006100000058
+";
+
+/// A command that puts a file: what it puts when the first cell is replaced, its answer then, and whether the page is
+/// saved by it.
+#[derive(Clone, Copy)]
+pub struct Put {
+    pub word: &'static str,
+    pub new: &'static str,
+    pub answer: &'static str,
+    saves: bool,
+    /// For how long a letter a file of 20,000 bytes or a little more is put.
+    long: usize,
+}
+
+pub const SAVE: Put = Put { word: "save", new: NEW, answer: "status=0\ncount=3\n", saves: true, long: 20_000 };
+pub const KEEP: Put = Put { word: "keep", new: KEPT, answer: "status=0\ncount=173\n", saves: false, long: 2_000 };
+
+impl Put {
+    /// The lines that replace the cell and put the new file under this name.
+    pub fn lines(&self, name: &str) -> String {
+        format!("replace 0 1 58\n{} {name}\n", self.word)
+    }
+
+    /// What is said at the end of the input, where it was put or not.
+    pub fn ended(&self, done: bool) -> &'static str {
+        if done && self.saves {
+            ""
+        } else {
+            ENDED
+        }
+    }
+
+    /// What is told for those lines, the letter's answer first.
+    pub fn told(&self) -> String {
+        format!("{TOLD}{}", self.answer)
+    }
+
+    /// What it puts of a letter of "a" that was only opened.
+    fn of_letter(&self, letter: &str) -> Vec<u8> {
+        if self.saves {
+            return letter.as_bytes().to_vec();
+        }
+        let page = Page::opened(Kind::Utf7Body, letter.len());
+        let text = letter.bytes().map(u32::from).collect();
+        Content { page, arrived: letter.as_bytes().to_vec(), text, history: vec![] }.file()
+    }
+}
 
 /// What is said when the input has ended on a page that is not saved.
 pub const ENDED: &str = "desk: the input has ended, and the page is not saved\n";
 pub const TOLD: &str = "status=0\ncount=3\nstatus=0\ncount=3\n";
-pub const ANSWER: &str = "status=0\ncount=3\n";
+const OPENED: &str = "status=0\ncount=3\n";
 
 /// A copy of desk that everybody may run, beside a letter that everybody may read.
 pub struct Tried {
     pub place: Folder,
     pub program: PathBuf,
+    pub put: Put,
 }
 
 impl Tried {
-    pub fn new(desk: &Desk) -> Result<Tried, String> {
+    pub fn new(desk: &Desk, put: Put) -> Result<Tried, String> {
         let place = Folder::new(&files(&[("letter", LETTER)], 0o644))?;
         let program = place.path.join("desk");
-        fs::copy(&desk.path, &program).map_err(|error| format!("desk cannot be copied: {error}"))?;
+        // By another program: a file that this one has open to write cannot be run, and what it starts just then has
+        // it open too.
+        match Command::new("cp").args([&desk.path, &program]).status() {
+            Ok(status) if status.success() => {}
+            _ => return Err("desk cannot be copied".to_string()),
+        }
         for (path, mode) in [(&place.path, 0o755), (&program, 0o755)] {
             fs::set_permissions(path, Permissions::from_mode(mode)).map_err(|error| error.to_string())?;
         }
-        Ok(Tried { place, program })
+        Ok(Tried { place, program, put })
     }
 
     /// A new folder of the saver's, with what a script makes there.
@@ -240,9 +302,16 @@ impl Tried {
     /// What is told for the lines that end in this name.
     fn told(&self, saver: Saver, folder: &Path, name: &str) -> Result<(Vec<u8>, Vec<u8>), String> {
         let mut session = self.start(saver, folder)?;
-        session.feed(format!("{LINES}{name}\n").as_bytes());
+        session.feed(self.put.lines(name).as_bytes());
         session.close();
         session.end().map(|(output, errors)| (output.to_vec(), errors.to_vec()))
+    }
+
+    fn compare_all(&self, cases: &[Case], savers: Vec<Saver>) -> Result<usize, String> {
+        let of_all = savers.iter().map(|saver| {
+            try_examples(cases, |case| self.compare(case, *saver)).map_err(|what| format!("as {}, {what}", saver.name))
+        });
+        of_all.sum()
     }
 
     fn compare(&self, case: &Case, saver: Saver) -> Result<(), String> {
@@ -261,13 +330,13 @@ impl Tried {
                 "1:" => format!("1:{}", saver.group),
                 owner => owner.to_string(),
             };
-            expected.insert(case.save.to_string(), file(mode, &owner, 1, NEW.as_bytes()));
+            expected.insert(case.save.to_string(), file(mode, &owner, 1, self.put.new.as_bytes()));
         }
-        let told = format!("{TOLD}{}", if saved.is_some() { ANSWER } else { "" });
+        let told = if saved.is_some() { self.put.told() } else { TOLD.to_string() };
         same_bytes("standard output", told.as_bytes(), &output)?;
         let said = if complaint.is_empty() { String::new() } else { format!("desk: {}: {complaint}\n", case.save) };
         // A save that is not done leaves the page not saved.
-        let said = said + if saved.is_some() { "" } else { ENDED };
+        let said = said + self.put.ended(saved.is_some());
         same_bytes("standard error", said.as_bytes(), &errors)?;
         same_standing(&expected, &standing(&folder.path)?)
     }
@@ -297,7 +366,9 @@ impl Tried {
             let folder = self.made(saver, "")?;
             let Some(disk) = Disk::mount(&folder.path) else { continue };
             let [path, filling] = ["f", "filling"].map(|name| disk.path.join(name));
-            let letter = "a".repeat(20_000);
+            let letter = "a".repeat(self.put.long);
+            let file = self.put.of_letter(&letter);
+            let lines = |more: &str| format!("{} f\n{more}", self.put.word);
             let written = fs::write(&path, "old").and_then(|()| fs::write(&filling, [0; 61_000]));
             written
                 .and_then(|()| fs::write(self.place.path.join("letter"), &letter))
@@ -305,18 +376,18 @@ impl Tried {
             unix::chown(&path, Some(saver.user), Some(saver.group)).map_err(|error| error.to_string())?;
             let before = standing(&disk.path)?;
             let mut session = self.start(saver, &disk.path)?;
-            session.expect(b"status=0\ncount=20000\n", b"")?;
+            session.expect(format!("status=0\ncount={}\n", letter.len()).as_bytes(), b"")?;
             // The next line is answered when all is done for this one.
-            session.feed(b"save f\nundo\n");
+            session.feed(lines("undo\n").as_bytes());
             session.expect(b"status=13\nplace=0\n", b"desk: f: No space left on device\n")?;
             same_standing(&before, &standing(&disk.path)?)?;
             fs::remove_file(&filling).map_err(|error| error.to_string())?;
-            session.feed(b"save f\n");
-            session.expect(b"status=0\ncount=20000\n", b"")?;
+            session.feed(lines("").as_bytes());
+            session.expect(format!("status=0\ncount={}\n", file.len()).as_bytes(), b"")?;
             session.close();
             session.end()?;
             let saved = fs::read(&path).map_err(|error| error.to_string())?;
-            same_bytes("the file", letter.as_bytes(), &saved)?;
+            same_bytes("the file", &file, &saved)?;
             count += 1;
         }
         Ok(count)
@@ -328,13 +399,13 @@ impl Tried {
             let folder = self.made(saver, "mkdir d; chown $ME d")?;
             let inner = folder.path.join("d");
             let mut session = self.start(saver, &inner)?;
-            session.expect(ANSWER.as_bytes(), b"")?;
+            session.expect(OPENED.as_bytes(), b"")?;
             fs::remove_dir(&inner).map_err(|error| error.to_string())?;
             let complaint = "desk: f: no new file can be made beside it: No such file or directory\n";
-            session.feed(b"save f\n");
+            session.feed(format!("{} f\n", self.put.word).as_bytes());
             session.expect(b"", complaint.as_bytes())?;
-            session.feed(format!("save {}\n", folder.path.join("f").display()).as_bytes());
-            session.expect(ANSWER.as_bytes(), b"")?;
+            session.feed(format!("{} {}\n", self.put.word, folder.path.join("f").display()).as_bytes());
+            session.expect(format!("status=0\ncount={}\n", self.put.of_letter(LETTER).len()).as_bytes(), b"")?;
             session.close();
             session.end()?;
             session.nothing_more()?;

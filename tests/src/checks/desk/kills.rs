@@ -1,5 +1,5 @@
-//! Saves that are killed, at each of their system calls and at any time; calls that fail or are interrupted. The file
-//! is there after each, old or new and whole, and the next save is done.
+//! Saves and keeps that are killed, at each of their system calls and at any time; calls that fail or are interrupted.
+//! The file is there after each, old or new and whole, and the next save is done.
 
 use std::cell::Cell;
 use std::collections::BTreeSet;
@@ -12,12 +12,14 @@ use std::time::Duration;
 
 use super::built::Desk;
 use super::folder::Folder;
-use super::harm::{Tried, ANSWER, ENDED, LETTER, LINES, NEW, TOLD};
-use super::standing::{same_standing, standing, Standing};
+use super::harm::{Put, Tried, ENDED, KEEP, LETTER, SAVE, TOLD};
+use super::standing::{contents, same_standing, standing, Standing};
 use super::trace::{trace, Act, Call, FSYNC, OPENAT, READ, RENAME, UNLINK, WRITE};
-use crate::examples::desk::files;
+use crate::examples::desk::{files, words};
 use crate::report::Report;
 use crate::rng::Rng;
+use crate::second::desk::{self as second, Start};
+use crate::second::files::Entry;
 
 const EINTR: i32 = 4;
 const EACCES: i32 = 13;
@@ -30,23 +32,32 @@ const INTERRUPTED: [u64; 3] = [READ, WRITE, FSYNC];
 const MODES: [Option<u32>; 3] = [None, Some(0o600), Some(0o640)];
 
 pub fn run(report: &mut Report, desk: &Desk, seed: u64) {
+    for put in [SAVE, KEEP] {
+        of_put(report, desk, put, seed);
+    }
+}
+
+fn of_put(report: &mut Report, desk: &Desk, put: Put, seed: u64) {
+    let word = put.word;
     let mut check = |name: &str, what: &str, run: &dyn Fn(&Saves) -> Result<usize, Trouble>| {
-        report.check(&format!("desk-{name}"), what, |_| match Saves::new(desk).and_then(|saves| run(&saves)) {
+        let name = if word == SAVE.word { format!("desk-{name}") } else { format!("desk-{word}-{name}") };
+        report.check(&name, what, |_| match Saves::new(desk, put).and_then(|saves| run(&saves)) {
             Ok(count) => Ok(count),
             Err(Trouble::Found(problem)) => Err(problem),
             // A machine that lets no program be traced cannot try this.
             Err(Trouble::Untraced(error)) => {
-                println!("desk-{name} is not tried: no program can be traced here: {error}");
+                println!("{name} is not tried: no program can be traced here: {error}");
                 Ok(0)
             }
         });
     };
-    let what = "saves whose new file is synced before it takes its name, and the folder after";
-    check("synced", what, &|saves| saves.on_each(Saves::synced));
-    check("killed", "saves killed at each of their system calls", &|saves| saves.on_each(Saves::killed));
-    check("failed", "saves of which a system call fails", &|saves| saves.on_each(Saves::failed));
-    check("interrupted", "reads, writes and syncs that are interrupted", &|saves| saves.on_each(Saves::interrupted));
-    check("killed-at-any-time", "saves killed at any time", &|saves| saves.killed_at_any_time(seed));
+    let what = format!("{word}s whose new file is synced before it takes its name, and the folder after");
+    check("synced", &what, &|saves| saves.on_each(Saves::synced));
+    check("killed", &format!("{word}s killed at each of their system calls"), &|saves| saves.on_each(Saves::killed));
+    check("failed", &format!("{word}s of which a system call fails"), &|saves| saves.on_each(Saves::failed));
+    let what = format!("reads, writes and syncs of {word}s that are interrupted");
+    check("interrupted", &what, &|saves| saves.on_each(Saves::interrupted));
+    check("killed-at-any-time", &format!("{word}s killed at any time"), &|saves| saves.killed_at_any_time(seed));
 }
 
 enum Trouble {
@@ -72,8 +83,17 @@ struct Seen {
 }
 
 impl Saves {
-    fn new(desk: &Desk) -> Result<Saves, Trouble> {
-        Ok(Saves { tried: Tried::new(desk)? })
+    fn new(desk: &Desk, put: Put) -> Result<Saves, Trouble> {
+        Ok(Saves { tried: Tried::new(desk, put)? })
+    }
+
+    fn put(&self) -> Put {
+        self.tried.put
+    }
+
+    /// Whether this is all that is told and said by a desk that has put the file.
+    fn is_done(&self, output: &[u8], errors: &[u8]) -> bool {
+        output == self.put().told().as_bytes() && errors == self.put().ended(true).as_bytes()
     }
 
     fn on_each(&self, run: impl Fn(&Saves, Option<u32>) -> Result<usize, Trouble>) -> Result<usize, Trouble> {
@@ -117,7 +137,7 @@ impl Saves {
     /// Runs a save, and does at its calls, counted from the open of the letter on, what is asked for. At each call no
     /// new file may be read by more than the old one.
     fn traced(&self, folder: &Folder, mode: Option<u32>, act: impl Fn(usize, &Call) -> Act) -> Result<Seen, Trouble> {
-        let mut command = self.command(folder, &format!("{LINES}f\n")).map_err(Trouble::Untraced)?;
+        let mut command = self.command(folder, &self.put().lines("f")).map_err(Trouble::Untraced)?;
         let (mut calls, mut open) = (Vec::new(), Ok(()));
         let old = standing(&folder.path)?;
         let done = trace(&mut command, |call| {
@@ -140,7 +160,7 @@ impl Saves {
     fn calls(&self, mode: Option<u32>) -> Result<Vec<u64>, Trouble> {
         let folder = self.folder(mode)?;
         let seen = self.traced(&folder, mode, |_, _| Act::Go)?;
-        if seen.output != format!("{TOLD}{ANSWER}").as_bytes() || !seen.errors.is_empty() {
+        if !self.is_done(&seen.output, &seen.errors) {
             return Err(format!("a save that is only watched tells {}", seen.output.escape_ascii()).into());
         }
         self.settled(&folder, mode, true)?;
@@ -151,7 +171,7 @@ impl Saves {
     fn settled(&self, folder: &Folder, mode: Option<u32>, done: bool) -> Result<BTreeSet<String>, Trouble> {
         let (found, mut expected) = (standing(&folder.path)?, standing(&self.folder(mode)?.path)?);
         if done {
-            let text = super::script::show(NEW.as_bytes());
+            let text = contents(self.put().new.as_bytes());
             let line = match expected.get("f") {
                 // All that is known of the old file is kept, but its text.
                 Some(line) => line.replace("\"old\"", &text),
@@ -181,10 +201,10 @@ impl Saves {
             settled => settled?,
         };
         let before = standing(&folder.path)?;
-        let status = self.command(folder, &format!("{LINES}f\n")).and_then(|mut command| command.status());
+        let status = self.command(folder, &self.put().lines("f")).and_then(|mut command| command.status());
         status.map_err(|error| format!("desk cannot be run again: {error}"))?;
         let [output, errors] = self.written().map_err(|error| error.to_string())?;
-        if output != format!("{TOLD}{ANSWER}").as_bytes() {
+        if !self.is_done(&output, &errors) {
             return Err(format!("the next save says {}", errors.escape_ascii()).into());
         }
         self.settled(folder, mode, true)?;
@@ -235,15 +255,16 @@ impl Saves {
                 });
                 let seen = seen.map_err(at)?;
                 if !to_streams.get() {
-                    let told = seen.output.ends_with(format!("{TOLD}{ANSWER}").as_bytes());
+                    let told = seen.output.ends_with(self.put().told().as_bytes());
                     let left = self.settled(&folder, mode, told).map_err(at)?;
                     // A page that was changed and is not saved is spoken of in the end.
                     let ended = seen.errors.strip_suffix(ENDED.as_bytes());
-                    let is_lost = !told && seen.output.starts_with(TOLD.as_bytes());
+                    let is_lost = self.put().ended(told) == ENDED && seen.output.starts_with(TOLD.as_bytes());
                     let complaint = ended.unwrap_or(&seen.errors);
                     let lines = complaint.split_inclusive(|&byte| byte == b'\n').count();
-                    let complains = lines == 1 && complaint.starts_with(b"desk: ") && ended.is_some() == is_lost;
-                    if !told && !complains || lines > 1 || !left.is_empty() && !unlinks.get() {
+                    let complains = lines == 1 && complaint.starts_with(b"desk: ");
+                    let is_said = (told || complains) && lines <= 1 && ended.is_some() == is_lost;
+                    if !is_said || !left.is_empty() && !unlinks.get() {
                         return Err(at(format!("it says {}, {left:?}", seen.errors.escape_ascii()).into()));
                     }
                 }
@@ -273,7 +294,7 @@ impl Saves {
                 }
             };
             let seen = self.traced(&folder, mode, act).map_err(at)?;
-            if seen.output != format!("{TOLD}{ANSWER}").as_bytes() || !seen.errors.is_empty() {
+            if !self.is_done(&seen.output, &seen.errors) {
                 return Err(at(format!("it says {}", seen.errors.escape_ascii()).into()));
             }
             if !self.settled(&folder, mode, true).map_err(at)?.is_empty() {
@@ -287,27 +308,44 @@ impl Saves {
     /// Saves of a long letter, again and again, until desk is killed.
     fn killed_at_any_time(&self, seed: u64) -> Result<usize, Trouble> {
         let mut rng = Rng::new(seed, "desk kills");
-        let texts = ["a".repeat(60_000), format!("X{}", "a".repeat(59_999))];
+        let word = self.put().word;
+        let letter = "a".repeat(60_000);
+        let round = |names: [&str; 3]| {
+            let [first, changed, back] = names.map(|name| format!("{word} {name}\n"));
+            format!("{first}replace 0 1 58\n{changed}undo\n{back}")
+        };
+        let texts = self.texts(&letter, &round(["1", "2", "3"]));
+        let first = String::from_utf8_lossy(&texts[0]).into_owned();
         let count = 40;
         for _ in 0..count {
-            let folder = Folder::new(&files(&[("letter", &texts[0]), ("f", &texts[0])], 0o600))?;
-            let input = "save f\nreplace 0 1 58\nsave f\nundo\n".repeat(50);
+            let folder = Folder::new(&files(&[("letter", &letter), ("f", &first)], 0o600))?;
+            let input = round(["f"; 3]).repeat(30);
             let mut command = self.command(&folder, &input).map_err(|error| error.to_string())?;
             let mut child = command.spawn().map_err(|error| error.to_string())?;
             thread::sleep(Duration::from_micros(rng.below(40_000) as u64));
             child.kill().and_then(|()| child.wait()).map_err(|error| error.to_string())?;
             let found = fs::read(folder.path.join("f")).map_err(|error| format!("the file is gone: {error}"))?;
-            if !texts.iter().any(|text| text.as_bytes() == found) {
+            if !texts.contains(&found) {
                 return Err(format!("the file has {} bytes", found.len()).into());
             }
-            let status = self.command(&folder, "save f\n").and_then(|mut command| command.status());
+            let status = self.command(&folder, &format!("{word} f\n")).and_then(|mut command| command.status());
             status.map_err(|error| format!("desk cannot be run again: {error}"))?;
             let [output, _] = self.written().map_err(|error| error.to_string())?;
-            if output != b"status=0\ncount=60000\nstatus=0\ncount=60000\n" {
+            let told = format!("status=0\ncount=60000\nstatus=0\ncount={}\n", first.len());
+            if output != told.as_bytes() || fs::read(folder.path.join("f")).ok().as_ref() != Some(&texts[0]) {
                 return Err("the next save is not done".to_string().into());
             }
         }
         Ok(count)
+    }
+
+    /// What the second program puts for these lines on this letter, in the order of the names.
+    fn texts(&self, letter: &str, lines: &str) -> Vec<Vec<u8>> {
+        let arguments = words(&["utf7b", "letter"]);
+        let before = files(&[("letter", letter)], 0o600);
+        let start = Start { arguments, files: before, umask: 0, input: lines.as_bytes().to_vec() };
+        let found = second::run(&start).files.entries.into_iter().filter(|(path, _)| path != b"letter");
+        found.filter_map(|(_, entry)| if let Entry::File { bytes, .. } = entry { Some(bytes) } else { None }).collect()
     }
 }
 

@@ -1,10 +1,11 @@
 //! Scripts with letters, lines and pages that are as long as can be, and longer.
 
-use super::script::Script;
+use super::script::{Nights, Script};
 use super::seeded::{long_name, on_letter, LONG_NAMES, NAMES, OTHERS};
-use crate::examples::desk::BAD_LINES;
+use crate::examples::desk::{files, words, BAD_LINES, OLD_MODE};
 use crate::rng::Rng;
-use crate::second::desk::LONGEST_LINE;
+use crate::second::desk::{self as second, LONGEST_LINE};
+use crate::second::files::Entry;
 use crate::second::{Kind, LIMIT};
 use crate::texts;
 
@@ -66,6 +67,37 @@ pub fn pages(kind: Kind) -> Vec<Script> {
     vec![script(kind, &[BYTE; LIMIT], ended(full)), grown(kind)]
 }
 
+/// The longest page file that there is: of a letter and a page of 65,536 cells and a full history. It is kept and gone
+/// on with; then bytes are added behind it, or taken from its end.
+pub fn nights(kind: Kind) -> Nights {
+    let run = |name: &str, put: &[(&str, &[u8])], lines: &[&str]| {
+        let mut files = files(&[], OLD_MODE);
+        let entry = |bytes: &[u8]| Entry::File { bytes: bytes.to_vec(), mode: OLD_MODE };
+        files.entries.extend(put.iter().map(|&(path, bytes)| (path.as_bytes().to_vec(), entry(bytes))));
+        Script { arguments: words(&["page", name]), files, lines: ended(lines) }
+    };
+    let most = format!("replace 0 {}", LIMIT - 3);
+    let first = script(kind, &[BYTE; LIMIT], ended(["keep opened", &most, "keep stepped", "undo", "keep longest"]));
+    let left = second::run(&first.start(0o22)).files;
+    let Some(Entry::File { bytes: longest, .. }) = left.entries.get(&b"longest"[..]) else { panic!("no file is kept") };
+    assert_eq!(longest.len(), 1_179_746 + second::kind_word(kind).len());
+    let more = |count: usize| [&longest[..], &vec![b'\n'; count]].concat();
+    let ends = ["show", "undo", "save back", "redo", "redo", "save short", "keep longest", "quit"];
+    Nights {
+        runs: vec![
+            first,
+            run("longest", &[], &["undo", "save back", "redo", "show", "keep stepped too", "undo", "keep longest"]),
+            run("stepped", &[], &ends),
+            run("opened", &[], &["replace 0 65536", "keep opened", "undo", "show", "save back"]),
+            run("longest", &[], &ends),
+            run("more", &[("more", &more(1))], &ends),
+            run("more", &[("more", &more(2))], &ends),
+            run("more", &[("more", &more(300_000))], &ends),
+            run("less", &[("less", &longest[..longest.len() - 1])], &ends),
+        ],
+    }
+}
+
 /// A page that grows by lines that are as long as can be, of cells that take many bytes each when they are written. Its
 /// history is squeezed where it has no room left, and takes more then.
 fn grown(kind: Kind) -> Script {
@@ -111,7 +143,7 @@ pub fn lines(kind: Kind) -> Vec<Script> {
 
 /// Lines of this length: with many blanks, with many zeros, with words that are long, and with an end that by itself
 /// would be a command.
-fn long_lines(kind: Kind, length: usize) -> [Vec<u8>; 10] {
+fn long_lines(kind: Kind, length: usize) -> [Vec<u8>; 11] {
     let cell = cell(kind);
     let filled = |start: &str, filling: u8, end: &str| {
         let count = length - start.len() - end.len();
@@ -126,6 +158,7 @@ fn long_lines(kind: Kind, length: usize) -> [Vec<u8>; 10] {
         filled("", b'\r', ""),
         filled("", b'x', "\rundo"),
         filled("save ", b'n', ""),
+        filled("keep ", b'n', ""),
         filled("quit", b' ', "0"),
         filled("squeeze ", b'0', "2"),
     ]
@@ -134,12 +167,14 @@ fn long_lines(kind: Kind, length: usize) -> [Vec<u8>; 10] {
 /// Every name that is saved to, short and long; and names in a folder that has the letter alone.
 pub fn names(kind: Kind) -> Vec<Script> {
     let long = LONG_NAMES.iter().map(|&length| long_name(length));
-    let lines = NAMES.iter().map(|name| name.to_vec()).chain(long).map(|name| [b"save ", &name[..]].concat());
+    let names: Vec<Vec<u8>> = NAMES.iter().map(|name| name.to_vec()).chain(long).collect();
+    let lines = |word: &str| ended(names.iter().map(|name| [word.as_bytes(), b" ", &name[..]].concat()));
     let alone = on_letter(kind, "letter", "letter", b"ab".to_vec(), &[]);
     // What is saved over the letter is not what arrived.
     let over_the_letter = ["replace 0 1", "save letter", "undo", "save out", "redo", "undo", "save letter"];
     vec![
-        script(kind, b"ab", ended(lines)),
+        script(kind, b"ab", lines("save")),
+        script(kind, b"ab", lines("keep")),
         script(kind, b"ab", ended(over_the_letter)),
         Script { lines: ended(["save sub/out", "save sub", "save sub/out", "save busy"]), ..alone },
     ]

@@ -6,6 +6,7 @@ mod folder;
 mod harm;
 mod kills;
 mod limit;
+mod nights;
 mod same;
 mod script;
 mod seeded;
@@ -17,7 +18,7 @@ mod trace;
 use std::collections::{BTreeMap, BTreeSet};
 
 use crate::examples::desk::{self as examples, Transcript};
-use crate::examples::nights;
+use crate::examples::nights as examples_of_nights;
 use crate::formats;
 use crate::parts::Part;
 use crate::report::Report;
@@ -48,9 +49,9 @@ fn check_by_hand(report: &mut Report) {
     check("saves", "files that are saved, and files that cannot be", examples::saves());
     check("quits", "pages that are left saved, and not saved", examples::quits());
     check("squeezes", "old steps folded, and marks in the fold and behind it", examples::squeezes());
-    check("page-files", "page files that are refused", nights::refused_files());
+    check("page-files", "page files that are refused", examples_of_nights::refused_files());
     report.check("desk-nights", "pages that are kept and gone on with, over several runs", |_| {
-        try_examples(&nights::all(), |nights| desk.compare_nights(nights))
+        try_examples(&examples_of_nights::all(), |nights| desk.compare_nights(nights))
     });
     system::run(report, &desk);
     harm::run(report, &desk);
@@ -69,7 +70,18 @@ fn check_kind(report: &mut Report, kind: Kind, seed: u64) {
     check("lines", "lines as long as can be, and longer", &mut limit::lines(kind).into_iter());
     check("streams", "scripts of more lines than are read at once", &mut limit::streams(seed, kind));
     check("names", "names to save to, and names that cannot be saved to", &mut limit::names(kind).into_iter());
+    let what = "page files of all sorts, and damaged ones, gone on with";
+    check("page-files", what, &mut nights::on_page_files(seed, kind, 150));
 
+    let what = "lists of scripts in one folder, with page files kept and gone on with";
+    report.check(&name("nights"), what, |statuses| {
+        let all = nights::seeded(seed, kind, 60).chain([limit::nights(kind)]);
+        try_all(all, |nights| desk.follow_all(nights, statuses))
+    });
+    let what = "pages kept, and by later runs undone to the letter and redone, by what desk says alone";
+    report.check(&name("back"), what, |_| {
+        try_all(nights::edits(seed, kind, 40), |script| nights::undone_and_redone(&desk, script))
+    });
     let what = "scripts of which each line is written only when those before it are answered";
     report.check(&name("line-by-line"), what, |statuses| {
         let scripts = seeded::scripts(seed, kind, "line by line", 15).chain(limit::lines(kind));
@@ -88,9 +100,10 @@ fn check_kind(report: &mut Report, kind: Kind, seed: u64) {
 
 /// The statuses that scripts can be told. These they cannot: 9 of open, for no letter within the limit has more cells
 /// than the text buffer; 16 of all but open, for the buffers and the letter are within the limit, and no line has room
-/// for so many cells; 14, for each call is lent what the last one left; 15, for save and keep are lent the letter that was opened;
-/// 10 and 9 of save, for all that is read or added is writable, and the output has room for the longest writing; 9 of
-/// squeeze, for its work buffer is as long as the history, and a record no shorter than what it stands for is 19.
+/// for so many cells; 14 of all but a page file, for each call is lent what the last one left; 9 of a page file, of keep
+/// and of save, for there is room for the longest; 9 of squeeze, for its work buffer is as long as the history, and a
+/// record no shorter than what it stands for is 19. Save gives 10 and 15, and keep 15, only where a page file made by
+/// hand has cells that are not writable, or other bytes than those that its steps were done on.
 fn expect_statuses(report: &mut Report, kind: Kind) {
     report.expect_statuses(second::open_name(kind), &formats::of_kind(kind).statuses(&[0, 16]));
     report.expect_statuses(second::SHOW, &[0]);
@@ -98,8 +111,9 @@ fn expect_statuses(report: &mut Report, kind: Kind) {
     report.expect_statuses(second::UNDO, &[0, 13]);
     report.expect_statuses(second::REDO, &[0, 13]);
     report.expect_statuses(second::SQUEEZE, &[0, 11, 19]);
-    report.expect_statuses(second::SAVE, &[0]);
-    report.expect_statuses(second::KEEP, &[0]);
+    report.expect_statuses(second::SAVE, &[0, 10, 15]);
+    report.expect_statuses(second::KEEP, &[0, 15]);
+    report.expect_statuses(second::PAGE, &[0, 14, 15, 18]);
 }
 
 /// What can be complained of in scripts, and the errors of the system that names in them can cause.

@@ -16,8 +16,7 @@ const SAVES: usize = 3;
 pub fn scripts(seed: u64, kind: Kind, purpose: &str, count: usize) -> impl Iterator<Item = Script> {
     let mut rng = Rng::new(seed, &format!("desk {} {purpose}", kind.name()));
     (0..count).map(move |_| {
-        let length = length(&mut rng);
-        let letter = (texts::of_kind(kind).whole)(&mut rng, length);
+        let letter = letter(&mut rng, kind);
         script(&mut rng, kind, letter)
     })
 }
@@ -41,8 +40,33 @@ fn length(rng: &mut Rng) -> usize {
     }
 }
 
-fn script(rng: &mut Rng, kind: Kind, letter: Vec<u8>) -> Script {
-    let mut draft = Draft { kind, ledger: Ledger::new(kind, &letter), lines: Vec::new(), saves: 0 };
+/// A letter of a kind.
+pub fn letter(rng: &mut Rng, kind: Kind) -> Vec<u8> {
+    let length = length(rng);
+    (texts::of_kind(kind).whole)(rng, length)
+}
+
+pub fn script(rng: &mut Rng, kind: Kind, letter: Vec<u8>) -> Script {
+    let lines = lines(rng, kind, Ledger::new(kind, &letter));
+    in_folder(rng, kind, letter, lines)
+}
+
+/// Lines that change a page and turn back, and no others.
+pub fn edits(rng: &mut Rng, kind: Kind, letter: &[u8]) -> Vec<Vec<u8>> {
+    let mut draft = Draft { kind, ledger: Ledger::new(kind, letter), lines: Vec::new(), saves: 0 };
+    for _ in 0..rng.between(0, 12) {
+        match rng.below(8) {
+            0..=4 => draft.add_replace(rng),
+            5..=6 => draft.add_turns(rng),
+            _ => draft.add_squeeze(rng),
+        }
+    }
+    draft.lines
+}
+
+/// Lines on a page of this ledger, if there is a page.
+pub fn lines(rng: &mut Rng, kind: Kind, ledger: Option<Ledger>) -> Vec<Vec<u8>> {
+    let mut draft = Draft { kind, ledger, lines: Vec::new(), saves: 0 };
     for _ in 0..rng.between(0, 18) {
         draft.add(rng);
     }
@@ -55,8 +79,7 @@ fn script(rng: &mut Rng, kind: Kind, letter: Vec<u8>) -> Script {
         last.pop();
     }
     // A damaged line may be two, or one with the next.
-    let lines = second::lines(&lines.concat()).map(<[u8]>::to_vec).collect();
-    in_folder(rng, kind, letter, lines)
+    second::lines(&lines.concat()).map(<[u8]>::to_vec).collect()
 }
 
 /// A `quit`; or two, the second directly behind the first or behind a line with no word, with a command or with none.
@@ -213,7 +236,7 @@ impl Draft {
 }
 
 /// Words with blanks between them, as a line.
-fn line(rng: &mut Rng, words: &[Vec<u8>]) -> Vec<u8> {
+pub fn line(rng: &mut Rng, words: &[Vec<u8>]) -> Vec<u8> {
     let odd = rng.one_in(5);
     let mut blanks = |least| match odd {
         true => (0..least + rng.below(3)).map(|_| rng.pick(b"  \t\r")).collect(),

@@ -2,11 +2,13 @@
 
 use std::collections::BTreeMap;
 use std::fs::{self, Metadata};
+use std::hash::{DefaultHasher, Hash, Hasher};
 use std::io;
 use std::os::unix::fs::{FileTypeExt, MetadataExt};
 use std::path::Path;
 
 use super::script::show;
+use crate::trial::QUOTED;
 
 /// Each thing under its path, told in a line.
 pub type Standing = BTreeMap<String, String>;
@@ -47,7 +49,15 @@ fn tell(path: &Path, data: &Metadata) -> io::Result<String> {
 
 /// The line for a file.
 pub fn file(mode: u32, owner: &str, names: u64, bytes: &[u8]) -> String {
-    format!("a file, {mode:o} of {owner}, by {names} names, {}", show(bytes))
+    format!("a file, {mode:o} of {owner}, by {names} names, {}", contents(bytes))
+}
+
+/// Its first bytes, with a sum of all of them where there are more.
+pub fn contents(bytes: &[u8]) -> String {
+    let mut sum = DefaultHasher::new();
+    bytes.hash(&mut sum);
+    let sum = if bytes.len() > QUOTED { format!(" (sum {:016X})", sum.finish()) } else { String::new() };
+    format!("{}{sum}", show(bytes))
 }
 
 /// That this stands there and no more.

@@ -4,8 +4,11 @@ use std::time::Duration;
 
 use super::built::Desk;
 use super::folder::Folder;
+use super::harm::ENDED;
 use super::same::{same_bytes, same_files};
 use crate::examples::desk::{files, words, Transcript, OLD_MODE};
+use crate::examples::nights::OPENED;
+use crate::examples::page_file::WORKED;
 use crate::report::Report;
 use crate::trial::try_examples;
 
@@ -13,7 +16,7 @@ pub fn run(report: &mut Report, desk: &Desk) {
     report.check("desk-modes", "umasks, each with the mode of a saved file", |_| {
         let umasks = [0o000, 0o077, 0o222];
         for umask in umasks {
-            desk.compare_transcript(&two_saves(), umask, &format!("umask {umask:o}"))
+            desk.compare_transcript(&few_saves(), umask, &format!("umask {umask:o}"))
                 .map_err(|difference| format!("with umask {umask:o}, {difference}"))?;
         }
         Ok(umasks.len())
@@ -23,12 +26,13 @@ pub fn run(report: &mut Report, desk: &Desk) {
             try_examples(transcripts, |transcript| desk.compare_transcript(transcript, desk.umask, first))
         });
     };
-    check("open-files", "more saves than files can be open at a time", &[many_saves()], "ulimit -n 16");
+    let what = "more saves than files can be open at a time";
+    check("open-files", what, &[many("save", "abc"), many("keep", OPENED)], "ulimit -n 16");
     // A write beyond the limit then fails, and is no reason to be ended by a signal.
     let limit = "trap '' XFSZ && ulimit -f 1";
     check("full", "saves of which only the first bytes can be written", &[too_large()], limit);
     check("devices", "letters that are no ordinary files", &devices(), "");
-    report.check("desk-pieces", "a letter that arrives in pieces", |_| in_pieces(desk).map(|()| 1));
+    report.check("desk-pieces", "a letter and a page file that arrive in pieces", |_| in_pieces(desk));
 }
 
 /// Files "letter" with this letter and "old".
@@ -44,29 +48,32 @@ fn transcript(name: &str, letter: &str, input: &str, output: &str) -> Transcript
     }
 }
 
-fn two_saves() -> Transcript {
-    let told = "status=0\ncount=3\n".repeat(3);
-    let saved = vec![("old", "abc"), ("new", "abc")];
-    Transcript { saved, ..transcript("two saves", "abc", "save old\nsave new\n", &told) }
+fn few_saves() -> Transcript {
+    let told = "status=0\ncount=3\n".repeat(3) + &"status=0\ncount=133\n".repeat(2);
+    let saved = vec![("old", OPENED), ("new", "abc"), ("kept", OPENED)];
+    Transcript { saved, ..transcript("saves and keeps", "abc", "save old\nsave new\nkeep kept\nkeep old\n", &told) }
 }
 
-fn many_saves() -> Transcript {
-    let told = "status=0\ncount=3\n".repeat(21);
-    Transcript { saved: vec![("old", "abc")], ..transcript("many saves", "abc", &"save old\n".repeat(20), &told) }
+/// A save or a keep, again and again.
+fn many(word: &str, put: &'static str) -> Transcript {
+    let told = format!("status=0\ncount=3\n{}", format!("status=0\ncount={}\n", put.len()).repeat(20));
+    let input = format!("{word} old\n").repeat(20);
+    Transcript { saved: vec![("old", put)], ..transcript(&format!("many times {word}"), "abc", &input, &told) }
 }
 
-/// What is saved is too large, at first.
+/// What is saved is too large, at first; so is what is kept.
 fn too_large() -> Transcript {
-    let input = "save old\nsave new\nreplace 0 2990\nsave old\n";
+    let input = "save old\nsave new\nkeep old\nkeep new\nreplace 0 2990\nkeep new\nsave old\n";
     let output = "status=0\ncount=3000\nstatus=0\ncount=10\nstatus=0\ncount=10\n";
+    let errors = ["old", "new", "old", "new", "new"].map(|name| format!("desk: {name}: File too large\n"));
     Transcript {
-        errors: b"desk: old: File too large\ndesk: new: File too large\n".to_vec(),
+        errors: errors.concat().into_bytes(),
         saved: vec![("old", "aaaaaaaaaa")],
         ..transcript("a letter that is too large", &"a".repeat(3_000), input, output)
     }
 }
 
-fn devices() -> [Transcript; 2] {
+fn devices() -> [Transcript; 4] {
     let nothing = "status=0\ncount=0\nstatus=0\ncount=0\ncells=\nstatus=0\ncount=0\n";
     [
         Transcript {
@@ -78,21 +85,36 @@ fn devices() -> [Transcript; 2] {
             arguments: words(&["jp2", "/dev/zero"]),
             ..transcript("a letter without end", "abc", "show\n", "status=16\nplace=65536\n")
         },
+        Transcript {
+            arguments: words(&["page", "/dev/null"]),
+            ..transcript("a page file of nothing", "abc", "show\nkeep new\n", "status=18\nplace=0\n")
+        },
+        Transcript {
+            arguments: words(&["page", "/dev/zero"]),
+            ..transcript("a page file without end", "abc", "show\n", "status=18\nplace=0\n")
+        },
     ]
 }
 
-/// The letter is the standard input, of which then nothing is left.
-fn in_pieces(desk: &Desk) -> Result<(), String> {
-    let before = files(&[], OLD_MODE);
-    let folder = Folder::new(&before)?;
-    let mut session = desk.start(&words(&["utf7b", "/dev/stdin"]), &folder, "")?;
-    for piece in ["A+Im", "IDk", "Q."] {
-        session.feed(piece.as_bytes());
-        session.expect_silence(Duration::from_millis(50))?;
+/// The letter is the standard input, of which then nothing is left; so is the page file.
+fn in_pieces(desk: &Desk) -> Result<usize, String> {
+    let (first, rest) = WORKED.split_at(90);
+    for (word, pieces, told, said) in [
+        ("utf7b", ["A+Im", "IDk", "Q."], "status=0\ncount=4\n", ""),
+        ("page", [first, &rest[..1], &rest[1..]], "status=0\ncount=9\n", ENDED),
+    ] {
+        let before = files(&[], OLD_MODE);
+        let folder = Folder::new(&before)?;
+        let mut session = desk.start(&words(&[word, "/dev/stdin"]), &folder, "")?;
+        for piece in pieces {
+            session.feed(piece.as_bytes());
+            session.expect_silence(Duration::from_millis(50))?;
+        }
+        session.close();
+        let (output, errors) = session.end()?;
+        same_bytes("standard output", told.as_bytes(), output)?;
+        same_bytes("standard error", said.as_bytes(), errors)?;
+        same_files(&before, &folder.files()?)?;
     }
-    session.close();
-    let (output, errors) = session.end()?;
-    same_bytes("standard output", b"status=0\ncount=4\n", output)?;
-    same_bytes("standard error", b"", errors)?;
-    same_files(&before, &folder.files()?)
+    Ok(2)
 }
