@@ -11,6 +11,7 @@ use crate::rng::Rng;
 use crate::second::desk as second;
 use crate::second::files::{Entry, Files};
 use crate::second::ledger::Ledger;
+use crate::second::page::Page;
 use crate::second::page_file::{self, Content};
 use crate::second::{Call, Kind};
 
@@ -106,16 +107,34 @@ fn ledger(content: Content) -> Option<Ledger> {
 }
 
 /// Scripts on page files of all sorts: small ones that are sound and not, with bytes of their own and others, damaged or
-/// not.
+/// not; and one for each answer that a page file can lead to.
 pub fn on_page_files(seed: u64, kind: Kind, count: usize) -> impl Iterator<Item = Script> {
     let lines = ["show", "keep same", "undo", "save out", "keep undone", "redo", "redo", "save out", "squeeze 2"];
     let lines = lines.into_iter().chain(["keep kept", "quit", "undo", "undo", "keep undone", "quit", "quit"]);
     let lines: Vec<Vec<u8>> = lines.map(|line| format!("{line}\n").into_bytes()).collect();
-    page_files::seeded(seed, kind, count).map(move |filed| {
+    telling(kind).into_iter().chain(page_files::seeded(seed, kind, count).map(|filed| filed.file)).map(move |file| {
         let mut files = Files::default();
-        files.entries.insert(b"kept".to_vec(), Entry::File { bytes: filed.file, mode: OLD_MODE });
+        files.entries.insert(b"kept".to_vec(), Entry::File { bytes: file, mode: OLD_MODE });
         Script { arguments: words(&["page", "kept"]), files, lines: lines.clone() }
     })
+}
+
+/// A page on which one step stands and one is undone: as it is; with bytes of as many cells, which are found to be
+/// another's when nothing stands; with a cell that cannot be saved; with other bytes, not sound, and not in form.
+fn telling(kind: Kind) -> Vec<Vec<u8>> {
+    let whole = page_file::content(&page_files::small(kind)[2].file).expect("a page file");
+    let others = |count: usize| Content { arrived: vec![b'a'; count], ..whole.clone() };
+    let unwritable = [&whole.text[..whole.text.len() - 1], &[u32::MAX]].concat();
+    let unsound = Page { done: whole.page.done - 1, ..whole.page };
+    let changed = [
+        whole.clone(),
+        others(whole.page.opening),
+        Content { text: unwritable, ..whole.clone() },
+        others(whole.page.opening + 1),
+        Content { page: unsound, ..whole.clone() },
+    ];
+    let behind = [&whole.file()[..], b" "].concat();
+    changed.iter().map(Content::file).chain([behind]).collect()
 }
 
 /// So many scripts that change a page and turn back.
@@ -174,6 +193,8 @@ pub fn undone_and_redone(desk: &Desk, script: &Script) -> Result<(), String> {
 
 #[cfg(test)]
 mod tests {
+    use std::collections::BTreeSet;
+
     use super::*;
     use crate::second::desk::Told;
 
@@ -201,6 +222,23 @@ mod tests {
         assert!((10..40).contains(&(100 * refused / all)), "{refused} of {all}");
         assert!(letters > 10, "{letters} of {all}");
         assert!(most > 60, "{most} of 180 with several page files");
+    }
+
+    #[test]
+    fn every_answer_is_led_to() {
+        let answered = |kind, name: &str| -> BTreeSet<u32> {
+            let told = on_page_files(1, kind, 0).flat_map(|script| second::run(&script.start(0o22)).told);
+            told.filter_map(|told| match told {
+                Told::Answer(of, answer) if of == name => Some(answer.number),
+                _ => None,
+            })
+            .collect()
+        };
+        for kind in Kind::ALL {
+            assert_eq!(answered(kind, second::PAGE), [0, 14, 15, 18].into());
+            assert_eq!(answered(kind, second::SAVE), [0, 10, 15].into());
+            assert_eq!(answered(kind, second::KEEP), [0, 15].into());
+        }
     }
 
     #[test]
