@@ -1,6 +1,6 @@
 //! The program `desk`. Of document 01 it has the page and the listers' style; quotations in comments are sentences of
-//! docs/DESK.md, which tells the rest and is README.md's part on `desk`, or of order 6 of document 02 where a comment says
-//! so. It was written without a look at the proved code. Where docs/DESK.md is silent, a comment says what is taken.
+//! docs/DESK.md, which tells the rest and is README.md's part on `desk`, or of order 6 of document 02 where a comment
+//! says so. It was written without a look at the proved code. Where docs/DESK.md is silent, a comment says what is taken.
 
 use std::mem;
 
@@ -186,7 +186,8 @@ fn of_name(name: &[u8], text: &str) -> Vec<u8> {
 /// Runs the program.
 pub fn run(start: &Start) -> End {
     match open(start) {
-        // "A letter or a page file that is refused, or cannot be read, makes no page: nothing is said of it at the end."
+        // "A letter or a page file that is refused, or cannot be read, makes no page: nothing is said of it at the
+        // end."
         Err(told) => End { told: vec![told], last: Told::Nothing, files: start.files.clone() },
         Ok((told, mut desk)) => {
             let mut told = vec![told];
@@ -359,8 +360,8 @@ impl Desk {
         }
     }
 
-    /// A `save FILE`, or else a `keep FILE`, whose "FILE is as a save's", with the same lent letter. What each leaves of
-    /// the page is the call's: "The page stays as it is, saved or not: a `keep` is no `save`."
+    /// A `save FILE`, or else a `keep FILE`, whose "FILE is as a save's", with the same lent letter. What each leaves
+    /// of the page is the call's: "The page stays as it is, saved or not: a `keep` is no `save`."
     fn write(&mut self, save: bool, name: &[u8]) -> Told {
         let arrived = self.arrived.clone();
         let (missing, told, call) = match save {

@@ -106,8 +106,8 @@ fn ledger(content: Content) -> Option<Ledger> {
     Some(ledger)
 }
 
-/// Scripts on page files of all sorts: small ones that are sound and not, with bytes of their own and others, damaged or
-/// not; and one for each answer that a page file can lead to.
+/// Scripts on page files of all sorts: small ones that are sound and not, with bytes of their own and others, damaged
+/// or not; and one for each answer that a page file can lead to.
 pub fn on_page_files(seed: u64, kind: Kind, count: usize) -> impl Iterator<Item = Script> {
     let lines = ["show", "keep same", "undo", "save out", "keep undone", "redo", "redo", "save out", "squeeze 2"];
     let lines = lines.into_iter().chain(["keep kept", "quit", "undo", "undo", "keep undone", "quit", "quit"]);
