@@ -1,6 +1,7 @@
 //! The program `desk`. Of document 01 it has the page and the listers' style; quotations in comments are sentences of
 //! docs/DESK.md, which tells the rest and is README.md's part on `desk`, or of order 6 of document 02 where a comment
-//! says so. It was written without a look at the proved code. Where docs/DESK.md is silent, a comment says what is taken.
+//! says so. It was written without a look at the proved code. Where docs/DESK.md is silent, a comment says what is
+//! taken.
 
 use std::mem;
 

@@ -102,8 +102,8 @@ fn check_kind(report: &mut Report, kind: Kind, seed: u64) {
 /// than the text buffer; 16 of all but open, for the buffers and the letter are within the limit, and no line has room
 /// for so many cells; 14 of all but a page file, for each call is lent what the last one left; 9 of a page file, of
 /// keep and of save, for there is room for the longest; 9 of squeeze, for its work buffer is as long as the history,
-/// and a record no shorter than what it stands for is 19. Save gives 10 and 15, and keep 15, only where a page file made
-/// by hand has cells that are not writable, or other bytes than those that its steps were done on.
+/// and a record no shorter than what it stands for is 19. Save gives 10 and 15, and keep 15, only where a page file
+/// made by hand has cells that are not writable, or other bytes than those that its steps were done on.
 fn expect_statuses(report: &mut Report, kind: Kind) {
     report.expect_statuses(second::open_name(kind), &formats::of_kind(kind).statuses(&[0, 16]));
     report.expect_statuses(second::SHOW, &[0]);
