@@ -15,6 +15,7 @@ use super::same::same_bytes;
 use super::session::Session;
 use super::standing::{file, same_standing, standing};
 use crate::examples::desk::files;
+use crate::examples::nights;
 use crate::report::Report;
 use crate::second::page::Page;
 use crate::second::page_file::Content;
@@ -180,7 +181,7 @@ pub fn run(report: &mut Report, desk: &Desk) {
 }
 
 /// What a letter "abc" is when its first cell is replaced, and the page file then.
-pub const LETTER: &str = "abc";
+const LETTER: &str = "abc";
 const NEW: &str = "Xbc";
 const KEPT: &str = "form=1
 kind=utf7b
@@ -194,20 +195,41 @@ text=000000580000006200000063
 history=0000000000000001000000010000006100000058
 ";
 
-/// A command that puts a file: what it puts when the first cell is replaced, its answer then, and whether the page is
-/// saved by it.
+/// A command that puts a file. A save is tried on a letter; a keep on a page that was kept, so that this is read too.
 #[derive(Clone, Copy)]
 pub struct Put {
     pub word: &'static str,
+    /// The first argument, and the file that it is started on.
+    pub begin: &'static str,
+    pub letter: &'static str,
+    /// What is put when the first cell is replaced, and the answer then.
     pub new: &'static str,
-    pub answer: &'static str,
+    answer: &'static str,
+    /// Whether the page is saved by it.
     saves: bool,
     /// For how long a letter a file of 20,000 bytes or a little more is put.
     long: usize,
 }
 
-pub const SAVE: Put = Put { word: "save", new: NEW, answer: "status=0\ncount=3\n", saves: true, long: 20_000 };
-pub const KEEP: Put = Put { word: "keep", new: KEPT, answer: "status=0\ncount=173\n", saves: false, long: 2_000 };
+pub const SAVE: Put = Put {
+    word: "save",
+    begin: "utf7b",
+    letter: LETTER,
+    new: NEW,
+    answer: "status=0\ncount=3\n",
+    saves: true,
+    long: 20_000,
+};
+
+pub const KEEP: Put = Put {
+    word: "keep",
+    begin: "page",
+    letter: nights::OPENED,
+    new: KEPT,
+    answer: "status=0\ncount=173\n",
+    saves: false,
+    long: 2_000,
+};
 
 impl Put {
     /// The lines that replace the cell and put the new file under this name.
@@ -229,14 +251,15 @@ impl Put {
         format!("{TOLD}{}", self.answer)
     }
 
-    /// What it puts of a letter of "a" that was only opened.
-    fn of_letter(&self, letter: &str) -> Vec<u8> {
+    /// What it puts of a letter of plain bytes that was only opened; and what it is started on.
+    pub fn of_letter(&self, letter: &str) -> String {
         if self.saves {
-            return letter.as_bytes().to_vec();
+            return letter.to_string();
         }
         let page = Page::opened(Kind::Utf7Body, letter.len());
         let text = letter.bytes().map(u32::from).collect();
-        Content { page, arrived: letter.as_bytes().to_vec(), text, history: vec![] }.file()
+        let file = Content { page, arrived: letter.as_bytes().to_vec(), text, history: vec![] }.file();
+        String::from_utf8(file).expect("a page file")
     }
 }
 
@@ -245,7 +268,7 @@ pub const ENDED: &str = "desk: the input has ended, and the page is not saved\n"
 pub const TOLD: &str = "status=0\ncount=3\nstatus=0\ncount=3\n";
 const OPENED: &str = "status=0\ncount=3\n";
 
-/// A copy of desk that everybody may run, beside a letter that everybody may read.
+/// A copy of desk that everybody may run, beside a letter or a page file that everybody may read.
 pub struct Tried {
     pub place: Folder,
     pub program: PathBuf,
@@ -254,7 +277,7 @@ pub struct Tried {
 
 impl Tried {
     pub fn new(desk: &Desk, put: Put) -> Result<Tried, String> {
-        let place = Folder::new(&files(&[("letter", LETTER)], 0o644))?;
+        let place = Folder::new(&files(&[("letter", put.letter)], 0o644))?;
         let program = place.path.join("desk");
         // By another program: a file that this one has open to write cannot be run, and what it starts just then has
         // it open too.
@@ -292,7 +315,7 @@ impl Tried {
     /// Desk, as this user, in a folder.
     fn start(&self, saver: Saver, folder: &Path) -> Result<Session, String> {
         let mut command = Command::new(&self.program);
-        command.arg("utf7b").arg(self.place.path.join("letter")).current_dir(folder);
+        command.arg(self.put.begin).arg(self.place.path.join("letter")).current_dir(folder);
         if saver.user != ROOT.user {
             command.uid(saver.user).gid(saver.group);
         }
@@ -371,7 +394,7 @@ impl Tried {
             let lines = |more: &str| format!("{} f\n{more}", self.put.word);
             let written = fs::write(&path, "old").and_then(|()| fs::write(&filling, [0; 61_000]));
             written
-                .and_then(|()| fs::write(self.place.path.join("letter"), &letter))
+                .and_then(|()| fs::write(self.place.path.join("letter"), &file))
                 .map_err(|error| error.to_string())?;
             unix::chown(&path, Some(saver.user), Some(saver.group)).map_err(|error| error.to_string())?;
             let before = standing(&disk.path)?;
@@ -387,7 +410,7 @@ impl Tried {
             session.close();
             session.end()?;
             let saved = fs::read(&path).map_err(|error| error.to_string())?;
-            same_bytes("the file", &file, &saved)?;
+            same_bytes("the file", file.as_bytes(), &saved)?;
             count += 1;
         }
         Ok(count)

@@ -12,7 +12,7 @@ use std::time::Duration;
 
 use super::built::Desk;
 use super::folder::Folder;
-use super::harm::{Put, Tried, ENDED, KEEP, LETTER, SAVE, TOLD};
+use super::harm::{Put, Tried, ENDED, KEEP, SAVE, TOLD};
 use super::standing::{contents, same_standing, standing, Standing};
 use super::trace::{trace, Act, Call, FSYNC, OPENAT, READ, RENAME, UNLINK, WRITE};
 use crate::examples::desk::{files, words};
@@ -109,7 +109,8 @@ impl Saves {
 
     /// A folder with a letter, a file that a save might take for its own, and the file that is saved to.
     fn folder(&self, mode: Option<u32>) -> Result<Folder, String> {
-        let mut all = files(&[("letter", LETTER), ("f.new", "another's"), ("desk.new.aaaaaa", "another's")], 0o644);
+        let letter = self.put().letter;
+        let mut all = files(&[("letter", letter), ("f.new", "another's"), ("desk.new.aaaaaa", "another's")], 0o644);
         all.entries.extend(mode.into_iter().flat_map(|mode| files(&[("f", "old")], mode).entries));
         let folder = Folder::new(&all)?;
         // Where it can be, the file is of another group than new files are.
@@ -124,7 +125,7 @@ impl Saves {
         let [input_path, output, errors] = ["in", "out", "err"].map(|name| self.tried.place.path.join(name));
         fs::write(&input_path, input)?;
         let mut command = Command::new(&self.tried.program);
-        command.args(["utf7b", "letter"]).current_dir(&folder.path);
+        command.args([self.put().begin, "letter"]).current_dir(&folder.path);
         command.stdin(File::open(input_path)?).stdout(File::create(output)?).stderr(File::create(errors)?);
         Ok(command)
     }
@@ -176,7 +177,7 @@ impl Saves {
                 // All that is known of the old file is kept, but its text.
                 Some(line) => line.replace("\"old\"", &text),
                 None => expected["letter"]
-                    .replace("\"abc\"", &text)
+                    .replace(&contents(self.put().letter.as_bytes()), &text)
                     .replace(", 644 of", &format!(", {:o} of", self.new_mode())),
             };
             expected.insert("f".to_string(), line);
@@ -305,7 +306,7 @@ impl Saves {
         Ok(count)
     }
 
-    /// Saves of a long letter, again and again, until desk is killed.
+    /// Saves of a long letter, or keeps of its page, again and again, until desk is killed.
     fn killed_at_any_time(&self, seed: u64) -> Result<usize, Trouble> {
         let mut rng = Rng::new(seed, "desk kills");
         let word = self.put().word;
@@ -314,11 +315,11 @@ impl Saves {
             let [first, changed, back] = names.map(|name| format!("{word} {name}\n"));
             format!("{first}replace 0 1 58\n{changed}undo\n{back}")
         };
-        let texts = self.texts(&letter, &round(["1", "2", "3"]));
-        let first = String::from_utf8_lossy(&texts[0]).into_owned();
+        let first = self.put().of_letter(&letter);
+        let texts = self.texts(&first, &round(["1", "2", "3"]));
         let count = 40;
         for _ in 0..count {
-            let folder = Folder::new(&files(&[("letter", &letter), ("f", &first)], 0o600))?;
+            let folder = Folder::new(&files(&[("letter", &first), ("f", &first)], 0o600))?;
             let input = round(["f"; 3]).repeat(30);
             let mut command = self.command(&folder, &input).map_err(|error| error.to_string())?;
             let mut child = command.spawn().map_err(|error| error.to_string())?;
@@ -332,16 +333,16 @@ impl Saves {
             status.map_err(|error| format!("desk cannot be run again: {error}"))?;
             let [output, _] = self.written().map_err(|error| error.to_string())?;
             let told = format!("status=0\ncount=60000\nstatus=0\ncount={}\n", first.len());
-            if output != told.as_bytes() || fs::read(folder.path.join("f")).ok().as_ref() != Some(&texts[0]) {
+            if output != told.as_bytes() || fs::read_to_string(folder.path.join("f")).ok().as_ref() != Some(&first) {
                 return Err("the next save is not done".to_string().into());
             }
         }
         Ok(count)
     }
 
-    /// What the second program puts for these lines on this letter, in the order of the names.
+    /// What the second program puts for these lines on this letter or page file, in the order of the names.
     fn texts(&self, letter: &str, lines: &str) -> Vec<Vec<u8>> {
-        let arguments = words(&["utf7b", "letter"]);
+        let arguments = words(&[self.put().begin, "letter"]);
         let before = files(&[("letter", letter)], 0o600);
         let start = Start { arguments, files: before, umask: 0, input: lines.as_bytes().to_vec() };
         let found = second::run(&start).files.entries.into_iter().filter(|(path, _)| path != b"letter");

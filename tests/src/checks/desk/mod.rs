@@ -85,6 +85,7 @@ fn check_kind(report: &mut Report, kind: Kind, seed: u64) {
     let what = "scripts of which each line is written only when those before it are answered";
     report.check(&name("line-by-line"), what, |statuses| {
         let scripts = seeded::scripts(seed, kind, "line by line", 15).chain(limit::lines(kind));
+        let scripts = scripts.chain(nights::on_page_files(seed, kind, 4));
         try_in_turn(scripts, |script| desk.converse(script, false, statuses))
     });
     let what = "seeded scripts in which no half of a line is answered";
