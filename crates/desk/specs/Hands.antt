@@ -68,8 +68,8 @@ pub record Served (kind : Kind) (letter text history : List ℕ) (to : Desk) (ha
       taken (openOf kind letter text history) ≡ true →
       Worked letter (begun (openOf kind letter text history .state)) to hand
 
--- it works on the page of an accepted reading, with the letter that is given back, and does nothing to that of a refused
--- one
+-- it works on the page of an accepted reading, with the letter that is given back, and does nothing to that of a
+-- refused one; where a run of desk put the file, demand 3 goes on from there (resumed-keeps, proofs/Law.antt)
 pub record Resumed (file letter text history : List ℕ) (to : Desk) (hand : Hand) : Type 0 where
   pub refused :
       taken (readOf letter text history file) ≡ false → to ≡ begun (readOf letter text history file .state)

@@ -1,4 +1,4 @@
--- The desk keeps demand 3, from run to run of a page that is kept: its lines are a list of calls on its page. And a line
+-- The desk keeps demand 3, from run to run where a page is kept: its lines are a list of calls on its page. And a line
 -- leaves it only where the ledger calls the page saved, or the last command was a `quit` too. Assumes nothing.
 use Prim.Native.Nat.{ℕ}
 use mathlib.Core.Path.{_≡_, refl, sym, ap, _∙_, subst₂}
@@ -34,32 +34,38 @@ use Rattle.commands.specs.Lines.{saidIn}
 use Rattle.commands.specs.declared.Verb.{Verb}
 use Rattle.commands.specs.declared.Verb.the-variants.{Nothing, Show, Replace, Undo, Redo, Save, Quit}
 use Rattle.commands.specs.declared.Verb.the-variants.{Squeeze, Keep, Unknown}
-use Rattle.desk_lines.specs.Desk.{Desk, begun, free, leaving, Came, callIn, afterCall, afterLine, afterLines, withCall, callsIn}
+use Rattle.desk_lines.specs.Desk.{Desk, begun, free, leaving, Came, callIn, afterCall, afterLine, afterLines}
+use Rattle.desk_lines.specs.Desk.{withCall, callsIn}
 use Rattle.desk_lines.specs.Desk.{Turn, obeys, passes, waits, Turns, none-yet, then}
 use Rattle.desk_lines.specs.Runs.{Put, Reached, opens, works, resumes, Demand3}
 use Rattle.desk_lines.specs.Demand.{Keeps, Left}
 
 -- a line's call comes before those of the lines that follow
-call-first : (s : State) (call : Option Call) (calls : List Call) → after (afterCall call s) calls ≡ after s (withCall call calls)
+call-first :
+    (s : State) (call : Option Call) (calls : List Call) →
+    after (afterCall call s) calls ≡ after s (withCall call calls)
 call-first s none calls = refl
 call-first s (some call) calls = refl
 
 -- the page after a line is that after its call
-state-after : (letter : List ℕ) (d : Desk) (c : Came) → afterLine letter d c .state ≡ afterCall (callIn letter c) (d .state)
+state-after :
+    (letter : List ℕ) (d : Desk) (c : Came) → afterLine letter d c .state ≡ afterCall (callIn letter c) (d .state)
 unfolding afterLine callIn
 state-after letter d c = refl
 
 module _ (letter : List ℕ) where
   pub lines-call : (s : State) (lines : List Came) → afterLines letter s lines ≡ after s (callsIn letter lines)
   lines-call s [] = refl
-  lines-call s (c ∷ rest) = lines-call (afterCall (callIn letter c) s) rest ∙ call-first s (callIn letter c) (callsIn letter rest)
+  lines-call s (c ∷ rest) =
+      lines-call (afterCall (callIn letter c) s) rest ∙ call-first s (callIn letter c) (callsIn letter rest)
 
   -- the lines that some turns obeyed
   record Along (from to : State) : Type 0 where
     lines : List Came
     arrive : afterLines letter from lines ≡ to
 
-  lines-then : (s : State) (a b : List Came) → afterLines letter s (a ++ b) ≡ afterLines letter (afterLines letter s a) b
+  lines-then :
+      (s : State) (a b : List Came) → afterLines letter s (a ++ b) ≡ afterLines letter (afterLines letter s a) b
   lines-then s [] b = refl
   lines-then s (c ∷ a) b = lines-then (afterCall (callIn letter c) s) a b
 
