@@ -1,27 +1,39 @@
 -- The buffer of units on its way: what a run and each other kind of token lay into it. Assumes nothing.
-use Prim.Native.Nat.{ℕ, _+_, _-_, _*_, _/_, _%_, _<_, _≤_}
-use mathlib.Core.Path.{_≡_, refl, _∙_}
+use Prim.Native.Nat.{ℕ, zero, suc, _+_, _-_, _*_, _/_, _%_, _<_, _≤_}
+use mathlib.Core.Path.{_≡_, refl, sym, ap, _∙_}
 use mathlib.Core.Bool.{Bool, true, false, cond, false≢true}
-use mathlib.Core.List.{List, [], _∷_, _++_}
+use mathlib.Core.List.{List, [], _∷_, _++_, append-nil}
+use native.Mathlib.Nat.{add-zero}
 use native.Mathlib.Omega.{arith}
-use lib.ListN.{length, getD, take, set}
-use lib.Seq.{slice, length-slice, length-take-le, take-take, take-at}
+use lib.ListN.{length, getD, take, drop, set, length-append, length-take, replicate, List·getD-eq-default}
+use lib.Seq.{slice, length-slice, length-take-le, take-take, take-at, take-add, take-length, ext-getD, getD-set-other}
 use lib.Dec.{ltb, eqb, lit<}
-use borrow.Author.Tests.{eqb-true, lt-ltb, le-ltb}
-use Rattle.answer.proofs.Put.{head-at}
+use borrow.Author.Tests.{eqb-true, ltb-true, ltb-false, lt-ltb, le-ltb}
 use Rattle.answer.proofs.Laid.{Laid, laid-none, laid-one, laid-on, laid-front}
-use Rattle.answer.proofs.Below.{each-at}
 use Rattle.bits.specs.Bits.{leftOver}
 use Rattle.base64.specs.Letters.{valueOf, setB, slash}
-use Rattle.reading.specs.Reading.{give, reading}
-use Rattle.reading.proofs.Laws.{Left, left-cell, left-more}
-use Rattle.reading.proofs.Fronts.{Front, front-stride, front-place}
-use Rattle.utf7.specs.Sets.{direct}
-use Rattle.utf7.specs.Rule.{Shift, outside, run, mayEnd, byteDoes, utf7}
-use Rattle.utf7.specs.Writing.{IsUnit}
-use Rattle.utf7.proofs.Kept.{units-read}
-use Rattle.utf7_whole.specs.Quick.{Span, Ahead, Run, Values, One, Went, bitsIn, unitsIn, past, unitsOf, lows, stops}
-use Rattle.utf7_whole.proofs.Tokens.{span-stay, span-on, span-ahead, ahead-as, length-units, no-unit, units-split, units-front, known, Known, ends-even, ends-three, ends-six, three-run, one-unit, slice-rest, direct-stride, sign-stride, run-stride}
+use Rattle.reading.specs.Reading.{Reading, give, go, readFrom, reading}
+use Rattle.reading.proofs.Laws.{left-start, left-more, left-go}
+use Rattle.reading.proofs.Strides.{Stride, stride-give, left-stride}
+use Rattle.utf7.specs.Sets.{alphanumeric, setD, setO, direct}
+use Rattle.utf7.specs.Rule.{Shift, outside, mayEnd, byteDoes, utf7}
+use Rattle.utf7_whole.specs.Quick.{Padded, Filled, Span, Ahead, Run, Values, One, Went, bitsIn, unitsIn, past, unitsOf, lows, stops}
+use Rattle.utf7_whole.proofs.Tokens.{span-stay, span-on, span-ahead, ahead-as, length-units, no-unit, units-split, units-front, set-more, known, Known, ends-closed, closed-by, three-run, one-unit, slice-at, slice-rest, some-at, direct-stride, sign-stride, run-stride}
+
+-- a front that is all
+pub all-front : {xs ys : List ℕ} → length xs ≡ length ys → take (length ys) xs ≡ ys → xs ≡ ys
+all-front {xs} {ys} e h = sym (take-length xs) ∙ ap (λ (k : ℕ). take k xs) e ∙ h
+
+-- zeros
+pub zero-at : (n i : ℕ) → _≡_ {A = ℕ} (getD (replicate n 0) i 0) 0
+zero-at zero i = refl
+zero-at (suc n) zero = refl
+zero-at (suc n) (suc i) = zero-at n i
+
+-- what is laid has room
+pub laid-room : {cs a b : List ℕ} {n : ℕ} → Laid cs n a b → n ≤ length a → n + length cs ≤ length b
+laid-room {cs} {a} {b} {n} l h =
+    omega (arith, ap length (l .front), length-append (take n a) cs, length-take-le n a h, length-take (n + length cs) b)
 
 -- letters among 32 bytes, by their values
 ahead-letters : {s : List ℕ} {at m : ℕ} {xs : List ℕ} → Values s at xs → Ahead (λ k. ltb (getD xs k 0) 64) 32 m → Ahead (λ k. setB slash (getD s (at + k) 0)) 32 m
@@ -107,18 +119,10 @@ module _ {s : List ℕ} {from start : ℕ} {out₀ : List ℕ} {at n : ℕ} {out
           let e : at + (m - 1) ≡ at + m - 1 = omega arith in
           rw e at (v .so (m - 1) (omega (arith, p .upto)))
 
-      ends-by-tests :
-          from < at + m → (a b c : Bool) → eqb (m % 8) 0 ≡ a → eqb (m % 8) 3 ≡ b → eqb (m % 8) 6 ≡ c →
-          cond a true (cond b (eqb (getD xs (m - 1) 0 % 4) 0) (cond c (eqb (getD xs (m - 1) 0 % 16) 0) false)) ≡ true →
-          mayEnd (leftOver 16 (bitsIn s from (at + m))) ≡ true
-      ends-by-tests r true b c ea eb ec e = ends-even letters-on r (omega (arith, eqb-true (m % 8) 0 ea, g .eights, g .letters .ordered))
-      ends-by-tests r false true c ea eb ec e =
-          let q = eqb-true (m % 8) 3 eb in
-          ends-three letters-on r (omega (arith, q, g .eights, g .letters .ordered)) (rw (final-at (omega (arith, q))) at (eqb-true (getD xs (m - 1) 0 % 4) 0 e))
-      ends-by-tests r false false true ea eb ec e =
-          let q = eqb-true (m % 8) 6 ec in
-          ends-six letters-on r (omega (arith, q, g .eights, g .letters .ordered)) (rw (final-at (omega (arith, q))) at (eqb-true (getD xs (m - 1) 0 % 16) 0 e))
-      ends-by-tests r false false false ea eb ec e = absurd (false≢true e)
+      ends-on : from < at + m → stops xs m ≡ true → mayEnd (leftOver 16 (bitsIn s from (at + m))) ≡ true
+      ends-on r e =
+          let q : (at + m - from) % 8 ≡ m % 8 = omega (arith, g .eights, g .letters .ordered) in
+          ends-closed letters-on r (closed-by _ m _ _ q (λ z. final-at (omega (arith, z))) e)
 
       pub going-went : m < 32 → stops xs m ≡ true → Went s from start out₀ out' (at + m) (n + m * 6 / 16)
       going-went z e =
@@ -129,9 +133,8 @@ module _ {s : List ℕ} {from start : ℕ} {out₀ : List ℕ} {at n : ℕ} {out
                 record {
                   some = r;
                   letters = letters-on;
-                  inside = omega arith;
                   over = ahead-letters v p .over z;
-                  ends = ends-by-tests r (eqb (m % 8) 0) (eqb (m % 8) 3) (eqb (m % 8) 6) refl refl refl e;
+                  ends = ends-on r e;
                 };
             laid = λ f. laid-letters;
             count = λ f. rw size-on count-on;
@@ -173,29 +176,134 @@ module _ (s : List ℕ) (from at to : ℕ) (h : from ≤ at) (k : at ≤ to) (l 
       let w : length (slice from at s) ≤ length (slice from to s) = omega (arith, length-slice from at s (omega arith), length-slice from to s l) in
       rw e at (laid-front (length (slice from at s)) p q w)
 
--- a buffer with the cells so far: what each kind of token adds
-module _ {s : List ℕ} {at n : ℕ} {a : List ℕ} (f : Front utf7 s at outside n a) where
-  pub front-direct : (k : ℕ) {b : List ℕ} → Span direct s at (at + k) → Laid (slice at (at + k) s) n a b → Front utf7 s (at + k) outside (n + k) b
-  front-direct k p l =
-      let e : length (slice at (at + k) s) ≡ k = length-slice at (at + k) s (p .within) ∙ omega arith in
-      rw e at (front-stride f (direct-stride p) l)
+-- a room of zeros that has the first k bytes of a text
+pub record Padding (s : List ℕ) (k : ℕ) (room : List ℕ) : Type 0 where
+  pub upto : (i : ℕ) → i < k → getD room i 0 ≡ getD s i 0
+  pub behind : (i : ℕ) → k ≤ i → getD room i 0 ≡ 0
 
-  pub front-sign : at + 1 < length s → getD s at 0 ≡ 43 → getD s (at + 1) 0 ≡ 45 → Front utf7 s (at + 2) outside (n + 1) (set a n 43)
-  front-sign h e g = front-stride f (sign-stride h e g) (laid-one n 43 a (front-place f (omega arith)))
+pub padding-start : (s room : List ℕ) → ((i : ℕ) → getD room i 0 ≡ 0) → Padding s 0 room
+padding-start s room z = record { upto = λ i h. absurd (omega arith); behind = λ i h. z i }
 
-  pub front-run :
-      {to m : ℕ} {b : List ℕ} → getD s at 0 ≡ 43 → Run s (at + 1) to → Laid (unitsIn s (at + 1) to) n a b → m ≡ n + length (unitsIn s (at + 1) to) →
-      Front utf7 s (past s to) outside m b
-  front-run e r l q = rw q (front-stride f (run-stride e r) l)
+pub padding-more : {s room : List ℕ} {k : ℕ} → Padding s k room → k < length room → Padding s (k + 1) (set room k (getD s k 0))
+padding-more {s} {room} {k} p h =
+    record {
+      upto = set-more room k (getD s k 0) (λ i x. x ≡ getD s i 0) h (p .upto) refl;
+      behind = λ i l. getD-set-other room k i (getD s k 0) 0 (λ e. omega arith) ∙ p .behind i (omega arith);
+    }
 
-  pub front-one :
-      {xs : List ℕ} → getD s at 0 ≡ 43 → at + 1 + 32 ≤ length s → Values s (at + 1) xs → One xs →
-      Front utf7 s (past s (at + 1 + 3)) outside (n + 1) (set a n ((getD xs 0 0 * 64 + getD xs 1 0) * 16 + getD xs 2 0 / 4))
-  front-one {xs} e h v o =
-      front-run e (one-run h v o) (rw (one-units h v o) (laid-one n _ a (front-place f (omega arith)))) (rw (one-units h v o))
+pub padding-done : {s room : List ℕ} {k : ℕ} → Padding s k room → k ≡ length s → Padded s room
+padding-done {s} {room} {k} p e = record { same = λ i. by i (ltb i k) refl }
+  where
+    by : (i : ℕ) (t : Bool) → ltb i k ≡ t → getD room i 0 ≡ getD s i 0
+    by i true q = p .upto i (ltb-true i k q)
+    by i false q = p .behind i (ltb-false i k q) ∙ sym (List·getD-eq-default s 0 (omega (arith, ltb-false i k q)))
 
--- a cell is a unit
-pub cell-unit : {s : List ℕ} {at n v : ℕ} {st st' : Shift} → Left utf7 s at st n → at < length s → byteDoes st (getD s at 0) ≡ give v st' → IsUnit v
-cell-unit {s} {at} {n} {v} l h e =
-    let cs = reading utf7 s .cells in
-    rw (head-at cs _ n v 0 (left-cell l h e)) at (each-at IsUnit cs n (units-read s) (left-more l h e))
+pub padded-self : (s : List ℕ) → Padded s s
+padded-self s = record { same = λ i. refl }
+
+-- what stands in a text that is lent with zeros behind it stands in the text
+zero-direct : direct 0 ≡ false
+unfolding direct setD setO alphanumeric
+zero-direct = refl
+
+pub zero-letter : setB slash 0 ≡ false
+unfolding setB valueOf
+zero-letter = refl
+
+module _ {s room : List ℕ} (p : Padded s room) where
+  -- bytes of a set that has no 0
+  span-padded : (set : ℕ → Bool) {from to : ℕ} → set 0 ≡ false → Span set room from to → from ≤ length s → Span set s from to
+  span-padded set {from} {to} z q h =
+      record { ordered = q .ordered; within = by (ltb (length s) to) refl; each = λ i l m. rw (p .same i) at (q .each i l m) }
+    where
+      by : (t : Bool) → ltb (length s) to ≡ t → to ≤ length s
+      by true e =
+          let b = q .each (length s) h (ltb-true (length s) to e) in
+          let d : getD room (length s) 0 ≡ 0 = p .same (length s) ∙ List·getD-eq-default s 0 (omega arith) in
+          absurd (false≢true (sym z ∙ rw d at b))
+      by false e = ltb-false (length s) to e
+
+  slice-padded : (from to : ℕ) → to ≤ length s → to ≤ length room → slice from to room ≡ slice from to s
+  slice-padded from to h k =
+      ext-getD 0 _ _ (length-slice from to room k ∙ sym (length-slice from to s h))
+      (λ i l.
+      let m : from + i < to = omega (arith, length-slice from to room k) in
+      slice-at room from to i m ∙ p .same (from + i) ∙ sym (slice-at s from to i m))
+
+  run-padded : {from to : ℕ} → Run room from to → from ≤ length s → Run s from to
+  run-padded {from} {to} r h =
+      let q = span-padded (setB slash) zero-letter (r .letters) h in
+      record {
+        some = r .some;
+        letters = q;
+        over = rw (p .same to) at (r .over);
+        ends = rw (slice-padded from to (q .within) (r .letters .within)) at (r .ends);
+      }
+
+-- a buffer with the cells so far: what is laid behind them
+module _ {s : List ℕ} {at : ℕ} {st : Shift} {n : ℕ} {a : List ℕ} (f : Filled s at st n a) where
+  filled-stride : {to : ℕ} {cs : List ℕ} {st' : Shift} {b : List ℕ} → Stride utf7 s at st to cs st' → Laid cs n a b → Filled s to st' (n + length cs) b
+  filled-stride {to} {cs} {st'} q l =
+      let c = f .left .cells ∙ ap (λ (x : Reading). x .cells) (q .same) in
+      record {
+        left = left-stride q (f .left);
+        front =
+            l .front
+            ∙ rw (f .front, take-add n (length cs) (reading utf7 s .cells), c, take-at cs (readFrom utf7 (drop to s) to st' .cells) (length cs) refl);
+      }
+
+  -- places further on are written
+  pub filled-kept : {b : List ℕ} → Laid [] n a b → Filled s at st n b
+  filled-kept l = record { left = f .left; front = rw (add-zero, append-nil) at (l .front) ∙ f .front }
+
+  pub filled-done : n ≡ length (reading utf7 s .cells) → take (length (reading utf7 s .cells)) a ≡ reading utf7 s .cells
+  filled-done e = ap (λ (k : ℕ). take k a) (sym e) ∙ f .front ∙ rw (e, take-length (reading utf7 s .cells))
+
+  pub filled-as : {to m : ℕ} → at ≡ to → n ≡ m → Filled s to st m a
+  filled-as e q = rw (← e, ← q) f
+
+  -- a byte
+  module _ (h : at < length s) where
+    pub filled-place : {v : ℕ} {st' : Shift} → byteDoes st (getD s at 0) ≡ give v st' → length (reading utf7 s .cells) ≤ length a → n < length a
+    filled-place e k = omega (arith, left-more (f .left) h e)
+
+    pub filled-give : {v : ℕ} {st' : Shift} → byteDoes st (getD s at 0) ≡ give v st' → n < length a → Filled s (at + 1) st' (n + 1) (set a n v)
+    filled-give {v} e k = filled-stride (stride-give h e) (laid-one n v a k)
+
+    pub filled-go : {st' : Shift} → byteDoes st (getD s at 0) ≡ go st' → Filled s (at + 1) st' n a
+    filled-go e = record { left = left-go (f .left) h e; front = f .front }
+
+-- what each kind of token adds
+module _ {s : List ℕ} {at n : ℕ} {a : List ℕ} (f : Filled s at outside n a) {room : List ℕ} (p : Padded s room) where
+  pub filled-direct : (k : ℕ) {b : List ℕ} → Span direct room at (at + k) → Laid (slice at (at + k) room) n a b → Filled s (at + k) outside (n + k) b
+  filled-direct k q l =
+      let d = span-padded p direct zero-direct q (f .left .within) in
+      let e : length (slice at (at + k) s) ≡ k = length-slice at (at + k) s (d .within) ∙ omega arith in
+      rw e at (filled-stride f (direct-stride d) (rw (slice-padded p at (at + k) (d .within) (q .within)) at l))
+
+  module _ (sign : getD room at 0 ≡ 43) where
+    sign-here : getD s at 0 ≡ 43
+    sign-here = rw (p .same at) at sign
+
+    pub filled-sign : n < length a → getD room (at + 1) 0 ≡ 45 → Filled s (at + 2) outside (n + 1) (set a n 43)
+    filled-sign h g =
+        let e : getD s (at + 1) 0 ≡ 45 = rw (p .same (at + 1)) at g in
+        filled-stride f (sign-stride (some-at s (at + 1) (omega arith)) sign-here e) (laid-one n 43 a h)
+
+    pub filled-run :
+        {to m : ℕ} {b : List ℕ} → Run room (at + 1) to → Laid (unitsIn room (at + 1) to) n a b → m ≡ n + length (unitsIn room (at + 1) to) →
+        Filled s (past room to) outside m b
+    filled-run {to} r l q =
+        let h : at < length s = some-at s at (omega (arith, sign-here)) in
+        let d = run-padded p r (omega arith) in
+        let e = slice-padded p (at + 1) to (d .letters .within) (r .letters .within) in
+        rw (q, e, p .same to) (filled-stride f (run-stride sign-here d) (rw e at l))
+
+    pub filled-one :
+        {xs : List ℕ} → n < length a → at + 1 + 32 ≤ length room → Values room (at + 1) xs → One xs →
+        Filled s (past room (at + 1 + 3)) outside (n + 1) (set a n ((getD xs 0 0 * 64 + getD xs 1 0) * 16 + getD xs 2 0 / 4))
+    filled-one {xs} g h v o =
+        filled-run (one-run h v o) (rw (one-units h v o) (laid-one n _ a g)) (rw (one-units h v o))
+
+pub filled-start : (s a : List ℕ) → Filled s 0 outside 0 a
+filled-start s a = record { left = left-start utf7 s; front = refl }

@@ -1,12 +1,12 @@
 -- What whole stretches and runs read as, and the bits of runs. Assumes nothing.
 use Prim.Native.Nat.{ℕ, zero, suc, _+_, _-_, _*_, _/_, _%_, _^_, _<_, _≤_}
 use mathlib.Core.Path.{_≡_, refl, sym, ap, _∙_}
-use mathlib.Core.Bool.{Bool, true, false, cond, _&&_, _||_, not}
+use mathlib.Core.Bool.{Bool, true, false, cond, _&&_, _||_, not, false≢true}
 use mathlib.Core.List.{List, [], _∷_, _++_, append-assoc, append-nil, map}
 use native.Mathlib.Omega.{arith}
 use native.Mathlib.Nat.{mod-eq-of-lt}
 use native.Mathlib.Numerals.{add-one}
-use lib.ListN.{length, getD, take, drop, set, length-append, length-map, take-append-drop}
+use lib.ListN.{length, getD, take, drop, set, length-append, length-map, take-append-drop, drop-of-length-le, List·getD-eq-default}
 use lib.Seq.{slice, slice-cons, length-slice, take-suc, getD-take, getD-drop, drop-cons, drop-append-add, drop-append-le, length-take-le, getD-set-same, getD-set-other}
 use lib.Pow.{pow-pos}
 use lib.Dec.{leb, ltb, eqb, lit<}
@@ -21,11 +21,11 @@ use Rattle.reading.specs.Reading.{go, readFrom}
 use Rattle.reading.proofs.Walk.{Walk, stay, gives}
 use Rattle.reading.proofs.Strides.{Stride, stride-go, stride-on, stride-as, stride-to, stride-walk}
 use Rattle.utf7.specs.Sets.{alphanumeric, setD, setO, direct}
-use Rattle.utf7.specs.Rule.{outside, run, mayEnd, endDoes, lowDoes, byteDoes, utf7}
+use Rattle.utf7.specs.Rule.{outside, run, mayEnd, endDoes, lowDoes, byteDoes, endsIn, utf7}
 use Rattle.utf7.specs.Writing.{sign, spell}
 use Rattle.utf7.specs.declared.Style.the-variants.{Body}
 use Rattle.utf7.proofs.Round.{whole-run, self-walk, close-run, piece-walk}
-use Rattle.utf7_whole.specs.Quick.{Span, Ahead, Run, Values, bitsIn, unitsIn, past, firstOf, secondOf, thirdOf, threeOf, unitsOf, lows}
+use Rattle.utf7_whole.specs.Quick.{Span, Ahead, Run, Values, bitsIn, unitsIn, closes, past, firstOf, secondOf, thirdOf, threeOf, unitsOf, lows}
 use Rattle.utf7_read.proofs.Moves.{may-end}
 
 -- the rule of the letters, one kind after another, by computing it
@@ -103,6 +103,9 @@ module _ {set : ℕ → Bool} {s : List ℕ} where
       at i l m true e = p .each i l (ltb-true i b e)
       at i l m false e = q .each i (ltb-false i b e) m
 
+  pub span-to-as : {from to end : ℕ} → Span set s from to → to ≡ end → Span set s from end
+  span-to-as p e = rw (← e) p
+
   -- its parts
   pub span-to : {from to : ℕ} (at : ℕ) → Span set s from to → from ≤ at → at ≤ to → Span set s from at
   span-to at p h k = record { ordered = h; within = omega (arith, p .within); each = λ i l m. p .each i l (omega arith) }
@@ -164,23 +167,44 @@ ended : (b : ℕ) (f : List Bool) → setB slash b ≡ false → eqb b 45 ≡ fa
 unfolding byteDoes lowDoes endDoes
 ended b f o n m = rw (o, m, n)
 
+-- a byte that is not 0 stands in the text
+pub some-at : (s : List ℕ) (i : ℕ) → 0 < getD s i 0 → i < length s
+some-at s i h = by (ltb i (length s)) refl
+  where
+    by : (t : Bool) → ltb i (length s) ≡ t → i < length s
+    by true e = ltb-true i (length s) e
+    by false e = absurd (omega (arith, List·getD-eq-default s 0 (ltb-false i (length s) e)))
+
+-- a run that may end reads as the outside does, by the byte that ends it or at the text's end
+ended-at :
+    (s : List ℕ) (to : ℕ) (f : List Bool) → setB slash (getD s to 0) ≡ false → eqb (getD s to 0) 45 ≡ false → mayEnd f ≡ true → (t : Bool) →
+    ltb to (length s) ≡ t → readFrom utf7 (drop to s) to (run f) ≡ readFrom utf7 (drop to s) to outside
+unfolding readFrom endsIn
+ended-at s to f o n m true l = rw (at-cons s to (ltb-true to (length s) l), ended (getD s to 0) f o n m)
+ended-at s to f o n m false l = rw (drop-of-length-le s (ltb-false to (length s) l), m)
+
+-- the bits that a run's letters leave over
+abbrev leftIn : List ℕ → ℕ → ℕ → List Bool
+leftIn s from to = leftOver 16 (bitsIn s from to)
+
 -- a run: its letters, and what stands behind them
 module _ {s : List ℕ} {at to : ℕ} (sign : getD s at 0 ≡ 43) (r : Run s (at + 1) to) where
-  letters-stride : Stride utf7 s at outside to (unitsIn s (at + 1) to) (run (leftOver 16 (bitsIn s (at + 1) to)))
+  letters-stride : Stride utf7 s at outside to (unitsIn s (at + 1) to) (run (leftIn s (at + 1) to))
   letters-stride =
       let ls = slice (at + 1) to s in
-      let n : length ls ≡ to - (at + 1) = length-slice (at + 1) to s (omega (arith, r .inside)) in
+      let w = r .letters .within in
+      let n : length ls ≡ to - (at + 1) = length-slice (at + 1) to s w in
       let d : drop at s ≡ 43 ∷ (ls ++ drop to s) =
-      at-cons s at (omega (arith, r .some, r .inside)) ∙ rw (sign, slice-rest s (at + 1) to (omega (arith, r .some)) (omega (arith, r .inside))) in
-      stride-to (stride-walk (drop to s) (whole-run ls (omega (arith, r .some)) (span-each (r .letters))) d (omega (arith, r .some, r .inside)))
+      at-cons s at (omega (arith, r .some, w)) ∙ rw (sign, slice-rest s (at + 1) to (omega (arith, r .some)) w) in
+      stride-to (stride-walk (drop to s) (whole-run ls (omega (arith, r .some)) (span-each (r .letters))) d (omega (arith, r .some, w)))
       (omega (arith, r .some))
 
   ends-at : (t : Bool) → eqb (getD s to 0) 45 ≡ t → Stride utf7 s at outside (cond t (to + 1) to) (unitsIn s (at + 1) to) outside
-  unfolding readFrom
   ends-at true e =
-      let c : byteDoes (run (leftOver 16 (bitsIn s (at + 1) to))) (getD s to 0) ≡ go outside = rw (eqb-true (getD s to 0) 45 e) (close-run _ (r .ends)) in
-      rw append-nil at (stride-on letters-stride (stride-go (r .inside) c))
-  ends-at false e = stride-as letters-stride (rw (at-cons s to (r .inside), ended (getD s to 0) (leftOver 16 (bitsIn s (at + 1) to)) (r .over) e (r .ends)))
+      let q = eqb-true (getD s to 0) 45 e in
+      let c : byteDoes (run (leftIn s (at + 1) to)) (getD s to 0) ≡ go outside = rw q (close-run _ (r .ends)) in
+      rw append-nil at (stride-on letters-stride (stride-go (some-at s to (omega arith)) c))
+  ends-at false e = stride-as letters-stride (ended-at s to _ (r .over) e (r .ends) (ltb to (length s)) refl)
 
   pub run-stride : Stride utf7 s at outside (past s to) (unitsIn s (at + 1) to) outside
   run-stride = ends-at (eqb (getD s to 0) 45) refl
@@ -368,6 +392,27 @@ module _ {s : List ℕ} {from to : ℕ} (p : Span (setB slash) s from to) (some 
   pub ends-six : (to - from) % 8 ≡ 6 → final % 16 ≡ 0 → mayEnd (leftOver 16 (bitsIn s from to)) ≡ true
   ends-six h z = ends-by 2 4 refl (lit< tt) (left-four (to - from) ((to - from) / 8) (omega arith)) z
 
+  pub ends-closed : closes (to - from) final ≡ true → mayEnd (leftOver 16 (bitsIn s from to)) ≡ true
+  ends-closed e = by (eqb ((to - from) % 8) 0) (eqb ((to - from) % 8) 3) (eqb ((to - from) % 8) 6) refl refl refl e
+    where
+      by :
+          (a b c : Bool) → eqb ((to - from) % 8) 0 ≡ a → eqb ((to - from) % 8) 3 ≡ b → eqb ((to - from) % 8) 6 ≡ c →
+          cond a true (cond b (eqb (final % 4) 0) (cond c (eqb (final % 16) 0) false)) ≡ true → mayEnd (leftOver 16 (bitsIn s from to)) ≡ true
+      by true b c ea eb ec e = ends-even (eqb-true _ 0 ea)
+      by false true c ea eb ec e = ends-three (eqb-true _ 3 eb) (eqb-true _ 0 e)
+      by false false true ea eb ec e = ends-six (eqb-true _ 6 ec) (eqb-true _ 0 e)
+      by false false false ea eb ec e = absurd (false≢true e)
+
+-- only what stands behind the last eight counts, and the last letter where something does
+pub closed-by : (l m v w : ℕ) → l % 8 ≡ m % 8 → (0 < m % 8 → w ≡ v) → closes m w ≡ true → closes l v ≡ true
+closed-by l m v w e f h = by (eqb (m % 8) 0) refl
+  where
+    by : (a : Bool) → eqb (m % 8) 0 ≡ a → closes l v ≡ true
+    by true a = rw (e, a)
+    by false a =
+        let q : w ≡ v = f (omega (arith, eqb-false (m % 8) 0 a)) in
+        rw (e, ← q) h
+
 -- three letters, and a byte that is none
 pub three-run :
     (s : List ℕ) (from : ℕ) → from + 3 < length s → setB slash (getD s from 0) ≡ true → setB slash (getD s (from + 1) 0) ≡ true →
@@ -381,7 +426,6 @@ three-run s from h a b c o z =
     record {
       some = omega arith;
       letters = q;
-      inside = h;
       over = o;
       ends = ends-three q (omega arith) (omega arith) (rw last z);
     }

@@ -3,13 +3,24 @@ use Prim.Native.Nat.{ℕ, zero, suc, _+_, _-_, _*_, _/_, _%_, _<_, _≤_}
 use mathlib.Core.Path.{_≡_}
 use mathlib.Core.Bool.{Bool, true, false, cond}
 use mathlib.Core.List.{List, [], _∷_, _++_, map}
-use lib.ListN.{length, getD}
+use lib.ListN.{length, getD, take}
 use lib.Seq.{slice}
 use lib.Dec.{eqb}
 use Rattle.answer.specs.Inner.{Laid}
 use Rattle.bits.specs.Bits.{bitsOf, full, leftOver}
 use Rattle.base64.specs.Letters.{valueOf, setB, slash}
-use Rattle.utf7.specs.Rule.{mayEnd}
+use Rattle.reading.specs.Reading.{reading}
+use Rattle.reading.specs.Inner.{Left}
+use Rattle.utf7.specs.Rule.{Shift, mayEnd, utf7}
+
+-- a text with zeros behind it, or none
+pub record Padded (s room : List ℕ) : Type 0 where
+  pub same : (i : ℕ) → getD room i 0 ≡ getD s i 0
+
+-- the first n places of a buffer hold the cells so far
+pub record Filled (s : List ℕ) (at : ℕ) (st : Shift) (n : ℕ) (buf : List ℕ) : Type 0 where
+  pub left : Left utf7 s at st n
+  pub front : take n buf ≡ take n (reading utf7 s .cells)
 
 -- the bytes from one place to another are all of a set
 pub record Span (set : ℕ → Bool) (s : List ℕ) (from to : ℕ) : Type 0 where
@@ -23,6 +34,11 @@ pub record Ahead (test : ℕ → Bool) (k m : ℕ) : Type 0 where
   pub each : (j : ℕ) → j < k → j < m → test j ≡ true
   pub over : m < 32 → test m ≡ false
 
+-- letters up to a place that has none, or the text's end
+pub record Letters (s : List ℕ) (from to : ℕ) : Type 0 where
+  pub letters : Span (setB slash) s from to
+  pub over : setB slash (getD s to 0) ≡ false
+
 -- the bits of letters, and the units in them
 abbrev pub bitsIn : List ℕ → ℕ → ℕ → List Bool
 bitsIn s from to = bitsOf 6 (map (valueOf slash) (slice from to s))
@@ -30,11 +46,10 @@ bitsIn s from to = bitsOf 6 (map (valueOf slash) (slice from to s))
 abbrev pub unitsIn : List ℕ → ℕ → ℕ → List ℕ
 unitsIn s from to = full 16 (bitsIn s from to)
 
--- letters that another byte ends, and may end
+-- letters that another byte ends, or the text's end, and that may end
 pub record Run (s : List ℕ) (from to : ℕ) : Type 0 where
   pub some : from < to
   pub letters : Span (setB slash) s from to
-  pub inside : to < length s
   pub over : setB slash (getD s to 0) ≡ false
   pub ends : mayEnd (leftOver 16 (bitsIn s from to)) ≡ true
 
@@ -75,11 +90,15 @@ unitsOf (suc m) x = threeOf x ++ unitsOf m (λ k. x (8 + k))
 abbrev pub lows : List ℕ → ℕ → ℕ
 lows xs k = getD xs k 0 % 64
 
--- letters may end where c of 32 values do, which follow eights: by how many stand behind the last eight, and by the last
+-- so many letters may end, the last of which has the value v: by how many stand behind the last eight, and by the last
+abbrev pub closes : ℕ → ℕ → Bool
+closes letters v =
+    cond (eqb (letters % 8) 0) true
+    (cond (eqb (letters % 8) 3) (eqb (v % 4) 0) (cond (eqb (letters % 8) 6) (eqb (v % 16) 0) false))
+
+-- and c of 32 values, which follow eights
 abbrev pub stops : List ℕ → ℕ → Bool
-stops xs c =
-    cond (eqb (c % 8) 0) true
-    (cond (eqb (c % 8) 3) (eqb (getD xs (c - 1) 0 % 4) 0) (cond (eqb (c % 8) 6) (eqb (getD xs (c - 1) 0 % 16) 0) false))
+stops xs c = closes c (getD xs (c - 1) 0)
 
 -- a run was read, unless the place is still that of its first letter: it may end there, and its units are laid
 pub record Went (s : List ℕ) (from start : ℕ) (out out' : List ℕ) (at n : ℕ) : Type 0 where

@@ -1,18 +1,20 @@
-// Whole texts, a stretch or a run at a time: the loops of this file go over what most texts are made of, and stop at anything else and before
-// the last bytes. The loop that goes byte by byte, which names every fault, reads on from there. Loops have a fixed length and tests of bytes
-// are eager, so that they compile to no branch; a block is written whole, and what lies behind its cells is written over by the next ones.
+// Whole texts, a stretch or a run at a time: the loops of this file go over what texts are made of, and stop at anything else and 73 bytes
+// before the end. A text is lent with zeros behind it, which are no byte of any set, so that they reach its end. The loop that goes byte by
+// byte, which names every fault, reads on from there. Loops have a fixed length and tests of bytes are eager, so that they compile to no
+// branch; a block is written whole, and what lies behind its cells is written over by the next ones.
 ghost use mathlib.Core.Path.{_≡_};
 ghost use mathlib.Core.Bool.{true, cond, _&&_};
-ghost use Prim.Native.Nat.{_<_, _≤_, _+_, _-_, _*_, _/_, _%_};
+ghost use mathlib.Core.List.{List};
+ghost use Prim.Native.Nat.{ℕ, _<_, _≤_, _+_, _-_, _*_, _/_, _%_};
 ghost use lib.ListN.{length, getD};
 ghost use lib.Seq.{slice};
 ghost use lib.Dec.{leb, ltb};
 ghost use Rattle.answer.specs.Inner.{Laid};
-ghost use Rattle.base64.specs.Letters.{valueOf, slash};
-ghost use Rattle.reading.specs.Inner.{Front};
+ghost use Rattle.base64.specs.Letters.{valueOf, setB, slash};
+ghost use Rattle.reading.specs.Inner.{Left};
 ghost use Rattle.utf7.specs.Sets.{direct};
 ghost use Rattle.utf7.specs.Rule.{outside, utf7};
-ghost use Rattle.utf7_whole.specs.Quick.{Span, Ahead, Values, One, Went, threeOf, unitsOf, lows, stops, past};
+ghost use Rattle.utf7_whole.specs.Quick.{Padded, Filled, Span, Ahead, Letters, Run, Values, One, Went, threeOf, unitsOf, lows, closes, stops, past};
 
 // Where a loop stopped: outside a run, after n cells.
 pub struct Reached {
@@ -103,35 +105,35 @@ fn is_one(x: [u8; 32]) -> bool
     (x[0] < 64) & (x[1] < 64) & (x[2] < 64) & (63 < x[3]) & (x[2] % 4 == 0)
 }
 
-fn wide(x: u8) -> u16
+fn wide(x: u8) -> u32
     ensures { λ r. ⌜ r ≡ x ⌝ }
 {
-    x as u16
+    x as u32
 }
 
 // A letter's value. A byte that is none, whose value is 64, gets another, so that no sum of the units wraps.
-fn low(x: u8) -> u16
+fn low(x: u8) -> u32
     ensures { λ r. ⌜ r ≡ x % 64 ⌝ }
 {
-    (x % 64) as u16
+    (x % 64) as u32
 }
 
 // The three units of eight letters: each from the values of those that hold its bits.
-fn first(a: u16, b: u16, c: u16) -> u16
+fn first(a: u32, b: u32, c: u32) -> u32
     requires { ⌜ (a < 64) × (b < 64) × (c < 64) ⌝ }
     ensures { λ r. ⌜ r ≡ (a * 64 + b) * 16 + c / 4 ⌝ }
 {
     (a * 64 + b) * 16 + c / 4
 }
 
-fn second(c: u16, d: u16, e: u16, f: u16) -> u16
+fn second(c: u32, d: u32, e: u32, f: u32) -> u32
     requires { ⌜ (d < 64) × (e < 64) × (f < 64) ⌝ }
     ensures { λ r. ⌜ r ≡ ((c % 4 * 64 + d) * 64 + e) * 4 + f / 16 ⌝ }
 {
     ((c % 4 * 64 + d) * 64 + e) * 4 + f / 16
 }
 
-fn third(f: u16, g: u16, h: u16) -> u16
+fn third(f: u32, g: u32, h: u32) -> u32
     requires { ⌜ (g < 64) × (h < 64) ⌝ }
     ensures { λ r. ⌜ r ≡ (f % 16 * 64 + g) * 64 + h ⌝ }
 {
@@ -139,7 +141,7 @@ fn third(f: u16, g: u16, h: u16) -> u16
 }
 
 // The units of eight values go to the output from n on, those of the letters among them first.
-fn put_three(x: [u8; 32], j: usize, out: &mut [u16], n: usize)
+fn put_three(x: [u8; 32], j: usize, out: &mut [u32], n: usize)
     requires { ⌜ (j + 8 ≤ 32) × (n + 3 ≤ length (now out)) ⌝ }
     ensures { λ _. ⌜ Laid (threeOf (λ k. lows x (j + k))) n (now (out .entry)) (now (out .exit)) ⌝ }
 {
@@ -150,7 +152,7 @@ fn put_three(x: [u8; 32], j: usize, out: &mut [u16], n: usize)
     out[n + 2] = third(f, low(x[j + 6]), low(x[j + 7]));
 }
 
-fn put_twelve(x: [u8; 32], out: &mut [u16], n: usize)
+fn put_twelve(x: [u8; 32], out: &mut [u32], n: usize)
     requires { ⌜ n + 12 ≤ length (now out) ⌝ }
     ensures { λ _. ⌜ Laid (unitsOf 4 (lows x)) n (now (out .entry)) (now (out .exit)) ⌝ }
 {
@@ -187,24 +189,29 @@ fn units(letters: usize) -> usize
 
 // The place behind a run: "- is then absorbed".
 fn past_run(text: &[u8], to: usize) -> usize
-    requires { ⌜ to < length (now text) ⌝ }
     ensures { λ r. ⌜ r ≡ past (now (text .entry)) to ⌝ }
 {
+    if text.len() <= to {
+        return to;
+    }
     if text[to] == b'-' {
         return to + 1;
     }
     to
 }
 
-// The units of a run go to the output from its start on: where its letters end, and the place behind its units. Where the run may not end so, or
-// the text's end is near: the place where it began.
-fn put_run(text: &[u8], from: usize, out: &mut [u16], start: usize) -> Reached
-    requires { ⌜ (start ≤ from) × (from ≤ length (now text)) × (length (now text) ≤ length (now out)) ⌝ }
+// The units of a run go to the output from its start on: where its letters end, and the place behind its units. Where the run may not end so,
+// or the text's end or the output's is near: the place where it began.
+fn put_run(text: &[u8], from: usize, out: &mut [u32], start: usize) -> Reached
+    requires { ⌜ (from ≤ length (now text)) × (start ≤ length (now out)) ⌝ }
     ensures { λ r. ⌜ Went (now (text .entry)) from start (now (out .entry)) (now (out .exit)) (r .at) (r .n) ⌝ }
 {
     let mut at = from;
     let mut n = start;
     while at + 40 <= text.len() {
+        if out.len() < n + 12 {
+            return Reached { at: from, n };
+        }
         let x = values(text, at);
         let c = letters_in(x);
         put_twelve(x, out, n);
@@ -224,18 +231,18 @@ fn put_run(text: &[u8], from: usize, out: &mut [u16], start: usize) -> Reached
 }
 
 // All are read before one is stored.
-fn cells_ahead(text: &[u8], at: usize) -> [u16; 16]
+fn cells_ahead(text: &[u8], at: usize) -> [u32; 16]
     requires { ⌜ at + 16 ≤ length (now text) ⌝ }
     ensures { λ r. ⌜ r ≡ slice at (at + 16) (now (text .entry)) ⌝ }
 {
-    let mut x = [0u16; 16];
+    let mut x = [0u32; 16];
     for k in 0..16 {
         x[k] = wide(text[at + k]);
     }
     x
 }
 
-fn put_cells(x: [u16; 16], out: &mut [u16], n: usize)
+fn put_cells(x: [u32; 16], out: &mut [u32], n: usize)
     requires { ⌜ (length x ≡ 16) × (n + 16 ≤ length (now out)) ⌝ }
     ensures { λ _. ⌜ Laid x n (now (out .entry)) (now (out .exit)) ⌝ }
 {
@@ -245,7 +252,7 @@ fn put_cells(x: [u16; 16], out: &mut [u16], n: usize)
 }
 
 // Bytes go to the output from n on, of which k count.
-fn widen(text: &[u8], at: usize, k: usize, out: &mut [u16], n: usize)
+fn widen(text: &[u8], at: usize, k: usize, out: &mut [u32], n: usize)
     requires { ⌜ (k ≤ 32) × (at + 32 ≤ length (now text)) × (n + 32 ≤ length (now out)) ⌝ }
     ensures { λ _. ⌜ Laid (slice at (at + k) (now (text .entry))) n (now (out .entry)) (now (out .exit)) ⌝ }
 {
@@ -255,14 +262,16 @@ fn widen(text: &[u8], at: usize, k: usize, out: &mut [u16], n: usize)
     }
 }
 
-// The cells of a text go to the front of the output.
-pub fn fill(text: &[u8], out: &mut [u16]) -> Reached
-    requires { ⌜ length (now text) ≤ length (now out) ⌝ }
-    ensures { λ r. ⌜ Front utf7 (now (text .entry)) (r .at) outside (r .n) (now (out .exit)) ⌝ }
+// The cells of a text, lent with or without zeros behind it, go to the front of the output.
+pub fn fill(text: &[u8], out: &mut [u32]) -> Reached
+    ensures { λ r. ⌜ ((s : List ℕ) → Padded s (now (text .entry)) → Filled s (r .at) outside (r .n) (now (out .exit))) ⌝ }
 {
     let mut at: usize = 0;
     let mut n: usize = 0;
     while at + 73 <= text.len() {
+        if out.len() < n + 33 {
+            return Reached { at, n };
+        }
         let k = direct_ahead(text, at);
         widen(text, at, k, out, n);
         if k == 32 {
@@ -292,6 +301,127 @@ pub fn fill(text: &[u8], out: &mut [u16]) -> Reached
                         return Reached { at, n };
                     }
                     n = r.n;
+                    at = past_run(text, end);
+                }
+            }
+        }
+    }
+    Reached { at, n }
+}
+
+// The byte is a letter. Every test is made, as of a byte that stands for itself.
+fn is_letter(b: u8) -> bool
+    ensures { λ r. ⌜ r ≡ setB slash b ⌝ }
+{
+    (b'A' <= b) & (b <= b'Z') | (b'a' <= b) & (b <= b'z') | (b'/' <= b) & (b <= b'9') | (b == b'+')
+}
+
+// How many of the next 32 bytes are letters before one that is none.
+fn letters_ahead(text: &[u8], at: usize) -> usize
+    requires { ⌜ at + 32 ≤ length (now text) ⌝ }
+    ensures { λ r. ⌜ Ahead (λ k. setB slash (getD (now (text .entry)) (at + k) 0)) 32 r ⌝ }
+{
+    let mut m: u8 = 32;
+    for k in 0..32 {
+        m = least(m, noted(is_letter(text[at + k]), k as u8));
+    }
+    m as usize
+}
+
+// Where the letters from a place on end, among the last bytes.
+fn letters_end(text: &[u8], from: usize) -> usize
+    requires { ⌜ from ≤ length (now text) ⌝ }
+    ensures { λ r. ⌜ Letters (now (text .entry)) from r ⌝ }
+{
+    let mut at = from;
+    while at < text.len() {
+        if is_letter(text[at]) {
+            at += 1;
+        } else {
+            return at;
+        }
+    }
+    at
+}
+
+// A run may end behind so many letters, of which this is the last.
+fn may_close(letters: usize, last: u8) -> bool
+    ensures { λ r. ⌜ r ≡ closes letters (valueOf slash last) ⌝ }
+{
+    let v = value(last);
+    let more = letters % 8;
+    if more == 0 {
+        return true;
+    }
+    if more == 3 {
+        return v % 4 == 0;
+    }
+    if more == 6 {
+        return v % 16 == 0;
+    }
+    false
+}
+
+// The end of a run's letters, or its start where it has none or may not end so.
+fn judge_end(text: &[u8], from: usize, end: usize) -> usize
+    requires { ⌜ Letters (now text) from end ⌝ }
+    ensures { λ r. ⌜ ((r ≡ from → ⊥) → Run (now (text .entry)) from r) ⌝ }
+{
+    if end == from {
+        return from;
+    }
+    if may_close(end - from, text[end - 1]) {
+        return end;
+    }
+    from
+}
+
+fn judge_run(text: &[u8], from: usize) -> usize
+    requires { ⌜ from ≤ length (now text) ⌝ }
+    ensures { λ r. ⌜ ((r ≡ from → ⊥) → Run (now (text .entry)) from r) ⌝ }
+{
+    let mut at = from;
+    while at + 32 <= text.len() {
+        let c = letters_ahead(text, at);
+        if c < 32 {
+            return judge_end(text, from, at + c);
+        }
+        at += 32;
+    }
+    judge_end(text, from, letters_end(text, at))
+}
+
+// How many cells a text has up to a place near its end, or before anything that is not of the usual kinds. Nothing is written.
+pub fn judge(text: &[u8]) -> Reached
+    ensures { λ r. ⌜ Left utf7 (now (text .entry)) (r .at) outside (r .n) ⌝ }
+{
+    let mut at: usize = 0;
+    let mut n: usize = 0;
+    while at + 73 <= text.len() {
+        let k = direct_ahead(text, at);
+        if k == 32 {
+            at += 32;
+            n += 32;
+        } else {
+            at += k;
+            n += k;
+            if text[at] != b'+' {
+                return Reached { at, n };
+            }
+            let from = at + 1;
+            if is_one(values(text, from)) {
+                n += 1;
+                at = past_run(text, from + 3);
+            } else {
+                if text[from] == b'-' {
+                    n += 1;
+                    at += 2;
+                } else {
+                    let end = judge_run(text, from);
+                    if end == from {
+                        return Reached { at, n };
+                    }
+                    n += units(end - from);
                     at = past_run(text, end);
                 }
             }

@@ -24,9 +24,6 @@ mul-out c = search needs
 shared-slice-read-out : tie.Need-shared-slice-read-out Inv-loop μ-loop
 shared-slice-read-out c = search needs
 
-cast-out : tie.Need-cast-out Inv-loop μ-loop
-cast-out c = omega (arith, c .shared-slice-known .given (c .before .before .loop .k))
-
 mul-out-2 : tie.Need-mul-out-2 Inv-loop μ-loop
 mul-out-2 c = search needs
 
@@ -73,7 +70,6 @@ copy-spec =
     loop-holds
     mul-out
     shared-slice-read-out
-    cast-out
     mul-out-2
     slice-write-out
     add-k

@@ -3,26 +3,25 @@ use mathlib.Core.Path.{_≡_, refl, _∙_}
 use native.Mathlib.Omega.{arith}
 use lib.ListN.{length, length-set}
 use borrow.Author.Needs.{needs}
-use Rattle.reading.proofs.Fronts.{Front, front-place, front-give, front-go, front-done}
 use Rattle.reading.proofs.Laws.{left-bad, left-end}
-use Rattle.utf7.specs.Rule.{utf7}
 use Rattle.utf7_read.proofs.Moves.{byte-moved}
 use Rattle.utf7_read.specs.Cursor.{shiftOf}
-use Rattle.utf7_whole.proofs.Buffers.{cell-unit}
+use Rattle.utf7_whole.specs.Quick.{Filled}
+use Rattle.utf7_whole.proofs.Buffers.{filled-place, filled-give, filled-go, filled-done}
 use Rattle.utf7_whole.proofs.decode.Statement.{statement}
 use Rattle.utf7_whole.proofs.decode.Tie as tie
 
 abbrev Inv-loop : tie.InvT-loop
-Inv-loop text out₀ at₀ n₀ st₀ out at n st = Front utf7 text at (shiftOf st) n out × (length out ≡ length out₀)
+Inv-loop text room out₀ at₀ n₀ st₀ out at n st = Filled text at (shiftOf st) n out × (length out ≡ length out₀)
 
 abbrev μ-loop : tie.MeasureT-loop
-μ-loop text out₀ at₀ n₀ st₀ out at n st = length text - at
+μ-loop text room out₀ at₀ n₀ st₀ out at n st = length text - at
 
 fill-requires : tie.Need-fill-requires Inv-loop μ-loop
 fill-requires c κs = search needs
 
 loop-holds : tie.Need-loop-holds Inv-loop μ-loop
-loop-holds c = (c .before .before .fill .ensures, refl)
+loop-holds c = (c .before .before .fill .ensures _ (c .before .before .before .before .before .before .before .pre .1), refl)
 
 shared-slice-read-byte-does : tie.Need-shared-slice-read-byte-does Inv-loop μ-loop
 shared-slice-read-byte-does c = search needs
@@ -35,12 +34,10 @@ enum-known-value c = search needs
 
 -- the next cell has a place
 index : (c : tie.After-known-told Inv-loop μ-loop) → let l = c .before .before .before .before .before .before .loop in l .n < length (l .out)
-index c = let i = c .before .before .before .before .before in front-place (i .before .loop .inv .0) (i .loop-test .taken)
-
-cast-out : tie.Need-cast-out Inv-loop μ-loop
-cast-out c = let f = c .before .before .before in
+index c = let f = c .before .before .before in
     let i = f .before .before in
-    omega (arith, cell-unit (i .before .loop .inv .0 .left) (i .loop-test .taken) (byte-moved _ _ (f .byte-does .ensures) (c .before .value .given .1)))
+    filled-place (i .before .loop .inv .0) (i .loop-test .taken) (byte-moved _ _ (f .byte-does .ensures) (c .before .value .given .1))
+    (omega (arith, i .before .loop .inv .1, c .before .before .before .before .before .before .before .before .before .fill .kept .1 .0, c .before .before .before .before .before .before .before .before .before .before .before .before .before .before .pre .0))
 
 mul-out : tie.Need-mul-out Inv-loop μ-loop
 mul-out c = omega (arith, index c)
@@ -60,7 +57,7 @@ loop-less c = search needs
 loop-again : tie.Need-loop-again Inv-loop μ-loop
 loop-again c = let f = c .before .before .before in
     let i = f .before .before in
-    (front-give (i .before .loop .inv .0) (i .loop-test .taken) (byte-moved _ _ (f .byte-does .ensures) (c .before .value .given .1)), simp length-set (i .before .loop .inv .1))
+    (filled-give (i .before .loop .inv .0) (i .loop-test .taken) (byte-moved _ _ (f .byte-does .ensures) (c .before .value .given .1)) (index c), simp length-set (i .before .loop .inv .1))
 
 enum-known-state : tie.Need-enum-known-state Inv-loop μ-loop
 enum-known-state c = search needs
@@ -74,7 +71,7 @@ loop-less-2 c = search needs
 loop-again-2 : tie.Need-loop-again-2 Inv-loop μ-loop
 loop-again-2 c = let f = c .before .before .before in
     let i = f .before .before in
-    (front-go (i .before .loop .inv .0) (i .loop-test .taken) (byte-moved _ _ (f .byte-does .ensures) (c .before .state .given .1)), i .before .loop .inv .1)
+    (filled-go (i .before .loop .inv .0) (i .loop-test .taken) (byte-moved _ _ (f .byte-does .ensures) (c .before .state .given .1)), i .before .loop .inv .1)
 
 enum-known-why : tie.Need-enum-known-why Inv-loop μ-loop
 enum-known-why c = search needs
@@ -87,7 +84,7 @@ returns c = let f = c .before .before .before in
     let i = f .before .before in
     let q = i .before .loop .inv .0 in
     let e = left-bad (q .left) (i .loop-test .taken) (byte-moved _ _ (f .byte-does .ensures) (c .before .why .given .1)) in
-    (e .1, front-done q (e .0))
+    (e .1, filled-done q (e .0))
 
 ends-in-requires : tie.Need-ends-in-requires Inv-loop μ-loop
 ends-in-requires c κs = search needs
@@ -98,7 +95,7 @@ same-length-2 c = c .before .before .loop .inv .1 ∙ c .before .before .before 
 returns-2 : tie.Need-returns-2 Inv-loop μ-loop
 returns-2 c = let q = c .before .before .loop .inv .0 in
     let e = left-end (q .left) (c .before .loop-test .left) in
-    (c .ends-in .ensures ∙ e .1, front-done q (e .0))
+    (c .ends-in .ensures ∙ e .1, filled-done q (e .0))
 
 pub decode-spec : {M : Type 1} → statement M
 decode-spec =
@@ -111,7 +108,6 @@ decode-spec =
     shared-slice-read-byte-does
     byte-does-requires
     enum-known-value
-    cast-out
     mul-out
     slice-write-out
     add-n

@@ -17,17 +17,27 @@ use Rattle.utf7.proofs.Kept.{utf7-kept}
 use Rattle.utf7_whole.proofs.through.Statement.{statement}
 use Rattle.utf7_whole.proofs.through.Tie as tie
 
-decode-requires : tie.Need-decode-requires
-decode-requires c κs = c .before .before .before .before .pre .1
+-- what was known at the start, from behind the reading
+abbrev start : tie.After-decode → tie.Start
+start d = d .before .before .before .before .before .before .before .before .before .before .before
 
-within : (c : tie.After-decode) → ltb limit (length (now (c .before .before .before .before .before .args .text))) ≡ false
-within c = le-ltb limit _ (c .before .before .before .before .before .pre .0)
+pad-requires : tie.Need-pad-requires
+pad-requires c κs = search needs
+
+decode-requires : tie.Need-decode-requires
+decode-requires c κs = let s = c .before .before .before .before .before .before .before .before .before .before in (omega (arith, few-cells utf7 (now (s .args .text)), s .pre .1 .1 .1), c .before .before .before .before .pad .ensures)
+
+within : (c : tie.After-decode) → ltb limit (length (now (start c .args .text))) ≡ false
+within c = le-ltb limit _ (start c .pre .0)
 
 enum-told : tie.Need-enum-told
 enum-told c = search needs
 
 same-length : tie.Need-same-length
 same-length c = search needs
+
+same-length-2 : tie.Need-same-length-2
+same-length-2 c = search needs
 
 returns : tie.Need-returns
 returns c =
@@ -37,8 +47,11 @@ returns c =
 enum-known-found : tie.Need-enum-known-found
 enum-known-found c = search needs
 
-same-length-2 : tie.Need-same-length-2
-same-length-2 c = search needs
+same-length-3 : tie.Need-same-length-3
+same-length-3 c = search needs
+
+same-length-4 : tie.Need-same-length-4
+same-length-4 c = search needs
 
 returns-2 : tie.Need-returns-2
 returns-2 c =
@@ -50,25 +63,27 @@ copy-requires : tie.Need-copy-requires
 copy-requires c κs =
     let f = c .before .before .before .before in
     let d = f .before .before .before .before in
-    let s = d .before .before .before .before .before in
-    let t = now (s .args .text) in
+    let t = now (start d .args .text) in
     let n = into-count utf7-kept t [] (within d) (d .decode .ensures .0) (f .found .given .1) in
-    (omega (arith, n, few-cells utf7 t, s .pre .1, d .decode .kept .1 .0), c .before .before .if1 .left)
+    (omega (arith, n, few-cells utf7 t, start d .pre .1 .1 .1, d .decode .kept .1 .1 .0), c .before .before .if1 .left)
 
-same-length-3 : tie.Need-same-length-3
-same-length-3 c = search needs
+same-length-5 : tie.Need-same-length-5
+same-length-5 c = search needs
 
-same-length-4 : tie.Need-same-length-4
-same-length-4 c = search needs
+same-length-6 : tie.Need-same-length-6
+same-length-6 c = search needs
+
+same-length-7 : tie.Need-same-length-7
+same-length-7 c = search needs
 
 returns-3 : tie.Need-returns-3
 returns-3 c =
     let f = c .before .before .before .before .before .before .before in
     let d = f .before .before .before .before in
-    let a = d .before .before .before .before .before .args in
+    let a = start d .args in
     let n = into-count utf7-kept (now (a .text)) [] (within d) (d .decode .ensures .0) (f .found .given .1) in
-    let k : take (f .found .given .0 .0) (d .decode .last .1 .0) ≡ reading utf7 (now (a .text)) .cells =
-    ap (λ (m : ℕ). take m (d .decode .last .1 .0)) n ∙ d .decode .ensures .1 in
+    let k : take (f .found .given .0 .0) (d .decode .last .1 .1 .0) ≡ reading utf7 (now (a .text)) .cells =
+    ap (λ (m : ℕ). take m (d .decode .last .1 .1 .0)) n ∙ d .decode .ensures .1 in
     into-filled utf7-kept _ _ (within d) (ap inNumbers (sym (f .found .given .1)) ∙ d .decode .ensures .0) refl (c .before .before .before .before .before .if1 .left)
     (c .before .before .copy .ensures ∙ ap (λ (z : List ℕ). filled z (now (a .out))) k)
 
@@ -76,14 +91,18 @@ pub through-spec : {M : Type 1} → statement M
 through-spec =
     tie.close
     (tie.spec
+    pad-requires
     decode-requires
     enum-told
     same-length
+    same-length-2
     returns
     enum-known-found
-    same-length-2
-    returns-2
-    copy-requires
     same-length-3
     same-length-4
+    returns-2
+    copy-requires
+    same-length-5
+    same-length-6
+    same-length-7
     returns-3)

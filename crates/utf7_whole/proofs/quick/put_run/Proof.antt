@@ -8,16 +8,28 @@ use Rattle.utf7_whole.proofs.quick.put_run.Statement.{statement}
 use Rattle.utf7_whole.proofs.quick.put_run.Tie as tie
 
 abbrev Inv-loop : tie.InvT-loop
-Inv-loop text from out₀ start at₀ n₀ out at n = Going text from start out₀ at n out
+Inv-loop text from out₀ start at₀ n₀ out at n = Going text from start out₀ at n out × (n ≤ length out)
 
 abbrev μ-loop : tie.MeasureT-loop
 μ-loop text from out₀ start at₀ n₀ out at n = length text - at
 
 loop-holds : tie.Need-loop-holds Inv-loop μ-loop
-loop-holds c = going-start _ _ _ _ (c .before .before .pre .1)
+loop-holds c = let q = c .before .before .pre in (going-start _ _ _ _ (q .0), q .1)
 
 add-loop : tie.Need-add-loop Inv-loop μ-loop
 add-loop c = search needs
+
+add-if1 : tie.Need-add-if1 Inv-loop μ-loop
+add-if1 c = search needs
+
+start : (c : tie.At-loop Inv-loop μ-loop) → let a = c .before .before .before .args in a .start ≤ length (a .out .now)
+start c = c .before .before .before .pre .1
+
+same-length : tie.Need-same-length Inv-loop μ-loop
+same-length c = c .before .before .loop .inv .0 .laid .same
+
+returns : tie.Need-returns Inv-loop μ-loop
+returns c = let l = c .before .before in went-none _ (going-kept (l .loop .inv .0) (start l))
 
 values-requires : tie.Need-values-requires Inv-loop μ-loop
 values-requires c κs = search needs
@@ -25,18 +37,8 @@ values-requires c κs = search needs
 letters-in-requires : tie.Need-letters-in-requires Inv-loop μ-loop
 letters-in-requires c κs = search needs
 
--- a block has a place
-room : (c : tie.In-loop Inv-loop μ-loop) → c .before .loop .n + 12 ≤ length (c .before .loop .out)
-room c =
-    let g = c .before .loop .inv in
-    let q = c .before .before .before .before .pre in
-    omega (arith, g .laid .same, g .count, g .letters .ordered, c .loop-test .taken, q .0, q .2)
-
-start : (c : tie.In-loop Inv-loop μ-loop) → let a = c .before .before .before .before .args in a .start ≤ length (a .out .now)
-start c = let q = c .before .before .before .before .pre in omega (arith, q .0, q .1, q .2)
-
 put-twelve-requires : tie.Need-put-twelve-requires Inv-loop μ-loop
-put-twelve-requires c κs = room (c .before .before .before)
+put-twelve-requires c κs = c .before .before .before .if1 .left
 
 may-end-requires : tie.Need-may-end-requires Inv-loop μ-loop
 may-end-requires c κs = c .before .before .before .before .before .letters-in .ensures .upto
@@ -50,21 +52,25 @@ units-requires c κs = search needs
 add-t18 : tie.Need-add-t18 Inv-loop μ-loop
 add-t18 c = search needs
 
-same-length : tie.Need-same-length Inv-loop μ-loop
-same-length c = c .before .before .before .before .before .before .put-twelve .ensures .same ∙ c .before .before .before .before .before .before .before .before .before .before .before .loop .inv .laid .same
-
-returns : tie.Need-returns Inv-loop μ-loop
-returns c = let p = c .before .before .before .before .before .before in
-    let i = p .before .before .before .before in
-    rw (c .units .ensures) (going-went (i .before .loop .inv) (start i) (omega (arith, room i)) (omega (arith, i .loop-test .taken)) _ (p .put-twelve .ensures) (p .before .before .before .values .ensures) (p .before .before .letters-in .ensures) (c .before .before .before .if1 .taken) (sym (c .before .before .may-end .ensures) ∙ c .before .if2 .taken))
+-- the loop's test, from behind a block's units
+abbrev inside : tie.After-put-twelve Inv-loop μ-loop → tie.In-loop Inv-loop μ-loop
+inside c = c .before .before .before .before .before
 
 same-length-2 : tie.Need-same-length-2 Inv-loop μ-loop
-same-length-2 c = c .before .before .before .before .before .put-twelve .ensures .same ∙ c .before .before .before .before .before .before .before .before .before .before .loop .inv .laid .same
+same-length-2 c = let p = c .before .before .before .before .before .before in p .put-twelve .ensures .same ∙ inside p .before .loop .inv .0 .laid .same
 
 returns-2 : tie.Need-returns-2 Inv-loop μ-loop
-returns-2 c = let p = c .before .before .before .before .before in
-    let i = p .before .before .before .before in
-    went-none _ (going-none (i .before .loop .inv) (start i) (omega (arith, room i)) (omega (arith, i .loop-test .taken)) (p .before .before .before .values .result) (p .put-twelve .ensures))
+returns-2 c = let p = c .before .before .before .before .before .before in
+    let l = inside p .before in
+    rw (c .units .ensures) (going-went (l .loop .inv .0) (start l) (l .loop .inv .1) (omega (arith, inside p .loop-test .taken)) _ (p .put-twelve .ensures) (p .before .before .before .values .ensures) (p .before .before .letters-in .ensures) (c .before .before .before .if2 .taken) (sym (c .before .before .may-end .ensures) ∙ c .before .if3 .taken))
+
+same-length-3 : tie.Need-same-length-3 Inv-loop μ-loop
+same-length-3 c = let p = c .before .before .before .before .before in p .put-twelve .ensures .same ∙ inside p .before .loop .inv .0 .laid .same
+
+returns-3 : tie.Need-returns-3 Inv-loop μ-loop
+returns-3 c = let p = c .before .before .before .before .before in
+    let l = inside p .before in
+    went-none _ (going-none (l .loop .inv .0) (start l) (l .loop .inv .1) (omega (arith, inside p .loop-test .taken)) (p .before .before .before .values .result) (p .put-twelve .ensures))
 
 add-at : tie.Need-add-at Inv-loop μ-loop
 add-at c = search needs
@@ -77,14 +83,16 @@ loop-less c = search needs
 
 loop-again : tie.Need-loop-again Inv-loop μ-loop
 loop-again c = let p = c .before .before .before in
-    let i = p .before .before .before .before in
-    going-on (i .before .loop .inv) (start i) (omega (arith, room i)) (omega (arith, i .loop-test .taken)) _ (p .put-twelve .ensures) (p .before .before .before .values .ensures) (p .before .before .letters-in .ensures) (omega (arith, p .before .before .letters-in .ensures .upto, c .if1 .left))
+    let l = inside p .before in (
+      going-on (l .loop .inv .0) (start l) (l .loop .inv .1) (omega (arith, inside p .loop-test .taken)) _ (p .put-twelve .ensures) (p .before .before .before .values .ensures) (p .before .before .letters-in .ensures) (omega (arith, p .before .before .letters-in .ensures .upto, c .if2 .left)),
+      omega (arith, p .put-twelve .ensures .same, p .before .before .before .before .if1 .left),
+    )
 
-same-length-3 : tie.Need-same-length-3 Inv-loop μ-loop
-same-length-3 c = c .before .loop .inv .laid .same
+same-length-4 : tie.Need-same-length-4 Inv-loop μ-loop
+same-length-4 c = c .before .loop .inv .0 .laid .same
 
-returns-3 : tie.Need-returns-3 Inv-loop μ-loop
-returns-3 c = let q = c .before .before .before .before .pre in went-none _ (going-kept (c .before .loop .inv) (omega (arith, q .0, q .1, q .2)))
+returns-4 : tie.Need-returns-4 Inv-loop μ-loop
+returns-4 c = went-none _ (going-kept (c .before .loop .inv .0) (start (c .before)))
 
 pub put-run-spec : {M : Type 1} → statement M
 put-run-spec =
@@ -94,6 +102,9 @@ put-run-spec =
     μ-loop
     loop-holds
     add-loop
+    add-if1
+    same-length
+    returns
     values-requires
     letters-in-requires
     put-twelve-requires
@@ -101,13 +112,13 @@ put-run-spec =
     add-t16
     units-requires
     add-t18
-    same-length
-    returns
     same-length-2
     returns-2
+    same-length-3
+    returns-3
     add-at
     add-n
     loop-less
     loop-again
-    same-length-3
-    returns-3)
+    same-length-4
+    returns-4)
