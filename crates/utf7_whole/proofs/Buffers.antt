@@ -3,7 +3,7 @@ use Prim.Native.Nat.{ℕ, zero, suc, _+_, _-_, _*_, _/_, _%_, _<_, _≤_}
 use mathlib.Core.Path.{_≡_, refl, sym, ap, _∙_}
 use mathlib.Core.Bool.{Bool, true, false, cond, false≢true}
 use mathlib.Core.List.{List, [], _∷_, _++_, append-nil}
-use native.Mathlib.Nat.{add-zero}
+use native.Mathlib.Nat.{add-zero, zero-add}
 use native.Mathlib.Omega.{arith}
 use lib.ListN.{length, getD, take, drop, set, length-append, length-take, replicate, List·getD-eq-default}
 use lib.Seq.{slice, length-slice, length-take-le, take-take, take-at, take-add, take-length, ext-getD, getD-set-other}
@@ -17,7 +17,7 @@ use Rattle.reading.proofs.Laws.{left-start, left-more, left-go}
 use Rattle.reading.proofs.Strides.{Stride, stride-give, left-stride}
 use Rattle.utf7.specs.Sets.{alphanumeric, setD, setO, direct}
 use Rattle.utf7.specs.Rule.{Shift, outside, mayEnd, byteDoes, utf7}
-use Rattle.utf7_whole.specs.Quick.{Padded, Filled, Span, Ahead, Run, Values, One, Went, bitsIn, unitsIn, past, unitsOf, lows, stops}
+use Rattle.utf7_whole.specs.Quick.{Padded, Filled, Span, Ahead, Letters, Run, Values, One, Went, Last, bitsIn, unitsIn, past, unitsOf, lows, closes, stops}
 use Rattle.utf7_whole.proofs.Tokens.{span-stay, span-on, span-ahead, ahead-as, length-units, no-unit, units-split, units-front, set-more, known, Known, ends-closed, closed-by, three-run, one-unit, slice-at, slice-rest, some-at, direct-stride, sign-stride, run-stride}
 
 -- a front that is all
@@ -29,6 +29,9 @@ pub zero-at : (n i : ℕ) → _≡_ {A = ℕ} (getD (replicate n 0) i 0) 0
 zero-at zero i = refl
 zero-at (suc n) zero = refl
 zero-at (suc n) (suc i) = zero-at n i
+
+pub laid-all : {cs a b : List ℕ} → Laid cs 0 a b → length b ≡ length cs → b ≡ cs
+laid-all {cs} {a} {b} l e = all-front {xs = b} {ys = cs} e (rw (zero-add (length cs)) at (l .front))
 
 -- what is laid has room
 pub laid-room : {cs a b : List ℕ} {n : ℕ} → Laid cs n a b → n ≤ length a → n + length cs ≤ length b
@@ -68,77 +71,119 @@ going-kept g h = laid-front 0 (g .laid) h (omega arith)
 count-add : (n q m : ℕ) → n + 8 * q * 6 / 16 + m * 6 / 16 ≡ n + (8 * q + m) * 6 / 16
 count-add n q m = omega arith
 
+-- letters more, whose units are laid
+module _ {s : List ℕ} {from start : ℕ} {out₀ : List ℕ} {at n : ℕ} {out : List ℕ} (g : Going s from start out₀ at n out) (h : start ≤ length out₀) where
+  size-so-far : n ≡ start + length (unitsIn s from at)
+  size-so-far = rw (length-units s from at (g .letters .within)) (g .count)
+
+  pub going-none : {cs out' : List ℕ} → Laid cs n out out' → Laid [] start out₀ out'
+  going-none l = laid-front 0 (laid-on (g .laid) size-so-far l) h (omega arith)
+
+  module _ (m : ℕ) {out' : List ℕ} (here : Span (setB slash) s at (at + m)) (q : Laid (unitsIn s at (at + m)) n out out') where
+    letters-on : Span (setB slash) s from (at + m)
+    letters-on = span-on (g .letters) here
+
+    size-on : length (unitsIn s from (at + m)) ≡ (at + m - from) * 6 / 16
+    size-on = length-units s from (at + m) (letters-on .within)
+
+    count-on : n + m * 6 / 16 ≡ start + (at + m - from) * 6 / 16
+    count-on =
+        let q = (at - from) / 8 in
+        let a : at - from ≡ 8 * q = omega (arith, g .eights) in
+        let b : at + m - from ≡ 8 * q + m = omega (arith, g .letters .ordered, a) in
+        rw (g .count, a, b) (count-add start q m)
+
+    laid-letters : Laid (unitsIn s from (at + m)) start out₀ out'
+    laid-letters =
+        let e : from + 8 * ((at - from) / 8) ≡ at = omega (arith, g .eights, g .letters .ordered) in
+        let u : unitsIn s from (at + m) ≡ unitsIn s from at ++ unitsIn s at (at + m) =
+        rw e at (units-split s from (at + m) ((at - from) / 8) letters-on (omega (arith, g .eights, g .letters .ordered))) in
+        rw u (laid-on (g .laid) size-so-far q)
+
+    pub going-more : m ≡ 32 → Going s from start out₀ (at + 32) (n + 12) out'
+    going-more e =
+        record {
+          letters = rw e at letters-on;
+          eights = omega (arith, g .eights, g .letters .ordered);
+          laid = rw e at laid-letters;
+          count = rw e at count-on;
+        }
+
+    pub going-end :
+        setB slash (getD s (at + m) 0) ≡ false → closes m (valueOf slash (getD s (at + m - 1) 0)) ≡ true → Went s from start out₀ out' (at + m) (n + m * 6 / 16)
+    going-end o e =
+        let j : (at + m - from) % 8 ≡ m % 8 = omega (arith, g .eights, g .letters .ordered) in
+        record {
+          kept = going-none q;
+          run = λ f.
+              let r : from < at + m = omega (arith, letters-on .ordered, f) in
+              record { some = r; letters = letters-on; over = o; ends = ends-closed letters-on r (closed-by (at + m - from) m (valueOf slash (getD s (at + m - 1) 0)) (valueOf slash (getD s (at + m - 1) 0)) j (λ z. refl) e) };
+          laid = λ f. laid-letters;
+          count = λ f. rw size-on count-on;
+        }
+
+-- 32 values, of which letters stand in front
+module _ {s : List ℕ} {at : ℕ} {xs : List ℕ} (v : Values s at xs) {m : ℕ} (few : m ≤ 32) where
+  pub closed-in : stops xs m ≡ true → closes m (valueOf slash (getD s (at + m - 1) 0)) ≡ true
+  closed-in e =
+      closed-by m m (valueOf slash (getD s (at + m - 1) 0)) (getD xs (m - 1) 0) refl
+      (λ z.
+      let q : at + (m - 1) ≡ at + m - 1 = omega arith in
+      rw q at (v .so (m - 1) (omega arith)))
+      e
+
+  pub units-in : Span (setB slash) s at (at + m) → take (m * 6 / 16) (unitsOf 4 (lows xs)) ≡ unitsIn s at (at + m)
+  units-in here =
+      let k : at + m ≤ at + 32 = omega arith in
+      let e : length (unitsIn s at (at + m)) ≡ m * 6 / 16 = length-units s at (at + m) (here .within) ∙ ap (λ (l : ℕ). l * 6 / 16) (omega arith) in
+      rw e at (units-front 4 here k (known here k v))
+
+  pub laid-in : {n : ℕ} {out out' : List ℕ} → Span (setB slash) s at (at + m) → n ≤ length out → Laid (unitsOf 4 (lows xs)) n out out' → Laid (unitsIn s at (at + m)) n out out'
+  laid-in here k l = rw (units-in here) at (laid-front (m * 6 / 16) l k (omega arith))
+
 -- 32 values more, and their units laid, of which those count that the letters in front hold
 module _ {s : List ℕ} {from start : ℕ} {out₀ : List ℕ} {at n : ℕ} {out : List ℕ} (g : Going s from start out₀ at n out) (h : start ≤ length out₀) (k : n ≤ length out) (w : at + 32 ≤ length s) where
-  module _ (xs : List ℕ) {out' : List ℕ} (l : Laid (unitsOf 4 (lows xs)) n out out') where
-    size-so-far : n ≡ start + length (unitsIn s from at)
-    size-so-far = rw (length-units s from at (g .letters .within)) (g .count)
+  module _ (xs : List ℕ) {out' : List ℕ} (l : Laid (unitsOf 4 (lows xs)) n out out') (v : Values s at xs) {m : ℕ} (p : Ahead (λ k. ltb (getD xs k 0) 64) 32 m) where
+    here-in : Span (setB slash) s at (at + m)
+    here-in = span-ahead (setB slash) (ahead-letters v p) w
 
-    pub going-none : Laid [] start out₀ out'
-    going-none = laid-front 0 (laid-on (g .laid) size-so-far l) h (omega arith)
+    pub going-on : m ≡ 32 → Going s from start out₀ (at + 32) (n + 12) out'
+    going-on e = going-more g h m here-in (laid-in v (p .upto) here-in k l) e
 
-    module _ (v : Values s at xs) {m : ℕ} (p : Ahead (λ k. ltb (getD xs k 0) 64) 32 m) where
-      here : Span (setB slash) s at (at + m)
-      here = span-ahead (setB slash) (ahead-letters v p) w
+    pub going-went : m < 32 → stops xs m ≡ true → Went s from start out₀ out' (at + m) (n + m * 6 / 16)
+    going-went z e = going-end g h m here-in (laid-in v (p .upto) here-in k l) (ahead-letters v p .over z) (closed-in v (p .upto) e)
 
-      letters-on : Span (setB slash) s from (at + m)
-      letters-on = span-on (g .letters) here
+-- the last letters
+pub going-last :
+    {s : List ℕ} {from start : ℕ} {out₀ : List ℕ} {at n : ℕ} {out out' : List ℕ} {end m : ℕ} → Going s from start out₀ at n out → start ≤ length out₀ →
+    Last s from at n out out' end m → Went s from start out₀ out' end m
+going-last {s} {from} {start} {out₀} {at} {n} {out} {out'} {end} {m} g h l =
+    record { kept = going-none g h (l .kept); run = λ f. went f .run f; laid = λ f. went f .laid f; count = λ f. rw (l .count f) (went f .count f) }
+  where
+    went : (end ≡ from → ⊥) → Went s from start out₀ out' end (n + (end - at) * 6 / 16)
+    went f =
+        let e : at + (end - at) ≡ end = omega (arith, l .letters f .letters .ordered) in
+        rw e at (going-end g h (end - at) {out' = out'} (rw e (l .letters f .letters)) (rw e (l .laid f)) (rw e (l .letters f .over)) (rw e (l .closed f)))
 
-      size-on : length (unitsIn s from (at + m)) ≡ (at + m - from) * 6 / 16
-      size-on = length-units s from (at + m) (letters-on .within)
+pub last-none : {s : List ℕ} {from : ℕ} (at n : ℕ) (out : List ℕ) (m : ℕ) → Last s from at n out out from m
+last-none at n out m =
+    record { kept = laid-none n out; letters = λ f. absurd (f refl); closed = λ f. absurd (f refl); laid = λ f. absurd (f refl); count = λ f. absurd (f refl) }
 
-      count-on : n + m * 6 / 16 ≡ start + (at + m - from) * 6 / 16
-      count-on =
-          let q = (at - from) / 8 in
-          let a : at - from ≡ 8 * q = omega (arith, g .eights) in
-          let b : at + m - from ≡ 8 * q + m = omega (arith, g .letters .ordered, a) in
-          rw (g .count, a, b) (count-add start q m)
-
-      laid-letters : Laid (unitsIn s from (at + m)) start out₀ out'
-      laid-letters =
-          let few : at + m ≤ at + 32 = omega (arith, p .upto) in
-          let size : length (unitsIn s at (at + m)) ≤ 12 = omega (arith, length-units s at (at + m) (here .within), p .upto) in
-          let q : Laid (unitsIn s at (at + m)) n out out' =
-          rw (units-front 4 here few (known here few v)) at (laid-front (length (unitsIn s at (at + m))) l k size) in
-          let e : from + 8 * ((at - from) / 8) ≡ at = omega (arith, g .eights, g .letters .ordered) in
-          let u : unitsIn s from (at + m) ≡ unitsIn s from at ++ unitsIn s at (at + m) =
-          rw e at (units-split s from (at + m) ((at - from) / 8) letters-on (omega (arith, g .eights, g .letters .ordered))) in
-          rw u (laid-on (g .laid) size-so-far q)
-
-      pub going-on : m ≡ 32 → Going s from start out₀ (at + 32) (n + 12) out'
-      going-on e =
-          record {
-            letters = rw e at letters-on;
-            eights = omega (arith, g .eights, g .letters .ordered);
-            laid = rw e at laid-letters;
-            count = rw e at count-on;
-          }
-
-      final-at : 0 < m → getD xs (m - 1) 0 ≡ valueOf slash (getD s (at + m - 1) 0)
-      final-at z =
-          let e : at + (m - 1) ≡ at + m - 1 = omega arith in
-          rw e at (v .so (m - 1) (omega (arith, p .upto)))
-
-      ends-on : from < at + m → stops xs m ≡ true → mayEnd (leftOver 16 (bitsIn s from (at + m))) ≡ true
-      ends-on r e =
-          let q : (at + m - from) % 8 ≡ m % 8 = omega (arith, g .eights, g .letters .ordered) in
-          ends-closed letters-on r (closed-by _ m _ _ q (λ z. final-at (omega (arith, z))) e)
-
-      pub going-went : m < 32 → stops xs m ≡ true → Went s from start out₀ out' (at + m) (n + m * 6 / 16)
-      going-went z e =
-          record {
-            kept = going-none;
-            run = λ f.
-                let r : from < at + m = omega (arith, letters-on .ordered, f) in
-                record {
-                  some = r;
-                  letters = letters-on;
-                  over = ahead-letters v p .over z;
-                  ends = ends-on r e;
-                };
-            laid = λ f. laid-letters;
-            count = λ f. rw size-on count-on;
-          }
+pub last-done :
+    {s : List ℕ} (from : ℕ) {at end n u : ℕ} {out out' xs ys : List ℕ} → Letters s at end → end - at ≤ 31 → Values s at xs → stops xs (end - at) ≡ true → u ≡ (end - at) * 6 / 16 →
+    ys ≡ unitsOf 4 (lows xs) → Laid (take u ys) n out out' → n ≤ length out → Last s from at n out out' end (n + u)
+last-done {s} from {at} {end} {n} {u} {out} {out'} {xs} {ys} l few v e q y d h =
+    let z : at + (end - at) ≡ end = omega (arith, l .letters .ordered) in
+    let k : end - at ≤ 32 = omega arith in
+    let here : Span (setB slash) s at (at + (end - at)) = rw z (l .letters) in
+    let t : take u ys ≡ unitsIn s at end = rw (q, y, units-in v k here, z) in
+    record {
+      kept = laid-front 0 d h (omega arith);
+      letters = λ _. l;
+      closed = λ _. rw z at (closed-in v k e);
+      laid = λ _. rw t at d;
+      count = λ _. rw q;
+    }
 
 -- three letters, by their values
 module _ {s : List ℕ} {from : ℕ} {xs : List ℕ} (h : from + 32 ≤ length s) (v : Values s from xs) (o : One xs) where
@@ -209,6 +254,22 @@ zero-direct = refl
 pub zero-letter : setB slash 0 ≡ false
 unfolding setB valueOf
 zero-letter = refl
+
+-- the values of the bytes up to the text's end, and 64
+zero-value : valueOf slash 0 ≡ 64
+unfolding valueOf
+zero-value = refl
+
+pub near-done :
+    {s : List ℕ} {at k : ℕ} (xs : List ℕ) → ((j : ℕ) → j < k → getD xs j 0 ≡ valueOf slash (getD s (at + j) 0)) → ((j : ℕ) → k ≤ j → j < 32 → getD xs j 0 ≡ 64) →
+    length s ≤ at + k → Values s at xs
+near-done {s} {at} {k} xs f g h = record { so = λ j l. by j l (ltb j k) refl }
+  where
+    by : (j : ℕ) → j < 32 → (t : Bool) → ltb j k ≡ t → getD xs j 0 ≡ valueOf slash (getD s (at + j) 0)
+    by j l true e = f j (ltb-true j k e)
+    by j l false e =
+        let z : getD s (at + j) 0 ≡ 0 = List·getD-eq-default s 0 (omega (arith, ltb-false j k e)) in
+        g j (ltb-false j k e) l ∙ rw (z, zero-value)
 
 module _ {s room : List ℕ} (p : Padded s room) where
   -- bytes of a set that has no 0

@@ -106,3 +106,11 @@ pub record Went (s : List ℕ) (from start : ℕ) (out out' : List ℕ) (at n : 
   pub run : (at ≡ from → ⊥) → Run s from at
   pub laid : (at ≡ from → ⊥) → Laid (unitsIn s from at) start out out'
   pub count : (at ≡ from → ⊥) → n ≡ start + length (unitsIn s from at)
+
+-- letters from a place on end a run there, unless the end is still its start, and their units are laid
+pub record Last (s : List ℕ) (from at n : ℕ) (out out' : List ℕ) (end m : ℕ) : Type 0 where
+  pub kept : Laid [] n out out'
+  pub letters : (end ≡ from → ⊥) → Letters s at end
+  pub closed : (end ≡ from → ⊥) → closes (end - at) (valueOf slash (getD s (end - 1) 0)) ≡ true
+  pub laid : (end ≡ from → ⊥) → Laid (unitsIn s at end) n out out'
+  pub count : (end ≡ from → ⊥) → m ≡ n + (end - at) * 6 / 16

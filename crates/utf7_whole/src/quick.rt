@@ -6,7 +6,7 @@ ghost use mathlib.Core.Path.{_≡_};
 ghost use mathlib.Core.Bool.{true, cond, _&&_};
 ghost use mathlib.Core.List.{List};
 ghost use Prim.Native.Nat.{ℕ, _<_, _≤_, _+_, _-_, _*_, _/_, _%_};
-ghost use lib.ListN.{length, getD};
+ghost use lib.ListN.{length, getD, take};
 ghost use lib.Seq.{slice};
 ghost use lib.Dec.{leb, ltb};
 ghost use Rattle.answer.specs.Inner.{Laid};
@@ -14,7 +14,7 @@ ghost use Rattle.base64.specs.Letters.{valueOf, setB, slash};
 ghost use Rattle.reading.specs.Inner.{Left};
 ghost use Rattle.utf7.specs.Sets.{direct};
 ghost use Rattle.utf7.specs.Rule.{outside, utf7};
-ghost use Rattle.utf7_whole.specs.Quick.{Padded, Filled, Span, Ahead, Letters, Run, Values, One, Went, threeOf, unitsOf, lows, closes, stops, past};
+ghost use Rattle.utf7_whole.specs.Quick.{Padded, Filled, Span, Ahead, Letters, Run, Values, One, Went, Last, threeOf, unitsOf, lows, closes, stops, past};
 
 // Where a loop stopped: outside a run, after n cells.
 pub struct Reached {
@@ -200,17 +200,81 @@ fn past_run(text: &[u8], to: usize) -> usize
     to
 }
 
+// The values of 32 bytes, of which some may stand behind the text's end: 64 for those.
+fn values_near(text: &[u8], at: usize) -> [u8; 32]
+    requires { ⌜ at ≤ length (now text) ⌝ }
+    ensures { λ r. ⌜ Values (now (text .entry)) at r ⌝ }
+{
+    let mut x = [64u8; 32];
+    let mut k: usize = 0;
+    while k < 32 {
+        if text.len() <= at + k {
+            return x;
+        }
+        x[k] = value(text[at + k]);
+        k += 1;
+    }
+    x
+}
+
+// The same, by themselves.
+fn twelve(x: [u8; 32]) -> [u32; 12]
+    ensures { λ r. ⌜ r ≡ unitsOf 4 (lows x) ⌝ }
+{
+    let mut y = [0u32; 12];
+    put_three(x, 0, &mut y, 0);
+    put_three(x, 8, &mut y, 3);
+    put_three(x, 16, &mut y, 6);
+    put_three(x, 24, &mut y, 9);
+    y
+}
+
+// The first u of twelve units go to the output from n on.
+fn lay(y: [u32; 12], u: usize, out: &mut [u32], n: usize)
+    requires { ⌜ (length y ≡ 12) × (u ≤ 12) × (n + u ≤ length (now out)) ⌝ }
+    ensures { λ _. ⌜ Laid (take u y) n (now (out .entry)) (now (out .exit)) ⌝ }
+{
+    let mut k: usize = 0;
+    while k < u {
+        out[n + k] = y[k];
+        k += 1;
+    }
+}
+
+// The units of the last letters of a run, which follow eights, go to the output from n on: where they end, and the place behind their units. Where
+// they are 32 or more, may not end so or have no room: the place where the run began.
+fn put_last(text: &[u8], from: usize, at: usize, out: &mut [u32], n: usize) -> Reached
+    requires { ⌜ (at ≤ length (now text)) × (n ≤ length (now out)) ⌝ }
+    ensures { λ r. ⌜ Last (now (text .entry)) from at n (now (out .entry)) (now (out .exit)) (r .at) (r .n) ⌝ }
+{
+    let end = letters_end(text, at);
+    let c = end - at;
+    if 31 < c {
+        return Reached { at: from, n };
+    }
+    let u = units(c);
+    if out.len() < n + u {
+        return Reached { at: from, n };
+    }
+    let x = values_near(text, at);
+    if may_end(x, c) {
+        lay(twelve(x), u, out, n);
+        return Reached { at: end, n: n + u };
+    }
+    Reached { at: from, n }
+}
+
 // The units of a run go to the output from its start on: where its letters end, and the place behind its units. Where the run may not end so,
-// or the text's end or the output's is near: the place where it began.
+// or the output has no room: the place where it began.
 fn put_run(text: &[u8], from: usize, out: &mut [u32], start: usize) -> Reached
     requires { ⌜ (from ≤ length (now text)) × (start ≤ length (now out)) ⌝ }
     ensures { λ r. ⌜ Went (now (text .entry)) from start (now (out .entry)) (now (out .exit)) (r .at) (r .n) ⌝ }
 {
     let mut at = from;
     let mut n = start;
-    while at + 40 <= text.len() {
+    while at + 32 <= text.len() {
         if out.len() < n + 12 {
-            return Reached { at: from, n };
+            return put_last(text, from, at, out, n);
         }
         let x = values(text, at);
         let c = letters_in(x);
@@ -227,7 +291,7 @@ fn put_run(text: &[u8], from: usize, out: &mut [u32], start: usize) -> Reached
         at += 32;
         n += 12;
     }
-    Reached { at: from, n }
+    put_last(text, from, at, out, n)
 }
 
 // All are read before one is stored.

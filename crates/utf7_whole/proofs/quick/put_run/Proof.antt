@@ -3,7 +3,7 @@ use mathlib.Core.Path.{sym, _∙_}
 use native.Mathlib.Omega.{arith}
 use lib.ListN.{length}
 use borrow.Author.Needs.{needs}
-use Rattle.utf7_whole.proofs.Buffers.{Going, going-start, going-none, going-on, going-kept, going-went, went-none}
+use Rattle.utf7_whole.proofs.Buffers.{Going, going-start, going-none, going-on, going-went, going-last, went-none}
 use Rattle.utf7_whole.proofs.quick.put_run.Statement.{statement}
 use Rattle.utf7_whole.proofs.quick.put_run.Tie as tie
 
@@ -25,11 +25,14 @@ add-if1 c = search needs
 start : (c : tie.At-loop Inv-loop μ-loop) → let a = c .before .before .before .args in a .start ≤ length (a .out .now)
 start c = c .before .before .before .pre .1
 
+put-last-requires : tie.Need-put-last-requires Inv-loop μ-loop
+put-last-requires c κs = let l = c .before .before .before in (l .loop .inv .0 .letters .within, l .loop .inv .1)
+
 same-length : tie.Need-same-length Inv-loop μ-loop
-same-length c = c .before .before .loop .inv .0 .laid .same
+same-length c = c .before .before .put-last .ensures .kept .same ∙ c .before .before .before .before .before .before .loop .inv .0 .laid .same
 
 returns : tie.Need-returns Inv-loop μ-loop
-returns c = let l = c .before .before in went-none _ (going-kept (l .loop .inv .0) (start l))
+returns c = let l = c .before .before .before .before .before .before in going-last (l .loop .inv .0) (start l) (c .before .before .put-last .ensures)
 
 values-requires : tie.Need-values-requires Inv-loop μ-loop
 values-requires c κs = search needs
@@ -43,14 +46,14 @@ put-twelve-requires c κs = c .before .before .before .if1 .left
 may-end-requires : tie.Need-may-end-requires Inv-loop μ-loop
 may-end-requires c κs = c .before .before .before .before .before .letters-in .ensures .upto
 
-add-t16 : tie.Need-add-t16 Inv-loop μ-loop
-add-t16 c = search needs
+add-t18 : tie.Need-add-t18 Inv-loop μ-loop
+add-t18 c = search needs
 
 units-requires : tie.Need-units-requires Inv-loop μ-loop
 units-requires c κs = search needs
 
-add-t18 : tie.Need-add-t18 Inv-loop μ-loop
-add-t18 c = search needs
+add-t20 : tie.Need-add-t20 Inv-loop μ-loop
+add-t20 c = search needs
 
 -- the loop's test, from behind a block's units
 abbrev inside : tie.After-put-twelve Inv-loop μ-loop → tie.In-loop Inv-loop μ-loop
@@ -70,7 +73,7 @@ same-length-3 c = let p = c .before .before .before .before .before in p .put-tw
 returns-3 : tie.Need-returns-3 Inv-loop μ-loop
 returns-3 c = let p = c .before .before .before .before .before in
     let l = inside p .before in
-    went-none _ (going-none (l .loop .inv .0) (start l) (l .loop .inv .1) (omega (arith, inside p .loop-test .taken)) (p .before .before .before .values .result) (p .put-twelve .ensures))
+    went-none _ (going-none (l .loop .inv .0) (start l) (p .put-twelve .ensures))
 
 add-at : tie.Need-add-at Inv-loop μ-loop
 add-at c = search needs
@@ -88,11 +91,14 @@ loop-again c = let p = c .before .before .before in
       omega (arith, p .put-twelve .ensures .same, p .before .before .before .before .if1 .left),
     )
 
+put-last-requires-2 : tie.Need-put-last-requires-2 Inv-loop μ-loop
+put-last-requires-2 c κs = let l = c .before .before in (l .loop .inv .0 .letters .within, l .loop .inv .1)
+
 same-length-4 : tie.Need-same-length-4 Inv-loop μ-loop
-same-length-4 c = c .before .loop .inv .0 .laid .same
+same-length-4 c = c .before .before .put-last2 .ensures .kept .same ∙ c .before .before .before .before .before .loop .inv .0 .laid .same
 
 returns-4 : tie.Need-returns-4 Inv-loop μ-loop
-returns-4 c = went-none _ (going-kept (c .before .loop .inv .0) (start (c .before)))
+returns-4 c = let l = c .before .before .before .before .before in going-last (l .loop .inv .0) (start l) (c .before .before .put-last2 .ensures)
 
 pub put-run-spec : {M : Type 1} → statement M
 put-run-spec =
@@ -103,15 +109,16 @@ put-run-spec =
     loop-holds
     add-loop
     add-if1
+    put-last-requires
     same-length
     returns
     values-requires
     letters-in-requires
     put-twelve-requires
     may-end-requires
-    add-t16
-    units-requires
     add-t18
+    units-requires
+    add-t20
     same-length-2
     returns-2
     same-length-3
@@ -120,5 +127,6 @@ put-run-spec =
     add-n
     loop-less
     loop-again
+    put-last-requires-2
     same-length-4
     returns-4)
