@@ -186,7 +186,11 @@ last-done {s} from {at} {end} {n} {u} {out} {out'} {xs} {ys} l few v e q y d h =
     }
 
 -- three letters, by their values
-module _ {s : List ℕ} {from : ℕ} {xs : List ℕ} (h : from + 32 ≤ length s) (v : Values s from xs) (o : One xs) where
+dash-letter : setB slash 45 ≡ false
+unfolding setB valueOf
+dash-letter = refl
+
+module _ {s : List ℕ} {from : ℕ} {xs : List ℕ} (h : from + 32 ≤ length s) (v : Values s from xs) (o : One xs (getD s (from + 3) 0)) where
   pub one-run : Run s from (from + 3)
   unfolding setB
   one-run =
@@ -194,13 +198,15 @@ module _ {s : List ℕ} {from : ℕ} {xs : List ℕ} (h : from + 32 ≤ length s
       let a : valueOf slash (getD s from 0) < 64 = rw (rw z at (v .so 0 (lit< tt))) at (o .first) in
       let b : valueOf slash (getD s (from + 1) 0) < 64 = rw (v .so 1 (lit< tt)) at (o .second) in
       let c : valueOf slash (getD s (from + 2) 0) < 64 = rw (v .so 2 (lit< tt)) at (o .third) in
-      let d : 63 < valueOf slash (getD s (from + 3) 0) = rw (v .so 3 (lit< tt)) at (o .over) in
-      three-run s from (omega arith) (lt-ltb _ 64 a) (lt-ltb _ 64 b) (lt-ltb _ 64 c) (le-ltb _ 64 d) (rw (v .so 2 (lit< tt)) at (o .ends))
+      three-run s from (omega arith) (lt-ltb _ 64 a) (lt-ltb _ 64 b) (lt-ltb _ 64 c) (rw (o .over) dash-letter) (rw (v .so 2 (lit< tt)) at (o .ends))
 
   pub one-units : unitsIn s from (from + 3) ≡ ((getD xs 0 0 * 64 + getD xs 1 0) * 16 + getD xs 2 0 / 4) ∷ []
   one-units =
       let x : Known s from (from + 3) (λ k. getD xs k 0) = record { so = λ k l. v .so k (omega arith) } in
       one-unit (one-run .letters) x (omega arith) (omega arith)
+
+  pub one-past : past s (from + 3) ≡ from + 4
+  one-past = rw (o .over) (omega arith)
 
 -- slices side by side
 slice-join : (s : List ℕ) (from at to : ℕ) → from ≤ at → at ≤ to → to ≤ length s → slice from to s ≡ slice from at s ++ slice at to s
@@ -361,10 +367,13 @@ module _ {s : List ℕ} {at n : ℕ} {a : List ℕ} (f : Filled s at outside n a
         rw (q, e, p .same to) (filled-stride f (run-stride sign-here d) (rw e at l))
 
     pub filled-one :
-        {xs : List ℕ} → n < length a → at + 1 + 32 ≤ length room → Values room (at + 1) xs → One xs →
-        Filled s (past room (at + 1 + 3)) outside (n + 1) (set a n ((getD xs 0 0 * 64 + getD xs 1 0) * 16 + getD xs 2 0 / 4))
+        {xs : List ℕ} → n < length a → at + 1 + 32 ≤ length room → Values room (at + 1) xs → One xs (getD room (at + 1 + 3) 0) →
+        Filled s (at + 5) outside (n + 1) (set a n ((getD xs 0 0 * 64 + getD xs 1 0) * 16 + getD xs 2 0 / 4))
     filled-one {xs} g h v o =
-        filled-run (one-run h v o) (rw (one-units h v o) (laid-one n _ a g)) (rw (one-units h v o))
+        let q : past room (at + 1 + 3) ≡ at + 5 = one-past h v o ∙ omega arith in
+        let f : Filled s (past room (at + 1 + 3)) outside (n + 1) (set a n ((getD xs 0 0 * 64 + getD xs 1 0) * 16 + getD xs 2 0 / 4)) =
+        filled-run (one-run h v o) (rw (one-units h v o) (laid-one n _ a g)) (rw (one-units h v o)) in
+        rw q at f
 
 pub filled-start : (s a : List ℕ) → Filled s 0 outside 0 a
 filled-start s a = record { left = left-start utf7 s; front = refl }

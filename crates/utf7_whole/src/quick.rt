@@ -98,11 +98,12 @@ fn letters_in(x: [u8; 32]) -> usize
     m as usize
 }
 
-// Three letters and another byte are a run of one unit.
-fn is_one(x: [u8; 32]) -> bool
-    ensures { λ r. ⌜ (r ≡ true → One x) ⌝ }
+// Three letters and '-' are a run of one unit. One that another byte ends is read as longer runs are: so the next place is a number of bytes
+// further on that is known, and no load is waited for.
+fn is_one(x: [u8; 32], over: u8) -> bool
+    ensures { λ r. ⌜ (r ≡ true → One x over) ⌝ }
 {
-    (x[0] < 64) & (x[1] < 64) & (x[2] < 64) & (63 < x[3]) & (x[2] % 4 == 0)
+    (x[0] < 64) & (x[1] < 64) & (x[2] < 64) & (over == b'-') & (x[2] % 4 == 0)
 }
 
 fn wide(x: u8) -> u32
@@ -349,10 +350,10 @@ pub fn fill(text: &[u8], out: &mut [u32]) -> Reached
             }
             let from = at + 1;
             let x = values(text, from);
-            if is_one(x) {
+            if is_one(x, text[from + 3]) {
                 out[n] = first(wide(x[0]), wide(x[1]), wide(x[2]));
                 n += 1;
-                at = past_run(text, from + 3);
+                at += 5;
             } else {
                 if text[from] == b'-' {
                     out[n] = 43;
@@ -473,9 +474,9 @@ pub fn judge(text: &[u8]) -> Reached
                 return Reached { at, n };
             }
             let from = at + 1;
-            if is_one(values(text, from)) {
+            if is_one(values(text, from), text[from + 3]) {
                 n += 1;
-                at = past_run(text, from + 3);
+                at += 5;
             } else {
                 if text[from] == b'-' {
                     n += 1;

@@ -104,6 +104,12 @@ add-from c = search needs
 values-requires : tie.Need-values-requires Inv-loop μ-loop
 values-requires c κs = omega (arith, near (c .before .before .before))
 
+add-is-one : tie.Need-add-is-one Inv-loop μ-loop
+add-is-one c = omega (arith, near (c .before .before .before .before))
+
+shared-slice-read-is-one : tie.Need-shared-slice-read-is-one Inv-loop μ-loop
+shared-slice-read-is-one c = omega (arith, near (c .before .before .before .before .before))
+
 is-one-requires : tie.Need-is-one-requires Inv-loop μ-loop
 is-one-requires c κs = search needs
 
@@ -131,7 +137,7 @@ first-requires c κs = let o = c .before .before .before .before .is-one .ensure
 
 -- the sign, from behind the values of what follows it
 abbrev here : tie.After-is-one Inv-loop μ-loop → W
-here c = c .before .before .before .before .before
+here c = c .before .before .before .before .before .before
 
 mul-out : tie.Need-mul-out Inv-loop μ-loop
 mul-out c = omega (arith, room (here (c .before .before .before .before .before)))
@@ -142,22 +148,19 @@ slice-write-out c = room (here (c .before .before .before .before .before))
 add-n-3 : tie.Need-add-n-3 Inv-loop μ-loop
 add-n-3 c = omega (arith, room (here (c .before .before .before .before .before)))
 
-add-past-run : tie.Need-add-past-run Inv-loop μ-loop
-add-past-run c = omega (arith, near (here (c .before .before .before .before .before)))
-
-past-run-requires : tie.Need-past-run-requires Inv-loop μ-loop
-past-run-requires c κs = search needs
+add-at-3 : tie.Need-add-at-3 Inv-loop μ-loop
+add-at-3 c = omega (arith, near (here (c .before .before .before .before .before)))
 
 loop-less-2 : tie.Need-loop-less-2 Inv-loop μ-loop
-loop-less-2 c = let w = here (c .before .before .before .before .before .before) in
-    rw (c .past-run .ensures) (omega (arith, past-on (top w .before .before .before .before .args .text .now) (top w .before .loop .at + w .before .before .before .before .direct-ahead .result + 1 + 3), near w))
+loop-less-2 c = omega (arith, near (here (c .before .before .before .before .before)))
 
 loop-again-2 : tie.Need-loop-again-2 Inv-loop μ-loop
-loop-again-2 c = let o = c .before .before .before .before .before .before in
+loop-again-2 c =
+    let o = c .before .before .before .before .before in
     let w = here o in (
       λ s p.
-          rw (c .past-run .ensures, c .before .first .ensures, c .before .before .before .before .wide .ensures, c .before .before .before .wide2 .ensures, c .before .before .wide3 .ensures)
-          (filled-one (direct w s p) p (o .before .before .if3 .left) (room w) (omega (arith, near w)) (o .before .values .ensures) (o .is-one .ensures (c .before .before .before .before .before .if4 .taken))),
+          rw (c .first .ensures, c .before .before .before .wide .ensures, c .before .before .wide2 .ensures, c .before .wide3 .ensures)
+          (filled-one (direct w s p) p (o .before .before .before .if3 .left) (room w) (omega (arith, near w)) (o .before .before .values .ensures) (o .is-one .ensures (c .before .before .before .before .if4 .taken))),
       simp length-set (same w),
       simp length-set (omega (arith, room w)),
     )
@@ -174,8 +177,8 @@ slice-write-out-2 c = room (here (c .before .before .before))
 add-n-4 : tie.Need-add-n-4 Inv-loop μ-loop
 add-n-4 c = omega (arith, room (here (c .before .before .before)))
 
-add-at-3 : tie.Need-add-at-3 Inv-loop μ-loop
-add-at-3 c = omega (arith, near (here (c .before .before .before)))
+add-at-4 : tie.Need-add-at-4 Inv-loop μ-loop
+add-at-4 c = omega (arith, near (here (c .before .before .before)))
 
 loop-less-3 : tie.Need-loop-less-3 Inv-loop μ-loop
 loop-less-3 c = omega (arith, near (here (c .before .before .before)))
@@ -183,7 +186,7 @@ loop-less-3 c = omega (arith, near (here (c .before .before .before)))
 loop-again-3 : tie.Need-loop-again-3 Inv-loop μ-loop
 loop-again-3 c = let o = c .before .before .before in
     let w = here o in
-    (λ s p. filled-sign (direct w s p) p (o .before .before .if3 .left) (room w) (c .if5 .taken), simp length-set (same w), simp length-set (omega (arith, room w)))
+    (λ s p. filled-sign (direct w s p) p (o .before .before .before .if3 .left) (room w) (c .if5 .taken), simp length-set (same w), simp length-set (omega (arith, room w)))
 
 put-run-requires : tie.Need-put-run-requires Inv-loop μ-loop
 put-run-requires c κs = let w = here (c .before .before .before .before) in (omega (arith, near w), omega (arith, room w))
@@ -196,14 +199,14 @@ returns-3 : tie.Need-returns-3 Inv-loop μ-loop
 returns-3 c s p = let r = c .before .before .before in
     filled-kept (direct (here (r .before .before .before .before .before)) s p) (r .put-run .ensures .kept)
 
-past-run-requires-2 : tie.Need-past-run-requires-2 Inv-loop μ-loop
-past-run-requires-2 c κs = search needs
+past-run-requires : tie.Need-past-run-requires Inv-loop μ-loop
+past-run-requires c κs = search needs
 
 loop-less-4 : tie.Need-loop-less-4 Inv-loop μ-loop
 loop-less-4 c = let r = c .before .before .before .before in
     let w = here (r .before .before .before .before .before) in
     let q = r .put-run .ensures .run (c .before .if6 .left) in
-    rw (c .past-run2 .ensures) (omega (arith, past-on (top w .before .before .before .before .args .text .now) (r .put-run .result .at), q .some, near w))
+    rw (c .past-run .ensures) (omega (arith, past-on (top w .before .before .before .before .args .text .now) (r .put-run .result .at), q .some, near w))
 
 loop-again-4 : tie.Need-loop-again-4 Inv-loop μ-loop
 loop-again-4 c = let r = c .before .before .before .before in
@@ -211,7 +214,7 @@ loop-again-4 c = let r = c .before .before .before .before in
     let w = here o in
     let z = c .before .if6 .left in
     let e = r .put-run .ensures in (
-      λ s p. rw (c .past-run2 .ensures) (filled-run (direct w s p) p (o .before .before .if3 .left) (e .run z) (e .laid z) (e .count z)),
+      λ s p. rw (c .past-run .ensures) (filled-run (direct w s p) p (o .before .before .before .if3 .left) (e .run z) (e .laid z) (e .count z)),
       e .kept .same ∙ same w,
       omega (arith, e .count z, laid-room (e .laid z) (omega (arith, room w))),
     )
@@ -246,6 +249,8 @@ fill-spec =
     returns-2
     add-from
     values-requires
+    add-is-one
+    shared-slice-read-is-one
     is-one-requires
     array-read-wide
     wide-requires
@@ -257,21 +262,20 @@ fill-spec =
     mul-out
     slice-write-out
     add-n-3
-    add-past-run
-    past-run-requires
+    add-at-3
     loop-less-2
     loop-again-2
     shared-slice-read-if5
     mul-out-2
     slice-write-out-2
     add-n-4
-    add-at-3
+    add-at-4
     loop-less-3
     loop-again-3
     put-run-requires
     same-length-3
     returns-3
-    past-run-requires-2
+    past-run-requires
     loop-less-4
     loop-again-4
     same-length-4

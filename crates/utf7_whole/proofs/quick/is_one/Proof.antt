@@ -16,9 +16,6 @@ array-read-result-3 c = search needs
 array-read-result-4 : tie.Need-array-read-result-4
 array-read-result-4 c = search needs
 
-array-read-result-5 : tie.Need-array-read-result-5
-array-read-result-5 c = search needs
-
 returns : tie.Need-returns
 returns c = λ e.
     let f = both _ _ e in
@@ -29,7 +26,7 @@ returns c = λ e.
       first = ltb-true _ _ (i .0);
       second = ltb-true _ _ (i .1);
       third = ltb-true _ _ (h .1);
-      over = ltb-true _ _ (g .1);
+      over = eqb-true _ _ (g .1);
       ends = eqb-true _ _ (f .1);
     }
 
@@ -41,5 +38,4 @@ is-one-spec =
     array-read-result-2
     array-read-result-3
     array-read-result-4
-    array-read-result-5
     returns)

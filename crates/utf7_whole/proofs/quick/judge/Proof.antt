@@ -66,31 +66,33 @@ add-from c = omega (arith, near (c .before .before .before))
 values-requires : tie.Need-values-requires Inv-loop μ-loop
 values-requires c κs = omega (arith, near (c .before .before .before))
 
+add-is-one : tie.Need-add-is-one Inv-loop μ-loop
+add-is-one c = omega (arith, near (c .before .before .before .before))
+
+shared-slice-read-is-one : tie.Need-shared-slice-read-is-one Inv-loop μ-loop
+shared-slice-read-is-one c = omega (arith, near (c .before .before .before .before .before))
+
 is-one-requires : tie.Need-is-one-requires Inv-loop μ-loop
 is-one-requires c κs = search needs
 
 -- the sign, from behind the values of what follows it
 abbrev here : tie.After-is-one Inv-loop μ-loop → D
-here c = c .before .before .before .before .before
+here c = c .before .before .before .before .before .before
 
 add-n-3 : tie.Need-add-n-3 Inv-loop μ-loop
 add-n-3 c = let d = here (c .before) in omega (arith, near d, direct d .few)
 
-add-past-run : tie.Need-add-past-run Inv-loop μ-loop
-add-past-run c = omega (arith, near (here (c .before)))
-
-past-run-requires : tie.Need-past-run-requires Inv-loop μ-loop
-past-run-requires c κs = search needs
+add-at-3 : tie.Need-add-at-3 Inv-loop μ-loop
+add-at-3 c = omega (arith, near (here (c .before)))
 
 loop-less-2 : tie.Need-loop-less-2 Inv-loop μ-loop
-loop-less-2 c = let d = here (c .before .before) in
-    let l = d .before .before in
-    rw (c .past-run .ensures) (omega (arith, past-on (l .before .before .args .text .now) (l .loop .at + d .direct-ahead .result + 1 + 3), near d))
+loop-less-2 c = omega (arith, near (here (c .before)))
 
 loop-again-2 : tie.Need-loop-again-2 Inv-loop μ-loop
-loop-again-2 c = let o = c .before .before in
+loop-again-2 c =
+    let o = c .before in
     let d = here o in
-    rw (c .past-run .ensures) (left-one (direct d) (o .before .before .if2 .left) (omega (arith, near d)) (o .before .values .ensures) (o .is-one .ensures (c .before .if3 .taken)))
+    left-one (direct d) (o .before .before .before .if2 .left) (omega (arith, near d)) (o .before .before .values .ensures) (o .is-one .ensures (c .if3 .taken))
 
 shared-slice-read-if4 : tie.Need-shared-slice-read-if4 Inv-loop μ-loop
 shared-slice-read-if4 c = omega (arith, near (here (c .before .before)))
@@ -98,14 +100,14 @@ shared-slice-read-if4 c = omega (arith, near (here (c .before .before)))
 add-n-4 : tie.Need-add-n-4 Inv-loop μ-loop
 add-n-4 c = let d = here (c .before .before .before) in omega (arith, near d, direct d .few)
 
-add-at-3 : tie.Need-add-at-3 Inv-loop μ-loop
-add-at-3 c = omega (arith, near (here (c .before .before .before)))
+add-at-4 : tie.Need-add-at-4 Inv-loop μ-loop
+add-at-4 c = omega (arith, near (here (c .before .before .before)))
 
 loop-less-3 : tie.Need-loop-less-3 Inv-loop μ-loop
 loop-less-3 c = omega (arith, near (here (c .before .before .before)))
 
 loop-again-3 : tie.Need-loop-again-3 Inv-loop μ-loop
-loop-again-3 c = let o = c .before .before .before in left-sign (direct (here o)) (o .before .before .if2 .left) (c .if4 .taken)
+loop-again-3 c = let o = c .before .before .before in left-sign (direct (here o)) (o .before .before .before .if2 .left) (c .if4 .taken)
 
 judge-run-requires : tie.Need-judge-run-requires Inv-loop μ-loop
 judge-run-requires c κs = omega (arith, near (here (c .before .before .before)))
@@ -124,7 +126,7 @@ run :
     let at = l .loop .at + d .direct-ahead .result in
     let end = c .before .judge-run .result in
     Left utf7 (l .before .before .args .text .now) (past (l .before .before .args .text .now) end) outside (l .loop .n + d .direct-ahead .result + (end - (at + 1)) * 6 / 16)
-run c = left-run (direct (here (opened c))) (opened c .before .before .if2 .left) (c .before .judge-run .ensures (c .if5 .left))
+run c = left-run (direct (here (opened c))) (opened c .before .before .before .if2 .left) (c .before .judge-run .ensures (c .if5 .left))
 
 sub-units : tie.Need-sub-units Inv-loop μ-loop
 sub-units c = omega (arith, c .before .judge-run .ensures (c .if5 .left) .some)
@@ -135,16 +137,16 @@ units-requires c κs = search needs
 add-n-5 : tie.Need-add-n-5 Inv-loop μ-loop
 add-n-5 c = let l = run (c .before) in omega (arith, c .units .ensures, l .few, l .within)
 
-past-run-requires-2 : tie.Need-past-run-requires-2 Inv-loop μ-loop
-past-run-requires-2 c κs = search needs
+past-run-requires : tie.Need-past-run-requires Inv-loop μ-loop
+past-run-requires c κs = search needs
 
 loop-less-4 : tie.Need-loop-less-4 Inv-loop μ-loop
 loop-less-4 c = let e = c .before .before in
     let d = here (opened e) in
-    rw (c .past-run2 .ensures) (omega (arith, past-on (d .before .before .before .before .args .text .now) (e .before .judge-run .result), e .before .judge-run .ensures (e .if5 .left) .some, near d))
+    rw (c .past-run .ensures) (omega (arith, past-on (d .before .before .before .before .args .text .now) (e .before .judge-run .result), e .before .judge-run .ensures (e .if5 .left) .some, near d))
 
 loop-again-4 : tie.Need-loop-again-4 Inv-loop μ-loop
-loop-again-4 c = rw (c .past-run2 .ensures, c .before .units .ensures) (run (c .before .before))
+loop-again-4 c = rw (c .past-run .ensures, c .before .units .ensures) (run (c .before .before))
 
 returns-3 : tie.Need-returns-3 Inv-loop μ-loop
 returns-3 c = c .before .loop .inv
@@ -168,15 +170,16 @@ judge-spec =
     returns
     add-from
     values-requires
+    add-is-one
+    shared-slice-read-is-one
     is-one-requires
     add-n-3
-    add-past-run
-    past-run-requires
+    add-at-3
     loop-less-2
     loop-again-2
     shared-slice-read-if4
     add-n-4
-    add-at-3
+    add-at-4
     loop-less-3
     loop-again-3
     judge-run-requires
@@ -184,7 +187,7 @@ judge-spec =
     sub-units
     units-requires
     add-n-5
-    past-run-requires-2
+    past-run-requires
     loop-less-4
     loop-again-4
     returns-3)
