@@ -5,7 +5,7 @@ use mathlib.Core.Bool.{Bool, true, false, cond, false≢true}
 use mathlib.Core.List.{List, [], _∷_, _++_, append-nil}
 use native.Mathlib.Nat.{add-zero, zero-add}
 use native.Mathlib.Omega.{arith}
-use lib.ListN.{length, getD, take, drop, set, length-append, length-take, replicate, List·getD-eq-default}
+use lib.ListN.{length, getD, take, drop, set, length-append, length-drop, length-take, replicate, List·getD-eq-default}
 use lib.Seq.{slice, length-slice, length-take-le, take-take, take-at, take-add, take-length, ext-getD, getD-set-other}
 use lib.Dec.{ltb, eqb, lit<}
 use borrow.Author.Tests.{eqb-true, ltb-true, ltb-false, lt-ltb, le-ltb}
@@ -252,6 +252,10 @@ padding-done {s} {room} {k} p e = record { same = λ i. by i (ltb i k) refl }
 pub padded-self : (s : List ℕ) → Padded s s
 padded-self s = record { same = λ i. refl }
 
+-- the rest of a text, as it is lent
+pub padded-part : (s : List ℕ) (at : ℕ) → Padded (drop at s) (take (length s - at) (drop at s))
+padded-part s at = rw (← length-drop at s, take-length (drop at s)) (padded-self (drop at s))
+
 -- what stands in a text that is lent with zeros behind it stands in the text
 zero-direct : direct 0 ≡ false
 unfolding direct setD setO alphanumeric
@@ -322,6 +326,9 @@ module _ {s : List ℕ} {at : ℕ} {st : Shift} {n : ℕ} {a : List ℕ} (f : Fi
   -- places further on are written
   pub filled-kept : {b : List ℕ} → Laid [] n a b → Filled s at st n b
   filled-kept l = record { left = f .left; front = rw (add-zero, append-nil) at (l .front) ∙ f .front }
+
+  pub filled-in : n ≤ length a
+  filled-in = omega (arith, ap length (f .front), length-take n a, length-take-le n (reading utf7 s .cells) (f .left .inside))
 
   pub filled-done : n ≡ length (reading utf7 s .cells) → take (length (reading utf7 s .cells)) a ≡ reading utf7 s .cells
   filled-done e = ap (λ (k : ℕ). take k a) (sym e) ∙ f .front ∙ rw (e, take-length (reading utf7 s .cells))

@@ -1,3 +1,4 @@
 pub mod Tokens
 pub mod Buffers
 pub mod Judged
+pub mod Agreed

@@ -3,15 +3,16 @@ use Prim.Native.Nat.{ℕ, zero, suc, _+_, _-_, _*_, _/_, _%_, _<_, _≤_}
 use mathlib.Core.Path.{_≡_}
 use mathlib.Core.Bool.{Bool, true, false, cond}
 use mathlib.Core.List.{List, [], _∷_, _++_, map}
-use lib.ListN.{length, getD, take}
+use lib.ListN.{length, getD, take, drop}
 use lib.Seq.{slice}
 use lib.Dec.{eqb}
 use Rattle.answer.specs.Inner.{Laid}
 use Rattle.bits.specs.Bits.{bitsOf, full, leftOver}
 use Rattle.base64.specs.Letters.{valueOf, setB, slash}
-use Rattle.reading.specs.Reading.{reading}
+use Rattle.reading.specs.Reading.{readFrom, reading}
 use Rattle.reading.specs.Inner.{Left}
-use Rattle.utf7.specs.Rule.{Shift, mayEnd, utf7}
+use Rattle.reading.specs.Matching.{gave, readsAs}
+use Rattle.utf7.specs.Rule.{Shift, outside, mayEnd, utf7}
 
 -- a text with zeros behind it, or none
 pub record Padded (s room : List ℕ) : Type 0 where
@@ -114,3 +115,15 @@ pub record Last (s : List ℕ) (from at n : ℕ) (out out' : List ℕ) (end m : 
   pub closed : (end ≡ from → ⊥) → closes (end - at) (valueOf slash (getD s (end - 1) 0)) ≡ true
   pub laid : (end ≡ from → ⊥) → Laid (unitsIn s at end) n out out'
   pub count : (end ≡ from → ⊥) → m ≡ n + (end - at) * 6 / 16
+
+-- the first n cells of a text are those of a list: whether the text reads as the list is whether its rest does as the list's
+pub record Agrees (s cells : List ℕ) (at n : ℕ) : Type 0 where
+  pub within : at ≤ length s
+  pub few : n ≤ at
+  pub inside : n ≤ length cells
+  pub so : gave (readFrom utf7 (drop at s) at outside) (drop n cells) ≡ readsAs utf7 s cells
+
+-- and what comparing found: so far the same, or another cell
+pub record Compared (s cells : List ℕ) (at n : ℕ) (same : Bool) : Type 0 where
+  pub agrees : same ≡ true → Agrees s cells at n
+  pub differs : same ≡ false → false ≡ readsAs utf7 s cells

@@ -13,7 +13,7 @@ ghost use Rattle.answer.specs.Output.{leaves, filled};
 ghost use Rattle.reading.specs.Reading.{verdictOf, reading, readInto};
 ghost use Rattle.reading.specs.Matching.{readsAs};
 ghost use Rattle.utf7.specs.Rule.{utf7};
-ghost use Rattle.utf7_whole.specs.Quick.{Padded};
+ghost use Rattle.utf7_whole.specs.Quick.{Padded, Agrees};
 
 // A text goes to the front of a room of zeros.
 fn pad(text: &[u8], room: &mut [u8])
@@ -176,12 +176,13 @@ pub fn read(text: &[u8], out: &mut [u32]) -> Answer
     straight(text, out)
 }
 
-// The text is accepted and reads as the cells. Nothing is lent to be written.
-pub fn reads_as(text: &[u8], cells: &[u32]) -> bool
+// What is left of a text reads as what is left of the cells, from a place outside a run on.
+fn rest_reads_as(text: &[u8], cells: &[u32], from: usize, before: usize) -> bool
+    requires { ⌜ Agrees (now text) (now cells) from before ⌝ }
     ensures { λ r. ⌜ r ≡ readsAs utf7 (now (text .entry)) (now (cells .entry)) ⌝ }
 {
-    let mut at: usize = 0;
-    let mut n: usize = 0;
+    let mut at = from;
+    let mut n = before;
     let mut st = State::Outside;
     while at < text.len() {
         match utf7_read::byte_does(st, text[at]) {
@@ -209,4 +210,15 @@ pub fn reads_as(text: &[u8], cells: &[u32]) -> bool
         Answer::Accepted(_) => n == cells.len(),
         Answer::Refused(_, _) => false,
     }
+}
+
+// The text is accepted and reads as the cells. Nothing is lent to be written.
+pub fn reads_as(text: &[u8], cells: &[u32]) -> bool
+    ensures { λ r. ⌜ r ≡ readsAs utf7 (now (text .entry)) (now (cells .entry)) ⌝ }
+{
+    let found = quick::compare(text, cells);
+    if found.same {
+        return rest_reads_as(text, cells, found.at, found.n);
+    }
+    false
 }

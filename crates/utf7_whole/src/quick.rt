@@ -6,15 +6,16 @@ ghost use mathlib.Core.Path.{_≡_};
 ghost use mathlib.Core.Bool.{true, cond, _&&_};
 ghost use mathlib.Core.List.{List};
 ghost use Prim.Native.Nat.{ℕ, _<_, _≤_, _+_, _-_, _*_, _/_, _%_};
-ghost use lib.ListN.{length, getD, take};
+ghost use lib.ListN.{length, getD, take, drop};
 ghost use lib.Seq.{slice};
 ghost use lib.Dec.{leb, ltb};
 ghost use Rattle.answer.specs.Inner.{Laid};
 ghost use Rattle.base64.specs.Letters.{valueOf, setB, slash};
 ghost use Rattle.reading.specs.Inner.{Left};
+ghost use Rattle.reading.specs.Matching.{sameCells};
 ghost use Rattle.utf7.specs.Sets.{direct};
 ghost use Rattle.utf7.specs.Rule.{outside, utf7};
-ghost use Rattle.utf7_whole.specs.Quick.{Padded, Filled, Span, Ahead, Letters, Run, Values, One, Went, Last, threeOf, unitsOf, lows, closes, stops, past};
+ghost use Rattle.utf7_whole.specs.Quick.{Padded, Filled, Span, Ahead, Letters, Run, Values, One, Went, Last, Compared, threeOf, unitsOf, lows, closes, stops, past};
 
 // Where a loop stopped: outside a run, after n cells.
 pub struct Reached {
@@ -493,4 +494,52 @@ pub fn judge(text: &[u8]) -> Reached
         }
     }
     Reached { at, n }
+}
+
+// How far a text and cells were compared, outside a run, and whether they were the same.
+pub struct Found {
+    pub at: usize,
+    pub n: usize,
+    pub same: bool,
+}
+
+// The first n cells of a buffer are those of a list from a place on. Each is compared, so that it compiles to no branch.
+fn is_same(cells: &[u32], n: usize, list: &[u32], from: usize) -> bool
+    requires { ⌜ (n ≤ length (now cells)) × (from + n ≤ length (now list)) ⌝ }
+    ensures { λ r. ⌜ r ≡ sameCells (take n (now (cells .entry))) (take n (drop from (now (list .entry)))) ⌝ }
+{
+    let mut same = true;
+    let mut k: usize = 0;
+    while k < n {
+        same = same & (cells[k] == list[from + k]);
+        k += 1;
+    }
+    same
+}
+
+// Compares a text with cells, as many at a time as a buffer takes.
+pub fn compare(text: &[u8], cells: &[u32]) -> Found
+    ensures { λ r. ⌜ Compared (now (text .entry)) (now (cells .entry)) (r .at) (r .n) (r .same) ⌝ }
+{
+    let mut buffer = [0u32; 1088];
+    let mut at: usize = 0;
+    let mut n: usize = 0;
+    while at < text.len() {
+        let r = fill(&text[at..], &mut buffer);
+        let to = r.at;
+        let m = r.n;
+        if to == 0 {
+            return Found { at, n, same: true };
+        }
+        if cells.len() - n < m {
+            return Found { at, n, same: false };
+        }
+        if is_same(&buffer, m, cells, n) {
+            at += to;
+            n += m;
+        } else {
+            return Found { at, n, same: false };
+        }
+    }
+    Found { at, n, same: true }
 }
