@@ -23,7 +23,7 @@ use Rattle.jp2.proofs.Round.{byte-first, byte-second, byte-n, byte-shifted}
 use Rattle.jp2.specs.declared.Designation.{Designation}
 use Rattle.jp2.proofs.Search.{at-any}
 use Rattle.jp2.proofs.Table.{rows, row-walk, table-rule, row-size}
-use Rattle.jp2_whole.specs.Quick.{codeOf, Sends, Designates, Found, Plains, Stretch}
+use Rattle.jp2_whole.specs.Quick.{codeOf, Sends, Designates, RowAt, Shift, Pair, Spanned, Plains, Stretch, Pairs}
 
 -- the state between cells
 abbrev pub at-rest : ℕ → ℕ → State
@@ -74,7 +74,7 @@ module _ (s : List ℕ) (at g0 g2 : ℕ) (h : at < length s) where
       go-by true e = rw e (stride-as (stride-give h (rw e at (byte-one g0 g2 b m k))) (return-reads s (at + 1) g0 g2 m))
       go-by false e = rw e (stride-give h (rw e at (byte-one g0 g2 b m k)))
 
--- a printing byte, and a control byte
+-- a printing byte
 ascii-high : (b : ℕ) → 32 ≤ b → b < 128 → (ascii b ≡ true) × (eqb b 13 ≡ false)
 unfolding ascii
 ascii-high b h k =
@@ -88,12 +88,6 @@ module _ {s : List ℕ} {at g0 g2 : ℕ} (h : at < length s) (m : single g0 ≡ 
   high-stride l k =
       let q = ascii-high (getD s at 0) l k in
       rw (q .1) at (single-stride s at g0 g2 h m (q .0))
-
-  pub low-stride :
-      getD s at 0 < 32 → ascii (getD s at 0) ≡ true →
-      Stride jp2 s at (at-rest g0 g2) (at + 1) (cellOf 6 (getD s at 0) ∷ []) (at-rest g0 (cond (eqb (getD s at 0) 13 && eqb (getD s (at + 1) 0) 10) 0 g2))
-  unfolding graphic
-  low-stride l k = rw (lt-leb 33 (getD s at 0) (omega arith)) at (single-stride s at g0 g2 h m k)
 
 -- SO and SI
 pub ascii-out : (b : ℕ) → 14 ≤ b → b ≤ 15 → ascii b ≡ false
@@ -139,37 +133,70 @@ plains-stride {s} {from} {to} p =
     rw z at (plains-from (to - from) s from (omega (arith, p .within, p .ordered)) (λ i a b. p .each i a (omega (arith, p .ordered))))
 
 -- a pair
-module _ {s : List ℕ} {at g0 g2 : ℕ} (h : at + 1 < length s) where
+neither-set : (a b : Bool) → (a || b) ≡ false → (a ≡ false) × (b ≡ false)
+neither-set true b e = absurd (true≢false e)
+neither-set false b e = (refl, e)
+
+module _ (s : List ℕ) (g0 : ℕ) where
+  -- the cells of pairs
+  pub pairsOf : ℕ → ℕ → List ℕ
+  pairsOf from zero = []
+  pairsOf from (suc k) = cellOf g0 (getD s from 0 * 256 + getD s (from + 1) 0) ∷ pairsOf (from + 2) k
+
+  pub pairs-count : (from k : ℕ) → length (pairsOf from k) ≡ k
+  unfolding pairsOf
+  pairs-count from zero = refl
+  pairs-count from (suc k) = ap suc (pairs-count (from + 2) k)
+
+module _ {s : List ℕ} {g0 : ℕ} (m : single g0 ≡ false) where
   pub pair-stride :
-      single g0 ≡ false → (graphic (getD s at 0) && graphic (getD s (at + 1) 0)) ≡ true →
+      {at g2 : ℕ} → Pair s at →
       Stride jp2 s at (at-rest g0 g2) (at + 2) (cellOf g0 (getD s at 0 * 256 + getD s (at + 1) 0) ∷ []) (at-rest g0 g2)
-  pair-stride m k =
-      let q = both (graphic (getD s at 0)) _ k in
+  pair-stride {at} {g2} p =
+      let q = both (graphic (getD s at 0)) _ (p .codes) in
       let o = neither-set (eqb g0 6) (eqb g0 14) m in
       stride-to
-      (stride-on (stride-go (omega arith) (byte-first g0 g2 (getD s at 0) (q .0) false (o .0) (o .1)))
-      (stride-give h (byte-second g0 g2 (getD s (at + 1) 0) (q .1) (getD s at 0))))
+      (stride-on (stride-go (omega (arith, p .within)) (byte-first g0 g2 (getD s at 0) (q .0) false (o .0) (o .1)))
+      (stride-give (p .within) (byte-second g0 g2 (getD s (at + 1) 0) (q .1) (getD s at 0))))
       (omega arith)
-    where
-      neither-set : (a b : Bool) → (a || b) ≡ false → (a ≡ false) × (b ≡ false)
-      neither-set true b e = absurd (true≢false e)
-      neither-set false b e = (refl, e)
+
+  pairs-from :
+      (k from g2 : ℕ) → from + k * 2 ≤ length s → ((i : ℕ) → from ≤ i → i < from + k * 2 → graphic (getD s i 0) ≡ true) →
+      Stride jp2 s from (at-rest g0 g2) (from + k * 2) (pairsOf s g0 from k) (at-rest g0 g2)
+  unfolding pairsOf
+  pairs-from zero from g2 h e = stride-to (stride-stay (omega arith)) (omega arith)
+  pairs-from (suc k) from g2 h e =
+      let p : Pair s from =
+      record {
+        within = omega arith;
+        codes = rw (e from (omega arith) (omega arith), e (from + 1) (omega arith) (omega arith));
+      } in
+      stride-to
+      (stride-on (pair-stride p) (pairs-from k (from + 2) g2 (omega arith) (λ i a b. e i (omega arith) (omega arith))))
+      (omega arith)
+
+  pub pairs-stride :
+      {from to g2 : ℕ} (p : Pairs s from to) →
+      Stride jp2 s from (at-rest g0 g2) to (pairsOf s g0 from (p .count)) (at-rest g0 g2)
+  pairs-stride {from} {to} {g2} p =
+      stride-to
+      (pairs-from (p .count) from g2 (omega (arith, p .size, p .codes .within)) (λ i a b. p .codes .each i a (omega (arith, p .size))))
+      (sym (p .size))
 
 -- ESC N and a byte
-module _ {s : List ℕ} {at g0 g2 : ℕ} (h : at + 2 < length s) where
-  pub shift-stride :
-      getD s at 0 ≡ 27 → getD s (at + 1) 0 ≡ 78 → (not (eqb g2 0) && (leb 32 (getD s (at + 2) 0) && ltb (getD s (at + 2) 0) 128)) ≡ true →
-      Stride jp2 s at (at-rest g0 g2) (at + 3) (cellOf g2 (getD s (at + 2) 0) ∷ []) (at-rest g0 g2)
+module _ {s : List ℕ} {at g0 g2 : ℕ} where
+  pub shift-stride : getD s at 0 ≡ 27 → Shift s at g2 → Stride jp2 s at (at-rest g0 g2) (at + 3) (cellOf g2 (getD s (at + 2) 0) ∷ []) (at-rest g0 g2)
   unfolding betweenDoes
-  shift-stride e n k =
+  shift-stride e k =
       let x = getD s (at + 2) 0 in
-      let w = both (not (eqb g2 0)) _ k in
+      let w = both (not (eqb g2 0)) _ (k .code) in
       let q = both (leb 32 x) _ (w .1) in
+      let h = k .within in
       let a : at + 1 + 1 ≡ at + 2 = omega arith in
       let one : Stride jp2 s at (at-rest g0 g2) (at + 1) [] (state g0 g2 (escape (27 ∷ []))) =
-      stride-go (omega arith) (rw e (byte-between g0 g2 false 27 (lit< tt))) in
+      stride-go (omega (arith, h)) (rw e (byte-between g0 g2 false 27 (lit< tt))) in
       let two : Stride jp2 s (at + 1) (state g0 g2 (escape (27 ∷ []))) (at + 1 + 1) [] (state g0 g2 shifted) =
-      stride-go (omega arith) (rw n (byte-n g0 g2 (not-true (eqb g2 0) (w .0)))) in
+      stride-go (omega (arith, h)) (rw (k .letter) (byte-n g0 g2 (not-true (eqb g2 0) (w .0)))) in
       let three : Stride jp2 s (at + 2) (state g0 g2 shifted) (at + 2 + 1) (cellOf g2 x ∷ []) (at-rest g0 g2) =
       stride-give h (byte-shifted g0 g2 x (leb-true 32 x (q .0)) (omega (arith, ltb-true x 128 (q .1)))) in
       stride-to (stride-on one (stride-on (stride-to two a) three)) (omega arith)
@@ -275,20 +302,22 @@ row-sent {a} {b} {c} {i} h ha hb w =
     (λ (z : getD (rowAt i .escape) 3 0 ≡ c). rw z at (t .1))
     (w .last))
 
-pub plains-stay : {s : List ℕ} {from : ℕ} → from ≤ length s → Plains s from from
-plains-stay h = record { ordered = omega arith; within = h; each = λ i a b. absurd (omega arith) }
+-- a span of bytes of a set
+module _ {set : ℕ → Bool} {s : List ℕ} where
+  pub spanned-stay : {from : ℕ} → from ≤ length s → Spanned set s from from
+  spanned-stay h = record { ordered = omega arith; within = h; each = λ i a b. absurd (omega arith) }
 
-pub plains-on : {s : List ℕ} {from at to : ℕ} → Plains s from at → Plains s at to → Plains s from to
-plains-on {s} {from} {at} {to} p q =
-    record {
-      ordered = omega (arith, p .ordered, q .ordered);
-      within = q .within;
-      each = λ i a b. by-side i a b (ltb i at) refl;
-    }
-  where
-    by-side : (i : ℕ) → from ≤ i → i < to → (t : Bool) → ltb i at ≡ t → ascii (getD s i 0) ≡ true
-    by-side i a b true e = p .each i a (ltb-true i at e)
-    by-side i a b false e = q .each i (ltb-false i at e) b
+  pub spanned-on : {from at to : ℕ} → Spanned set s from at → Spanned set s at to → Spanned set s from to
+  spanned-on {from} {at} {to} p q =
+      record {
+        ordered = omega (arith, p .ordered, q .ordered);
+        within = q .within;
+        each = λ i a b. by-side i a b (ltb i at) refl;
+      }
+    where
+      by-side : (i : ℕ) → from ≤ i → i < to → (t : Bool) → ltb i at ≡ t → set (getD s i 0) ≡ true
+      by-side i a b true e = p .each i a (ltb-true i at e)
+      by-side i a b false e = q .each i (ltb-false i at e) b
 
 -- the cells of a stretch, one by one
 getD-map : (l : List ℕ) (k : ℕ) → k < length l → getD (map (cellOf 6) l) k 0 ≡ cellOf 6 (getD l k 0)
@@ -313,11 +342,11 @@ module _ (s : List ℕ) (from to : ℕ) (h : to ≤ length s) where
 
 -- one byte more of a block
 pub each-more :
-    (s : List ℕ) (at k : ℕ) {ok t : Bool} → (ok ≡ true → (i : ℕ) → at ≤ i → i < at + k → ascii (getD s i 0) ≡ true) → (ok && t) ≡ true →
-    t ≡ ascii (getD s (at + k) 0) → (i : ℕ) → at ≤ i → i < at + (k + 1) → ascii (getD s i 0) ≡ true
-each-more s at k {ok} {t} f e q i l m = by-side (ltb i (at + k)) refl (both ok t e)
+    (set : ℕ → Bool) (s : List ℕ) (at k : ℕ) {ok t : Bool} → (ok ≡ true → (i : ℕ) → at ≤ i → i < at + k → set (getD s i 0) ≡ true) → (ok && t) ≡ true →
+    t ≡ set (getD s (at + k) 0) → (i : ℕ) → at ≤ i → i < at + (k + 1) → set (getD s i 0) ≡ true
+each-more set s at k {ok} {t} f e q i l m = by-side (ltb i (at + k)) refl (both ok t e)
   where
-    by-side : (u : Bool) → ltb i (at + k) ≡ u → (ok ≡ true) × (t ≡ true) → ascii (getD s i 0) ≡ true
+    by-side : (u : Bool) → ltb i (at + k) ≡ u → (ok ≡ true) × (t ≡ true) → set (getD s i 0) ≡ true
     by-side true z w = f (w .0) i l (ltb-true i (at + k) z)
     by-side false z w =
         let y : i ≡ at + k = omega (arith, ltb-false i (at + k) z) in
@@ -338,5 +367,5 @@ stretch-bounds {s} {from} {g0} {g2} {to} h w =
     (λ (p : (g0 ≡ 6) × ((g2 ≡ 0) × Plains s from to)). (p .1 .1 .ordered, p .1 .1 .within))
     w
 
-pub designates : {a b c r : ℕ} → Found a b c r → (r ≡ 0 → ⊥) → Designates a b c r
-designates w h = ⊎-elim (λ e. absurd (h e)) (λ d. d) w
+pub row-stands : (s : List ℕ) (at : ℕ) {r : ℕ} → RowAt s at r → (r ≡ 0 → ⊥) → (at + 4 ≤ length s) × Designates (getD s (at + 1) 0) (getD s (at + 2) 0) (getD s (at + 3) 0) r
+row-stands s at w h = ⊎-elim (λ e. absurd (h e)) (λ d. d) w

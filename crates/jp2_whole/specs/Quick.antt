@@ -1,11 +1,13 @@
--- What the loops over whole texts find in a text: a designation, and stretches of ASCII.
+-- What the loops over whole texts find in a text: a designation, a shift, a pair, and stretches of ASCII and of pairs.
 use Prim.Native.Nat.{ℕ, _+_, _*_, _<_, _≤_}
 use mathlib.Core.Path.{_≡_}
-use mathlib.Core.Bool.{true}
+use mathlib.Core.Bool.{Bool, true, _&&_, not}
 use mathlib.Core.List.{List, [], _∷_}
 use mathlib.Core.Logic.{_⊎_}
 use lib.ListN.{length, getD}
+use lib.Dec.{eqb, leb, ltb}
 use Rattle.jp2.specs.Table.{rowAt, sent, begins}
+use Rattle.jp2.specs.Rule.{graphic}
 use Rattle.jp2.specs.Writable.{ascii}
 use Rattle.jp2.specs.declared.Designation.{Designation}
 
@@ -28,12 +30,38 @@ pub record Designates (a b c r : ℕ) : Type 0 where
 abbrev pub Found : ℕ → ℕ → ℕ → ℕ → Type 0
 Found a b c r = (r ≡ 0) ⊎ Designates a b c r
 
--- the bytes from a place to another are codes of ASCII
-pub record Plains (text : List ℕ) (from to : ℕ) : Type 0 where
+-- a row stands at a place, or nothing is said
+abbrev pub RowAt : List ℕ → ℕ → ℕ → Type 0
+RowAt text at r =
+    (r ≡ 0) ⊎ ((at + 4 ≤ length text) × Designates (getD text (at + 1) 0) (getD text (at + 2) 0) (getD text (at + 3) 0) r)
+
+-- behind ESC: N and a byte of the set in G2
+pub record Shift (text : List ℕ) (at g2 : ℕ) : Type 0 where
+  pub within : at + 2 < length text
+  pub letter : getD text (at + 1) 0 ≡ 78
+  pub code : (not (eqb g2 0) && (leb 32 (getD text (at + 2) 0) && ltb (getD text (at + 2) 0) 128)) ≡ true
+
+-- two bytes of a pair
+pub record Pair (text : List ℕ) (at : ℕ) : Type 0 where
+  pub within : at + 1 < length text
+  pub codes : (graphic (getD text at 0) && graphic (getD text (at + 1) 0)) ≡ true
+
+-- the bytes from a place to another are of a set
+pub record Spanned (set : ℕ → Bool) (text : List ℕ) (from to : ℕ) : Type 0 where
   pub ordered : from ≤ to
   pub within : to ≤ length text
-  pub each : (i : ℕ) → from ≤ i → i < to → ascii (getD text i 0) ≡ true
+  pub each : (i : ℕ) → from ≤ i → i < to → set (getD text i 0) ≡ true
 
--- nothing, or such bytes where ASCII is in G0 and nothing in G2
+-- codes of ASCII
+abbrev pub Plains : List ℕ → ℕ → ℕ → Type 0
+Plains = Spanned ascii
+
+-- bytes of whole pairs
+pub record Pairs (text : List ℕ) (from to : ℕ) : Type 0 where
+  pub codes : Spanned graphic text from to
+  pub count : ℕ
+  pub size : to ≡ from + count * 2
+
+-- nothing, or codes of ASCII where that is in G0 and nothing in G2
 abbrev pub Stretch : List ℕ → ℕ → ℕ → ℕ → ℕ → Type 0
 Stretch text from g0 g2 to = (to ≡ from) ⊎ ((g0 ≡ 6) × ((g2 ≡ 0) × Plains text from to))

@@ -92,34 +92,92 @@ fn through(text: &[u8], cells: &mut [u32], out: &mut [u32]) -> Answer
     }
 }
 
-// A buffer for the cells of a short text.
-fn short_blank() -> [u32; 1024]
+// The answer of a text that has room enough, with nothing written.
+fn measure(text: &[u8]) -> Answer
+    ensures { λ r. ⌜ inNumbers r ≡ verdictOf (reading jp2 (now (text .entry))) ⌝ }
+{
+    let reached = quick::judge(text);
+    let mut at = reached.at;
+    let mut n = reached.n;
+    let mut st = standing(reached);
+    while at < text.len() {
+        match jp2_read::feed(st, text[at]) {
+            Move::Give(_, state) => {
+                st = state;
+                n += 1;
+                at += 1;
+            }
+            Move::Go(state) => {
+                st = state;
+                at += 1;
+            }
+            Move::Bad(fault) => {
+                return Answer::Refused(fault, at);
+            }
+        }
+    }
+    jp2_read::finish(at, n, st)
+}
+
+// Reads a text straight into the output, judged whole before.
+fn straight(text: &[u8], out: &mut [u32]) -> Answer
+    requires { ⌜ length (now text) ≤ limit ⌝ }
+    ensures { λ r. ⌜ leaves r (now (out .exit)) ≡ readInto jp2 (now (text .entry)) (now (out .entry)) ⌝ }
+{
+    let found = measure(text);
+    match found {
+        Answer::Refused(_, _) => {
+            return found;
+        }
+        Answer::Accepted(count) => {
+            if out.len() < count {
+                return Answer::Refused(Refusal::NoRoom, count);
+            }
+            decode(text, out)
+        }
+    }
+}
+
+// Buffers for the cells of short texts.
+fn few() -> [u32; 256]
+    ensures { λ r. ⌜ length r ≡ 256 ⌝ }
+{
+    [0; 256]
+}
+
+fn some() -> [u32; 1024]
     ensures { λ r. ⌜ length r ≡ 1024 ⌝ }
 {
     [0; 1024]
 }
 
-// A buffer for the cells of any text within the limit.
-fn blank() -> [u32; 65536]
-    ensures { λ r. ⌜ length r ≡ 65536 ⌝ }
+fn many() -> [u32; 4096]
+    ensures { λ r. ⌜ length r ≡ 4096 ⌝ }
 {
-    [0; 65536]
+    [0; 4096]
 }
 
-// Reads a text into an output. The buffers are on the stack, which must have room for 65,536 cells (256 KiB); a short text clears the small
-// one only.
+// Reads a text into an output. The buffers are on the stack, 16 KiB at most, and a short text clears a small one only; a long text is read
+// twice.
 pub fn read(text: &[u8], out: &mut [u32]) -> Answer
     ensures { λ r. ⌜ leaves r (now (out .exit)) ≡ readInto jp2 (now (text .entry)) (now (out .entry)) ⌝ }
 {
     if answer::over_limit(text.len()) {
         return answer::too_long();
     }
-    if text.len() <= 1024 {
-        let mut few = short_blank();
-        return through(text, &mut few, out);
+    if text.len() <= 256 {
+        let mut cells = few();
+        return through(text, &mut cells, out);
     }
-    let mut cells = blank();
-    through(text, &mut cells, out)
+    if text.len() <= 1024 {
+        let mut cells = some();
+        return through(text, &mut cells, out);
+    }
+    if text.len() <= 4096 {
+        let mut cells = many();
+        return through(text, &mut cells, out);
+    }
+    straight(text, out)
 }
 
 // The text is accepted and reads as the cells. Nothing is lent to be written.

@@ -1,18 +1,18 @@
-// Whole texts, a token at a time: the loops of this file go over what most texts are made of, and stop at anything else and before the last
-// bytes. The loops that go byte by byte, which name every fault, read on from there.
+// Whole texts, a token at a time: the loops of this file go over what accepted texts are made of, and stop at anything else. The loops that go
+// byte by byte, which name every fault, read on from there.
 use jp2::Designation;
 ghost use mathlib.Core.Path.{_≡_};
 ghost use mathlib.Core.Bool.{true, cond, _&&_, _||_, not};
 ghost use mathlib.Core.List.{List, map};
 ghost use Prim.Native.Nat.{_<_, _≤_, _+_, _-_, _*_, _/_, _%_};
-ghost use lib.ListN.{length, take, drop};
+ghost use lib.ListN.{length, getD, take, drop};
 ghost use lib.Dec.{eqb, leb, ltb};
 ghost use Rattle.answer.specs.Output.{filled};
 ghost use Rattle.reading.specs.Reading.{reading};
-ghost use Rattle.reading.specs.Inner.{Filling};
+ghost use Rattle.reading.specs.Inner.{Left, Filling};
 ghost use Rattle.jp2.specs.Rule.{graphic, plain, state, cellOf, jp2};
 ghost use Rattle.jp2.specs.Writable.{ascii};
-ghost use Rattle.jp2_whole.specs.Quick.{codeOf, Sends, Found, Plains, Stretch};
+ghost use Rattle.jp2_whole.specs.Quick.{codeOf, Sends, Found, RowAt, Shift, Pair, Spanned, Plains, Stretch, Pairs};
 
 // Where a loop stopped: between cells, after n of them.
 pub struct Reached {
@@ -38,22 +38,17 @@ fn both(s: bool, t: bool) -> bool
     false
 }
 
-fn either(s: bool, t: bool) -> bool
-    ensures { λ r. ⌜ r ≡ (s || t) ⌝ }
-{
-    if s {
-        return true;
-    }
-    t
-}
-
-// What a row sends after ESC starts with two bytes, and is no longer or goes on with c. Every test is made, for a choice without a branch.
-fn is_sent(d: Designation, two: u32, c: u8) -> bool
+// What a row sends after ESC starts with two bytes, and then goes on with c, or has just three bytes. Every test is made, for a choice without a
+// branch.
+fn is_sent(d: Designation, two: u32, c: u8, long: bool) -> bool
     ensures { λ r. ⌜ (r ≡ true → Sends d two c) ⌝ }
 {
     let escape = d.escape;
     let front = joined(escape[1], escape[2]);
-    both(front == two, either(d.length == 3, escape[3] == c))
+    if long {
+        return both(front == two, escape[3] == c);
+    }
+    both(front == two, d.length == 3)
 }
 
 // A row in one number, so that the search takes one choice a row: the set's number, where it goes, and the length.
@@ -73,8 +68,8 @@ fn chosen(t: bool, a: u32, b: u32) -> u32
     b
 }
 
-// The row of the table that is sent as ESC and the first of these bytes, or 0.
-fn found(a: u8, b: u8, c: u8) -> u32
+// The row of the table that is sent as ESC and these three bytes, or the first two of them; or 0.
+fn found(a: u8, b: u8, c: u8, long: bool) -> u32
     ensures { λ r. ⌜ Found a b c r ⌝ }
 {
     let two = joined(a, b);
@@ -83,9 +78,21 @@ fn found(a: u8, b: u8, c: u8) -> u32
     for i in 0..9 {
         let d = table[i];
         let v = code(d);
-        r = chosen(is_sent(d, two, c), v, r);
+        r = chosen(is_sent(d, two, c, long), v, r);
     }
     r
+}
+
+// The row that stands at ESC, or 0. Where ( is the third byte it has four, so that a length is known before the row is.
+fn row_at(text: &[u8], at: usize) -> u32
+    requires { ⌜ at < length (now text) ⌝ }
+    ensures { λ r. ⌜ RowAt (now (text .entry)) at r ⌝ }
+{
+    if text.len() < at + 4 {
+        return 0;
+    }
+    let y = text[at + 2];
+    found(text[at + 1], y, text[at + 3], y == 40)
 }
 
 // G0 and G2 after a row, by its number.
@@ -117,11 +124,23 @@ fn is_single(g0: u16) -> bool
     g0 == 14
 }
 
-fn is_pair(a: u8, b: u8) -> bool
-    ensures { λ r. ⌜ r ≡ (graphic a && graphic b) ⌝ }
+// A byte of a pair.
+fn is_code(b: u8) -> bool
+    ensures { λ r. ⌜ r ≡ graphic b ⌝ }
 {
-    if jp2::is_graphic(a as u32) {
-        return jp2::is_graphic(b as u32);
+    jp2::is_graphic(b as u32)
+}
+
+// Two of them.
+fn is_pair(text: &[u8], at: usize) -> bool
+    requires { ⌜ at < length (now text) ⌝ }
+    ensures { λ r. ⌜ (r ≡ true → Pair (now (text .entry)) at) ⌝ }
+{
+    if text.len() < at + 2 {
+        return false;
+    }
+    if is_code(text[at]) {
+        return is_code(text[at + 1]);
     }
     false
 }
@@ -139,6 +158,20 @@ fn is_shifted(g2: u16, b: u8) -> bool
     b < 128
 }
 
+// ESC N and such a byte, where ESC stands.
+fn is_shift(text: &[u8], at: usize, g2: u16) -> bool
+    requires { ⌜ at < length (now text) ⌝ }
+    ensures { λ r. ⌜ (r ≡ true → Shift (now (text .entry)) at g2) ⌝ }
+{
+    if text.len() < at + 3 {
+        return false;
+    }
+    if text[at + 1] != 78 {
+        return false;
+    }
+    is_shifted(g2, text[at + 2])
+}
+
 // A byte that is a cell wherever ASCII is in G0.
 fn is_plain(b: u8) -> bool
     ensures { λ r. ⌜ r ≡ ascii b ⌝ }
@@ -152,14 +185,32 @@ fn is_plain(b: u8) -> bool
     b != 27
 }
 
-// G2 after a control byte, by the byte that follows.
-fn cleared(g2: u16, b: u8, next: u8) -> u16
-    ensures { λ r. ⌜ r ≡ cond (eqb b 13 && eqb next 10) 0 g2 ⌝ }
+// A printing byte, where no stretch is to be looked for yet.
+fn is_lone(b: u8, at: usize, next: usize) -> bool
+    ensures { λ r. ⌜ (r ≡ true → (32 ≤ b) × (b < 128)) ⌝ }
 {
-    if b == 13 {
-        if next == 10 {
-            return 0;
-        }
+    if b < 32 {
+        return false;
+    }
+    if 128 <= b {
+        return false;
+    }
+    at < next
+}
+
+// G2 after a byte, by the one that follows.
+fn cleared(text: &[u8], at: usize, g2: u16) -> u16
+    requires { ⌜ at < length (now text) ⌝ }
+    ensures { λ r. ⌜ r ≡ cond (eqb (getD (now (text .entry)) at 0) 13 && eqb (getD (now (text .entry)) (at + 1) 0) 10) 0 g2 ⌝ }
+{
+    if text[at] != 13 {
+        return g2;
+    }
+    if text.len() < at + 2 {
+        return g2;
+    }
+    if text[at + 1] == 10 {
+        return 0;
     }
     g2
 }
@@ -190,6 +241,33 @@ fn stretch_end(text: &[u8], from: usize, g0: u16, g2: u16) -> usize
     }
     while at + 16 <= text.len() {
         if !is_block(text, at) {
+            return at;
+        }
+        at += 16;
+    }
+    at
+}
+
+// Sixteen bytes of pairs.
+fn is_code_block(text: &[u8], at: usize) -> bool
+    requires { ⌜ at + 16 ≤ length (now text) ⌝ }
+    ensures { λ r. ⌜ (r ≡ true → Spanned graphic (now (text .entry)) at (at + 16)) ⌝ }
+{
+    let mut ok = true;
+    for k in 0..16 {
+        ok = both(ok, is_code(text[at + k]));
+    }
+    ok
+}
+
+// The end of a stretch of blocks of pairs.
+fn pairs_end(text: &[u8], from: usize) -> usize
+    requires { ⌜ from ≤ length (now text) ⌝ }
+    ensures { λ r. ⌜ Pairs (now (text .entry)) from r ⌝ }
+{
+    let mut at = from;
+    while at + 16 <= text.len() {
+        if !is_code_block(text, at) {
             return at;
         }
         at += 16;
@@ -249,32 +327,28 @@ pub fn fill(text: &[u8], out: &mut [u32]) -> Reached
     let mut n: usize = 0;
     let mut g0: u16 = 6;
     let mut g2: u16 = 0;
-    while at + 4 <= text.len() {
+    let mut next: usize = 0;
+    while at < text.len() {
         let b = text[at];
         if b == 27 {
-            let x = text[at + 1];
-            if x == 78 {
-                if !is_shifted(g2, text[at + 2]) {
-                    return Reached { at, n, g0, g2 };
-                }
+            if is_shift(text, at, g2) {
                 out[n] = shifted_cell(g2, text[at + 2]);
                 n += 1;
                 at += 3;
+                next = at + 12;
             } else {
-                let d = found(x, text[at + 2], text[at + 3]);
+                let d = row_at(text, at);
                 if d == 0 {
                     return Reached { at, n, g0, g2 };
                 }
                 g0 = g0_after(g0, d);
                 g2 = g2_after(g2, d);
                 at += (d % 8) as usize;
+                next = at + 12;
             }
         } else {
             if is_single(g0) {
-                if 32 <= b {
-                    if 128 <= b {
-                        return Reached { at, n, g0, g2 };
-                    }
+                if is_lone(b, at, next) {
                     out[n] = single_cell(g0, b);
                     n += 1;
                     at += 1;
@@ -282,22 +356,81 @@ pub fn fill(text: &[u8], out: &mut [u32]) -> Reached
                     if !is_plain(b) {
                         return Reached { at, n, g0, g2 };
                     }
-                    g2 = cleared(g2, b, text[at + 1]);
-                    out[n] = ascii_cell(b);
+                    g2 = cleared(text, at, g2);
+                    out[n] = single_cell(g0, b);
                     n += 1;
                     at += 1;
                     let end = stretch_end(text, at, g0, g2);
                     widen(text, at, end, &mut out[n..]);
                     n += end - at;
                     at = end;
+                    next = at + 12;
                 }
             } else {
-                if !is_pair(b, text[at + 1]) {
+                if !is_pair(text, at) {
                     return Reached { at, n, g0, g2 };
                 }
                 out[n] = pair_cell(g0, b, text[at + 1]);
                 n += 1;
                 at += 2;
+            }
+        }
+    }
+    Reached { at, n, g0, g2 }
+}
+
+// Counts the cells of a text, as far as they go.
+pub fn judge(text: &[u8]) -> Reached
+    ensures { λ r. ⌜ Left jp2 (now (text .entry)) (r .at) (state (r .g0) (r .g2) plain) (r .n) ⌝ }
+{
+    let mut at: usize = 0;
+    let mut n: usize = 0;
+    let mut g0: u16 = 6;
+    let mut g2: u16 = 0;
+    let mut next: usize = 0;
+    while at < text.len() {
+        let b = text[at];
+        if b == 27 {
+            if is_shift(text, at, g2) {
+                n += 1;
+                at += 3;
+                next = at + 12;
+            } else {
+                let d = row_at(text, at);
+                if d == 0 {
+                    return Reached { at, n, g0, g2 };
+                }
+                g0 = g0_after(g0, d);
+                g2 = g2_after(g2, d);
+                at += (d % 8) as usize;
+                next = at + 12;
+            }
+        } else {
+            if is_single(g0) {
+                if is_lone(b, at, next) {
+                    n += 1;
+                    at += 1;
+                } else {
+                    if !is_plain(b) {
+                        return Reached { at, n, g0, g2 };
+                    }
+                    g2 = cleared(text, at, g2);
+                    n += 1;
+                    at += 1;
+                    let end = stretch_end(text, at, g0, g2);
+                    n += end - at;
+                    at = end;
+                    next = at + 12;
+                }
+            } else {
+                if !is_pair(text, at) {
+                    return Reached { at, n, g0, g2 };
+                }
+                n += 1;
+                at += 2;
+                let end = pairs_end(text, at);
+                n += (end - at) / 2;
+                at = end;
             }
         }
     }

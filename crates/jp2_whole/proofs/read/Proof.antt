@@ -21,19 +21,17 @@ too-long-requires c κs = search needs
 returns : tie.Need-returns
 returns c = into-long jp2-kept _ _ (c .too-long .result) (sym (c .before .before .over-limit .ensures) ∙ c .before .if1 .taken) (c .too-long .ensures)
 
-short-blank-requires : tie.Need-short-blank-requires
-short-blank-requires c κs = search needs
+within : (c : tie.Else1) → ltb limit (length (now (c .before .before .before .before .args .text))) ≡ false
+within c = sym (c .before .over-limit .ensures) ∙ c .if1 .left
+
+few-requires : tie.Need-few-requires
+few-requires c κs = search needs
 
 slice-aggregate-through : tie.Need-slice-aggregate-through
 slice-aggregate-through c = search needs
 
-within : (c : tie.Else1) → ltb limit (length (now (c .before .before .before .before .args .text))) ≡ false
-within c = sym (c .before .over-limit .ensures) ∙ c .if1 .left
-
 through-requires : tie.Need-through-requires
-through-requires c κs =
-    let t = c .before .before .before in
-    (ltb-false limit _ (within (t .before)), omega (arith, t .if2 .taken, c .before .before .short-blank .ensures))
+through-requires c κs = (ltb-false limit _ (within (c .before .before .before .before)), omega (arith, c .before .before .before .if2 .taken, c .before .before .few .ensures))
 
 same-length : tie.Need-same-length
 same-length c = search needs
@@ -41,23 +39,44 @@ same-length c = search needs
 returns-2 : tie.Need-returns-2
 returns-2 c = search needs
 
-blank-requires : tie.Need-blank-requires
-blank-requires c κs = search needs
+some-requires : tie.Need-some-requires
+some-requires c κs = search needs
 
 slice-aggregate-through-2 : tie.Need-slice-aggregate-through-2
 slice-aggregate-through-2 c = search needs
 
 through-requires-2 : tie.Need-through-requires-2
-unfolding limit
-through-requires-2 c κs =
-    let h = ltb-false limit _ (within (c .before .before .before .before)) in
-    (h, omega (arith, h, c .before .before .blank .ensures))
+through-requires-2 c κs = (ltb-false limit _ (within (c .before .before .before .before .before)), omega (arith, c .before .before .before .if3 .taken, c .before .before .some .ensures))
 
 same-length-2 : tie.Need-same-length-2
 same-length-2 c = search needs
 
 returns-3 : tie.Need-returns-3
 returns-3 c = search needs
+
+many-requires : tie.Need-many-requires
+many-requires c κs = search needs
+
+slice-aggregate-through-3 : tie.Need-slice-aggregate-through-3
+slice-aggregate-through-3 c = search needs
+
+through-requires-3 : tie.Need-through-requires-3
+through-requires-3 c κs = (ltb-false limit _ (within (c .before .before .before .before .before .before)), omega (arith, c .before .before .before .if4 .taken, c .before .before .many .ensures))
+
+same-length-3 : tie.Need-same-length-3
+same-length-3 c = search needs
+
+returns-4 : tie.Need-returns-4
+returns-4 c = search needs
+
+straight-requires : tie.Need-straight-requires
+straight-requires c κs = ltb-false limit _ (within (c .before .before .before .before))
+
+same-length-4 : tie.Need-same-length-4
+same-length-4 c = search needs
+
+returns-5 : tie.Need-returns-5
+returns-5 c = search needs
 
 pub read-spec : {M : Type 1} → statement M
 read-spec =
@@ -66,13 +85,21 @@ read-spec =
     over-limit-requires
     too-long-requires
     returns
-    short-blank-requires
+    few-requires
     slice-aggregate-through
     through-requires
     same-length
     returns-2
-    blank-requires
+    some-requires
     slice-aggregate-through-2
     through-requires-2
     same-length-2
-    returns-3)
+    returns-3
+    many-requires
+    slice-aggregate-through-3
+    through-requires-3
+    same-length-3
+    returns-4
+    straight-requires
+    same-length-4
+    returns-5)

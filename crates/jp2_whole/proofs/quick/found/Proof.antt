@@ -11,10 +11,10 @@ use Rattle.jp2_whole.proofs.quick.found.Statement.{statement}
 use Rattle.jp2_whole.proofs.quick.found.Tie as tie
 
 abbrev Inv-loop : tie.InvT-loop
-Inv-loop a b c two table r₀ i₀ r i = (i ≤ 9) × ((two ≡ a * 256 + b) × Found a b c r)
+Inv-loop a b c long two table r₀ i₀ r i = (i ≤ 9) × ((two ≡ a * 256 + b) × Found a b c r)
 
 abbrev μ-loop : tie.MeasureT-loop
-μ-loop a b c two table r₀ i₀ r i = 9 - i
+μ-loop a b c long two table r₀ i₀ r i = 9 - i
 
 joined-requires : tie.Need-joined-requires Inv-loop μ-loop
 joined-requires c κs = search needs

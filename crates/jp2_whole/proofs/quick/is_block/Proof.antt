@@ -39,7 +39,7 @@ loop-less c = search needs
 loop-again : tie.Need-loop-again Inv-loop μ-loop
 loop-again c =
     let p = c .before .is-plain .ensures in
-    (omega arith, λ e. each-more (c .before .before .before .before .before .before .args .text .now) _ _ (c .before .before .before .before .loop .inv .1) (sym (c .both .ensures) ∙ e) p)
+    (omega arith, λ e. each-more ascii (c .before .before .before .before .before .before .args .text .now) _ _ (c .before .before .before .before .loop .inv .1) (sym (c .both .ensures) ∙ e) p)
 
 returns : tie.Need-returns Inv-loop μ-loop
 returns c = λ e. record { ordered = omega arith; within = c .before .before .before .pre; each = λ i l m. c .before .loop .inv .1 e i l (omega (arith, c .before .loop .inv .0)) }

@@ -3,7 +3,6 @@ use mathlib.Core.Logic.{inl, inr}
 use borrow.Author.Needs.{needs}
 use borrow.Author.Tests.{eqb-true}
 use Rattle.answer.proofs.Below as below
-use Rattle.jp2.proofs.Sets as sets
 use Rattle.jp2_whole.proofs.quick.is_sent.Statement.{statement}
 use Rattle.jp2_whole.proofs.quick.is_sent.Tie as tie
 
@@ -16,22 +15,26 @@ array-read-joined-2 c = search needs
 joined-requires : tie.Need-joined-requires
 joined-requires c κs = search needs
 
-array-read-either : tie.Need-array-read-either
-array-read-either c = search needs
-
-either-requires : tie.Need-either-requires
-either-requires c κs = search needs
+array-read-both : tie.Need-array-read-both
+array-read-both c = search needs
 
 both-requires : tie.Need-both-requires
 both-requires c κs = search needs
 
 returns : tie.Need-returns
-returns c = λ e.
+returns c =
+    λ e.
     let w = below.both _ _ (sym (c .both .ensures) ∙ e) in
-    record {
-      pair = sym (c .before .before .before .joined .ensures) ∙ eqb-true _ _ (w .0);
-      last = sets.either _ _ (sym (c .before .either .ensures) ∙ w .1) (λ z. inl (eqb-true _ _ z)) (λ z. inr (eqb-true _ _ z));
-    }
+    record { pair = sym (c .before .before .joined .ensures) ∙ eqb-true _ _ (w .0); last = inr (eqb-true _ _ (w .1)) }
+
+both-requires-2 : tie.Need-both-requires-2
+both-requires-2 c κs = search needs
+
+returns-2 : tie.Need-returns-2
+returns-2 c =
+    λ e.
+    let w = below.both _ _ (sym (c .both2 .ensures) ∙ e) in
+    record { pair = sym (c .before .before .before .joined .ensures) ∙ eqb-true _ _ (w .0); last = inl (eqb-true _ _ (w .1)) }
 
 pub is-sent-spec : {M : Type 1} → statement M
 is-sent-spec =
@@ -40,7 +43,8 @@ is-sent-spec =
     array-read-joined
     array-read-joined-2
     joined-requires
-    array-read-either
-    either-requires
+    array-read-both
     both-requires
-    returns)
+    returns
+    both-requires-2
+    returns-2)

@@ -5,7 +5,7 @@ use lib.ListN.{length}
 use borrow.Author.Needs.{needs}
 use borrow.Author.Tests.{not-false}
 use Rattle.jp2_whole.specs.Quick.{Plains}
-use Rattle.jp2_whole.proofs.Tokens.{plains-stay, plains-on}
+use Rattle.jp2_whole.proofs.Tokens.{spanned-stay, spanned-on}
 use Rattle.jp2_whole.proofs.quick.stretch_end.Statement.{statement}
 use Rattle.jp2_whole.proofs.quick.stretch_end.Tie as tie
 
@@ -22,7 +22,7 @@ returns-2 : tie.Need-returns-2 Inv-loop μ-loop
 returns-2 c = inl refl
 
 loop-holds : tie.Need-loop-holds Inv-loop μ-loop
-loop-holds c = (c .before .if1 .left, (c .if2 .left, plains-stay (c .before .before .before .pre)))
+loop-holds c = (c .before .if1 .left, (c .if2 .left, spanned-stay (c .before .before .before .pre)))
 
 add-loop : tie.Need-add-loop Inv-loop μ-loop
 add-loop c = search needs
@@ -42,7 +42,7 @@ loop-less c = search needs
 loop-again : tie.Need-loop-again Inv-loop μ-loop
 loop-again c =
     let i = c .before .before .before .loop .inv in
-    (i .0, (i .1 .0, plains-on (i .1 .1) (c .before .is-block .ensures (not-false _ (c .if3 .left)))))
+    (i .0, (i .1 .0, spanned-on (i .1 .1) (c .before .is-block .ensures (not-false _ (c .if3 .left)))))
 
 returns-4 : tie.Need-returns-4 Inv-loop μ-loop
 returns-4 c = inr (c .before .loop .inv)
