@@ -336,9 +336,9 @@ module _ (s : List ℕ) (from to : ℕ) (h : to ≤ length s) where
   pub cells-length : length (cellsOf s from to) ≡ to - from
   cells-length = length-cells (take (to - from) (drop from s)) ∙ part
 
-  pub cells-at : (k : ℕ) → k < to - from → drop k (cellsOf s from to) ≡ cellOf 6 (getD s (from + k) 0) ∷ drop (k + 1) (cellsOf s from to)
-  cells-at k q =
-      rw (drop-cons (cellsOf s from to) k 0 (omega (arith, cells-length)), add-one k, getD-map (take (to - from) (drop from s)) k (omega (arith, part)), getD-take (to - from) (drop from s) k 0 q, getD-drop from s k 0)
+  pub cells-get : (k : ℕ) → k < to - from → getD (cellsOf s from to) k 0 ≡ cellOf 6 (getD s (from + k) 0)
+  cells-get k q =
+      rw (getD-map (take (to - from) (drop from s)) k (omega (arith, part)), getD-take (to - from) (drop from s) k 0 q, getD-drop from s k 0)
 
 -- one byte more of a block
 pub each-more :
@@ -353,18 +353,20 @@ each-more set s at k {ok} {t} f e q i l m = by-side (ltb i (at + k)) refl (both 
         rw y (sym q ∙ w .1)
 
 -- a stretch that was looked for
-pub stretch-stride : {s : List ℕ} {from g0 g2 to : ℕ} → from ≤ length s → Stretch s from g0 g2 to → Stride jp2 s from (at-rest g0 g2) to (cellsOf s from to) (at-rest g0 g2)
-stretch-stride {s} {from} {g0} {g2} {to} h w =
+pub stretch-stride :
+    {s : List ℕ} {from to g0 g2 end : ℕ} → from ≤ length s → Stretch s from to g0 g2 end →
+    Stride jp2 s from (at-rest g0 g2) end (cellsOf s from end) (at-rest g0 g2)
+stretch-stride {s} {from} {to} {g0} {g2} {end} h w =
     ⊎-elim
-    (λ (e : to ≡ from). rw e (let z : from - from ≡ 0 = omega arith in rw z (stride-stay h)))
-    (λ (p : (g0 ≡ 6) × ((g2 ≡ 0) × Plains s from to)). rw (p .0, p .1 .0) (plains-stride (p .1 .1)))
+    (λ (e : end ≡ from). rw e (let z : from - from ≡ 0 = omega arith in rw z (stride-stay h)))
+    (λ (p : (g0 ≡ 6) × ((g2 ≡ 0) × (Plains s from end × (end ≤ to)))). rw (p .0, p .1 .0) (plains-stride (p .1 .1 .0)))
     w
 
-pub stretch-bounds : {s : List ℕ} {from g0 g2 to : ℕ} → from ≤ length s → Stretch s from g0 g2 to → (from ≤ to) × (to ≤ length s)
-stretch-bounds {s} {from} {g0} {g2} {to} h w =
+pub stretch-bounds : {s : List ℕ} {from to g0 g2 end : ℕ} → from ≤ to → Stretch s from to g0 g2 end → (from ≤ end) × (end ≤ to)
+stretch-bounds {s} {from} {to} {g0} {g2} {end} h w =
     ⊎-elim
-    (λ (e : to ≡ from). (omega arith, omega arith))
-    (λ (p : (g0 ≡ 6) × ((g2 ≡ 0) × Plains s from to)). (p .1 .1 .ordered, p .1 .1 .within))
+    (λ (e : end ≡ from). (omega arith, omega arith))
+    (λ (p : (g0 ≡ 6) × ((g2 ≡ 0) × (Plains s from end × (end ≤ to)))). (p .1 .1 .0 .ordered, p .1 .1 .1))
     w
 
 pub row-stands : (s : List ℕ) (at : ℕ) {r : ℕ} → RowAt s at r → (r ≡ 0 → ⊥) → (at + 4 ≤ length s) × Designates (getD s (at + 1) 0) (getD s (at + 2) 0) (getD s (at + 3) 0) r

@@ -1,13 +1,16 @@
--- What the loops over whole texts find in a text: a designation, a shift, a pair, and stretches of ASCII and of pairs.
+-- What the loops over whole texts find in a text, a designation, a shift, a pair, stretches of ASCII and of pairs, and what they leave.
 use Prim.Native.Nat.{ℕ, _+_, _*_, _<_, _≤_}
 use mathlib.Core.Path.{_≡_}
 use mathlib.Core.Bool.{Bool, true, _&&_, not}
-use mathlib.Core.List.{List, [], _∷_}
+use mathlib.Core.List.{List, [], _∷_, _++_}
 use mathlib.Core.Logic.{_⊎_}
-use lib.ListN.{length, getD}
+use lib.ListN.{length, getD, drop}
 use lib.Dec.{eqb, leb, ltb}
 use Rattle.jp2.specs.Table.{rowAt, sent, begins}
-use Rattle.jp2.specs.Rule.{graphic}
+use Rattle.answer.specs.Inner.{Laid}
+use Rattle.reading.specs.Reading.{readFrom}
+use Rattle.reading.specs.Matching.{gave, readsAs}
+use Rattle.jp2.specs.Rule.{State, state, plain, graphic, jp2}
 use Rattle.jp2.specs.Writable.{ascii}
 use Rattle.jp2.specs.declared.Designation.{Designation}
 
@@ -62,6 +65,34 @@ pub record Pairs (text : List ℕ) (from to : ℕ) : Type 0 where
   pub count : ℕ
   pub size : to ≡ from + count * 2
 
--- nothing, or codes of ASCII where that is in G0 and nothing in G2
-abbrev pub Stretch : List ℕ → ℕ → ℕ → ℕ → ℕ → Type 0
-Stretch text from g0 g2 to = (to ≡ from) ⊎ ((g0 ≡ 6) × ((g2 ≡ 0) × Plains text from to))
+-- nothing, or codes of ASCII up to a place at most, where that is in G0 and nothing in G2
+abbrev pub Stretch : List ℕ → ℕ → ℕ → ℕ → ℕ → ℕ → Type 0
+Stretch text from to g0 g2 end = (end ≡ from) ⊎ ((g0 ≡ 6) × ((g2 ≡ 0) × (Plains text from end × (end ≤ to))))
+
+-- from a place, in a state, reading gives some cells and goes on from a later place in a state
+pub record Goes (text : List ℕ) (at : ℕ) (st : State) (to : ℕ) (cs : List ℕ) (st' : State) : Type 0 where
+  pub within : to ≤ length text
+  pub few : at + length cs ≤ to
+  pub same :
+      readFrom jp2 (drop at text) at st
+      ≡ record { cells = cs ++ readFrom jp2 (drop to text) to st' .cells; ending = readFrom jp2 (drop to text) to st' .ending }
+
+-- the cells from a place to another are laid into an output from n on; what lies behind them is kept
+pub record Laying (text : List ℕ) (at g0 g2 n : ℕ) (out : List ℕ) (to g0' g2' n' : ℕ) (out' : List ℕ) : Type 0 where
+  pub cells : List ℕ
+  pub goes : Goes text at (state g0 g2 plain) to cells (state g0' g2' plain)
+  pub laid : Laid cells n out out'
+  pub kept : drop n' out' ≡ drop n' out
+  pub count : n' ≡ n + length cells
+  pub fits : n' ≤ length out'
+
+-- the first elements of a buffer stand in a list from a place on
+abbrev pub Same : List ℕ → List ℕ → ℕ → ℕ → Type 0
+Same buf cells from count = (k : ℕ) → k < count → getD cells (from + k) 0 ≡ getD buf k 0
+
+-- n cells were the same: whether the text reads as the cells is whether its rest does as theirs
+pub record Matches (text cells : List ℕ) (at g0 g2 n : ℕ) : Type 0 where
+  pub within : at ≤ length text
+  pub few : n ≤ at
+  pub inside : n ≤ length cells
+  pub so : gave (readFrom jp2 (drop at text) at (state g0 g2 plain)) (drop n cells) ≡ readsAs jp2 text cells

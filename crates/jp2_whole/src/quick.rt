@@ -7,12 +7,11 @@ ghost use mathlib.Core.List.{List, map};
 ghost use Prim.Native.Nat.{_<_, _≤_, _+_, _-_, _*_, _/_, _%_};
 ghost use lib.ListN.{length, getD, take, drop};
 ghost use lib.Dec.{eqb, leb, ltb};
-ghost use Rattle.answer.specs.Output.{filled};
-ghost use Rattle.reading.specs.Reading.{reading};
-ghost use Rattle.reading.specs.Inner.{Left, Filling};
+ghost use Rattle.answer.specs.Inner.{Laid};
+ghost use Rattle.reading.specs.Inner.{Left};
 ghost use Rattle.jp2.specs.Rule.{graphic, plain, state, cellOf, jp2};
 ghost use Rattle.jp2.specs.Writable.{ascii};
-ghost use Rattle.jp2_whole.specs.Quick.{codeOf, Sends, Found, RowAt, Shift, Pair, Spanned, Plains, Stretch, Pairs};
+ghost use Rattle.jp2_whole.specs.Quick.{codeOf, Sends, Found, RowAt, Shift, Pair, Spanned, Plains, Stretch, Pairs, Laying, Same, Matches};
 
 // Where a loop stopped: between cells, after n of them.
 pub struct Reached {
@@ -185,9 +184,9 @@ fn is_plain(b: u8) -> bool
     b != 27
 }
 
-// A printing byte, where no stretch is to be looked for yet.
-fn is_lone(b: u8, at: usize, next: usize) -> bool
-    ensures { λ r. ⌜ (r ≡ true → (32 ≤ b) × (b < 128)) ⌝ }
+// A printing byte of a set of single bytes, where no stretch is to be looked for yet.
+fn is_lone(b: u8, at: usize, next: usize, g0: u16) -> bool
+    ensures { λ r. ⌜ (r ≡ true → ((32 ≤ b) × (b < 128)) × ((eqb g0 6 || eqb g0 14) ≡ true)) ⌝ }
 {
     if b < 32 {
         return false;
@@ -195,7 +194,10 @@ fn is_lone(b: u8, at: usize, next: usize) -> bool
     if 128 <= b {
         return false;
     }
-    at < next
+    if next <= at {
+        return false;
+    }
+    is_single(g0)
 }
 
 // G2 after a byte, by the one that follows.
@@ -227,10 +229,10 @@ fn is_block(text: &[u8], at: usize) -> bool
     ok
 }
 
-// The end of a stretch of blocks of such bytes, with ASCII in G0 and nothing in G2.
-fn stretch_end(text: &[u8], from: usize, g0: u16, g2: u16) -> usize
-    requires { ⌜ from ≤ length (now text) ⌝ }
-    ensures { λ r. ⌜ Stretch (now (text .entry)) from g0 g2 r ⌝ }
+// The end of a stretch of blocks of such bytes before a place, with ASCII in G0 and nothing in G2.
+fn stretch_end(text: &[u8], from: usize, to: usize, g0: u16, g2: u16) -> usize
+    requires { ⌜ (from ≤ to) × (to ≤ length (now text)) ⌝ }
+    ensures { λ r. ⌜ Stretch (now (text .entry)) from to g0 g2 r ⌝ }
 {
     let mut at = from;
     if g0 != 6 {
@@ -239,7 +241,7 @@ fn stretch_end(text: &[u8], from: usize, g0: u16, g2: u16) -> usize
     if g2 != 0 {
         return at;
     }
-    while at + 16 <= text.len() {
+    while at + 16 <= to {
         if !is_block(text, at) {
             return at;
         }
@@ -281,17 +283,17 @@ fn ascii_cell(b: u8) -> u32
     393216 + (b as u32)
 }
 
-// The cells of a stretch go to the front of an output.
-fn widen(text: &[u8], from: usize, to: usize, out: &mut [u32])
-    requires { ⌜ from ≤ to ⌝ }
-    requires { ⌜ to ≤ length (now text) ⌝ }
-    requires { ⌜ to - from ≤ length (now out) ⌝ }
-    ensures { λ _. ⌜ now (out .exit) ≡ filled (map (cellOf 6) (take (to - from) (drop from (now (text .entry))))) (now (out .entry)) ⌝ }
+// The cells of a stretch go to an output from n on.
+fn widen(text: &[u8], from: usize, to: usize, out: &mut [u32], n: usize)
+    requires { ⌜ (from ≤ to) × (to ≤ length (now text)) ⌝ }
+    requires { ⌜ n + (to - from) ≤ length (now out) ⌝ }
+    ensures { λ _. ⌜ Laid (map (cellOf 6) (take (to - from) (drop from (now (text .entry))))) n (now (out .entry)) (now (out .exit)) ⌝ }
+    ensures { λ _. ⌜ drop (n + (to - from)) (now (out .exit)) ≡ drop (n + (to - from)) (now (out .entry)) ⌝ }
 {
     let size = to - from;
     let mut k: usize = 0;
     while k < size {
-        out[k] = ascii_cell(text[from + k]);
+        out[n + k] = ascii_cell(text[from + k]);
         k += 1;
     }
 }
@@ -318,41 +320,54 @@ fn pair_cell(g0: u16, a: u8, b: u8) -> u32
     (g0 as u32) * 65536 + ((a as u32) * 256 + (b as u32))
 }
 
-// Puts the cells of a text into an output that has room for all.
-pub fn fill(text: &[u8], out: &mut [u32]) -> Reached
-    requires { ⌜ length (reading jp2 (now text) .cells) ≤ length (now out) ⌝ }
-    ensures { λ r. ⌜ Filling jp2 (now (text .entry)) (r .at) (state (r .g0) (r .g2) plain) (r .n) (now (out .entry)) (now (out .exit)) ⌝ }
+// As many bytes as there are places: a byte completes at most one cell.
+fn reach(at: usize, size: usize, room: usize) -> usize
+    requires { ⌜ at ≤ size ⌝ }
+    ensures { λ r. ⌜ (at ≤ r) × ((r ≤ size) × (r - at ≤ room)) ⌝ }
 {
-    let mut at: usize = 0;
-    let mut n: usize = 0;
-    let mut g0: u16 = 6;
-    let mut g2: u16 = 0;
-    let mut next: usize = 0;
-    while at < text.len() {
+    if size - at <= room {
+        return size;
+    }
+    at + room
+}
+
+// Puts the cells of a text from a place on into an output, of no more bytes than it has room for. Behind an escape and behind a stretch, a stretch
+// is looked for only after some bytes.
+fn fill(text: &[u8], from: Reached, out: &mut [u32]) -> Reached
+    requires { ⌜ (from .at ≤ length (now text)) × (from .n ≤ length (now out)) ⌝ }
+    ensures { λ r. ⌜ Laying (now (text .entry)) (from .at) (from .g0) (from .g2) (from .n) (now (out .entry)) (r .at) (r .g0) (r .g2) (r .n) (now (out .exit)) ⌝ }
+{
+    let mut at = from.at;
+    let mut n = from.n;
+    let mut g0 = from.g0;
+    let mut g2 = from.g2;
+    let mut next = at;
+    let to = reach(at, text.len(), out.len() - n);
+    while at < to {
         let b = text[at];
-        if b == 27 {
-            if is_shift(text, at, g2) {
-                out[n] = shifted_cell(g2, text[at + 2]);
-                n += 1;
-                at += 3;
-                next = at + 12;
-            } else {
-                let d = row_at(text, at);
-                if d == 0 {
-                    return Reached { at, n, g0, g2 };
-                }
-                g0 = g0_after(g0, d);
-                g2 = g2_after(g2, d);
-                at += (d % 8) as usize;
-                next = at + 12;
-            }
+        if is_lone(b, at, next, g0) {
+            out[n] = single_cell(g0, b);
+            n += 1;
+            at += 1;
         } else {
-            if is_single(g0) {
-                if is_lone(b, at, next) {
-                    out[n] = single_cell(g0, b);
+            if b == 27 {
+                if is_shift(text, at, g2) {
+                    out[n] = shifted_cell(g2, text[at + 2]);
                     n += 1;
-                    at += 1;
+                    at += 3;
+                    next = at + 12;
                 } else {
+                    let d = row_at(text, at);
+                    if d == 0 {
+                        return Reached { at, n, g0, g2 };
+                    }
+                    g0 = g0_after(g0, d);
+                    g2 = g2_after(g2, d);
+                    at += (d % 8) as usize;
+                    next = at + 12;
+                }
+            } else {
+                if is_single(g0) {
                     if !is_plain(b) {
                         return Reached { at, n, g0, g2 };
                     }
@@ -360,79 +375,145 @@ pub fn fill(text: &[u8], out: &mut [u32]) -> Reached
                     out[n] = single_cell(g0, b);
                     n += 1;
                     at += 1;
-                    let end = stretch_end(text, at, g0, g2);
-                    widen(text, at, end, &mut out[n..]);
+                    let end = stretch_end(text, at, to, g0, g2);
+                    widen(text, at, end, out, n);
                     n += end - at;
                     at = end;
                     next = at + 12;
+                } else {
+                    if !is_pair(text, at) {
+                        return Reached { at, n, g0, g2 };
+                    }
+                    out[n] = pair_cell(g0, b, text[at + 1]);
+                    n += 1;
+                    at += 2;
                 }
-            } else {
-                if !is_pair(text, at) {
-                    return Reached { at, n, g0, g2 };
-                }
-                out[n] = pair_cell(g0, b, text[at + 1]);
-                n += 1;
-                at += 2;
             }
         }
     }
     Reached { at, n, g0, g2 }
 }
 
-// Counts the cells of a text, as far as they go.
-pub fn judge(text: &[u8]) -> Reached
+// The same, as long as it has room.
+pub fn fill_on(text: &[u8], from: Reached, out: &mut [u32]) -> Reached
+    requires { ⌜ (from .at ≤ length (now text)) × (from .n ≤ length (now out)) ⌝ }
+    ensures { λ r. ⌜ Laying (now (text .entry)) (from .at) (from .g0) (from .g2) (from .n) (now (out .entry)) (r .at) (r .g0) (r .g2) (r .n) (now (out .exit)) ⌝ }
+{
+    let mut at = from.at;
+    let mut n = from.n;
+    let mut g0 = from.g0;
+    let mut g2 = from.g2;
+    while at < text.len() {
+        let r = fill(text, Reached { at, n, g0, g2 }, out);
+        if r.at <= at {
+            return r;
+        }
+        at = r.at;
+        n = r.n;
+        g0 = r.g0;
+        g2 = r.g2;
+    }
+    Reached { at, n, g0, g2 }
+}
+
+// Counts the cells of a text from a place on.
+pub fn judge(text: &[u8], from: Reached) -> Reached
+    requires { ⌜ Left jp2 (now text) (from .at) (state (from .g0) (from .g2) plain) (from .n) ⌝ }
     ensures { λ r. ⌜ Left jp2 (now (text .entry)) (r .at) (state (r .g0) (r .g2) plain) (r .n) ⌝ }
 {
-    let mut at: usize = 0;
-    let mut n: usize = 0;
-    let mut g0: u16 = 6;
-    let mut g2: u16 = 0;
-    let mut next: usize = 0;
+    let mut at = from.at;
+    let mut n = from.n;
+    let mut g0 = from.g0;
+    let mut g2 = from.g2;
+    let mut next = at;
     while at < text.len() {
         let b = text[at];
-        if b == 27 {
-            if is_shift(text, at, g2) {
-                n += 1;
-                at += 3;
-                next = at + 12;
-            } else {
-                let d = row_at(text, at);
-                if d == 0 {
-                    return Reached { at, n, g0, g2 };
-                }
-                g0 = g0_after(g0, d);
-                g2 = g2_after(g2, d);
-                at += (d % 8) as usize;
-                next = at + 12;
-            }
+        if is_lone(b, at, next, g0) {
+            n += 1;
+            at += 1;
         } else {
-            if is_single(g0) {
-                if is_lone(b, at, next) {
+            if b == 27 {
+                if is_shift(text, at, g2) {
                     n += 1;
-                    at += 1;
+                    at += 3;
+                    next = at + 12;
                 } else {
+                    let d = row_at(text, at);
+                    if d == 0 {
+                        return Reached { at, n, g0, g2 };
+                    }
+                    g0 = g0_after(g0, d);
+                    g2 = g2_after(g2, d);
+                    at += (d % 8) as usize;
+                    next = at + 12;
+                }
+            } else {
+                if is_single(g0) {
                     if !is_plain(b) {
                         return Reached { at, n, g0, g2 };
                     }
                     g2 = cleared(text, at, g2);
                     n += 1;
                     at += 1;
-                    let end = stretch_end(text, at, g0, g2);
+                    let end = stretch_end(text, at, text.len(), g0, g2);
                     n += end - at;
                     at = end;
                     next = at + 12;
+                } else {
+                    if !is_pair(text, at) {
+                        return Reached { at, n, g0, g2 };
+                    }
+                    n += 1;
+                    at += 2;
+                    let end = pairs_end(text, at);
+                    n += (end - at) / 2;
+                    at = end;
                 }
-            } else {
-                if !is_pair(text, at) {
-                    return Reached { at, n, g0, g2 };
-                }
-                n += 1;
-                at += 2;
-                let end = pairs_end(text, at);
-                n += (end - at) / 2;
-                at = end;
             }
         }
+    }
+    Reached { at, n, g0, g2 }
+}
+
+// The first cells of a buffer are those of a list from a place on.
+fn is_same(buf: &[u32], count: usize, cells: &[u32], from: usize) -> bool
+    requires { ⌜ (count ≤ length (now buf)) × (from ≤ length (now cells)) ⌝ }
+    ensures { λ r. ⌜ (r ≡ true → (count ≤ length (now (cells .entry)) - from) × Same (now (buf .entry)) (now (cells .entry)) from count) ⌝ }
+{
+    if cells.len() - from < count {
+        return false;
+    }
+    let mut k: usize = 0;
+    while k < count {
+        if buf[k] != cells[from + k] {
+            return false;
+        }
+        k += 1;
+    }
+    true
+}
+
+// Goes on as long as a text reads as the cells, by way of a small buffer.
+pub fn follow(text: &[u8], cells: &[u32]) -> Reached
+    ensures { λ r. ⌜ Matches (now (text .entry)) (now (cells .entry)) (r .at) (r .g0) (r .g2) (r .n) ⌝ }
+{
+    let mut buf = [0u32; 1024];
+    let mut at: usize = 0;
+    let mut n: usize = 0;
+    let mut g0: u16 = 6;
+    let mut g2: u16 = 0;
+    while at < text.len() {
+        let r = fill(text, Reached { at, n: 0, g0, g2 }, &mut buf);
+        if r.at <= at {
+            return Reached { at, n, g0, g2 };
+        }
+        if !is_same(&buf, r.n, cells, n) {
+            return Reached { at, n, g0, g2 };
+        }
+        n += r.n;
+        at = r.at;
+        g0 = r.g0;
+        g2 = r.g2;
     }
     Reached { at, n, g0, g2 }
 }

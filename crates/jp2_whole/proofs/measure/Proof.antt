@@ -17,7 +17,7 @@ abbrev μ-loop : tie.MeasureT-loop
 μ-loop text at₀ n₀ st₀ at n st = length text - at
 
 judge-requires : tie.Need-judge-requires Inv-loop μ-loop
-judge-requires c κs = search needs
+judge-requires c κs = c .before .pre
 
 standing-requires : tie.Need-standing-requires Inv-loop μ-loop
 standing-requires c κs = search needs
@@ -64,11 +64,11 @@ loop-less-2 c = search needs
 loop-again-2 : tie.Need-loop-again-2 Inv-loop μ-loop
 loop-again-2 c = λ l. left-go (c .before .before .before .before .before .before .loop .inv l) (c .before .before .before .before .before .loop-test .taken) (moved (c .before .before .before .feed .ensures) (c .before .state2 .given .1))
 
-enum-known-fault : tie.Need-enum-known-fault Inv-loop μ-loop
-enum-known-fault c = search needs
+enum-known-why : tie.Need-enum-known-why Inv-loop μ-loop
+enum-known-why c = search needs
 
 returns : tie.Need-returns Inv-loop μ-loop
-returns c = left-bad (so (c .before .before .before .before .before .before)) (c .before .before .before .before .before .loop-test .taken) (moved (c .before .before .before .feed .ensures) (c .before .fault .given .1)) .1
+returns c = left-bad (so (c .before .before .before .before .before .before)) (c .before .before .before .before .before .loop-test .taken) (moved (c .before .before .before .feed .ensures) (c .before .why .given .1)) .1
 
 finish-requires : tie.Need-finish-requires Inv-loop μ-loop
 finish-requires c κs = search needs
@@ -96,7 +96,7 @@ measure-spec =
     add-at-2
     loop-less-2
     loop-again-2
-    enum-known-fault
+    enum-known-why
     returns
     finish-requires
     returns-2)

@@ -1,6 +1,5 @@
 use mathlib.Core.Path.{_≡_, sym, _∙_}
 use mathlib.Core.Bool.{false}
-use native.Mathlib.Omega.{arith}
 use denote.Ref.{now}
 use lib.ListN.{length}
 use lib.Dec.{ltb}
@@ -24,14 +23,11 @@ returns c = into-long jp2-kept _ _ (c .too-long .result) (sym (c .before .before
 within : (c : tie.Else1) → ltb limit (length (now (c .before .before .before .before .args .text))) ≡ false
 within c = sym (c .before .over-limit .ensures) ∙ c .if1 .left
 
-few-requires : tie.Need-few-requires
-few-requires c κs = search needs
-
 slice-aggregate-through : tie.Need-slice-aggregate-through
 slice-aggregate-through c = search needs
 
 through-requires : tie.Need-through-requires
-through-requires c κs = (ltb-false limit _ (within (c .before .before .before .before)), omega (arith, c .before .before .before .if2 .taken, c .before .before .few .ensures))
+through-requires c κs = ltb-false limit _ (within (c .before .before .before))
 
 same-length : tie.Need-same-length
 same-length c = search needs
@@ -39,14 +35,11 @@ same-length c = search needs
 returns-2 : tie.Need-returns-2
 returns-2 c = search needs
 
-some-requires : tie.Need-some-requires
-some-requires c κs = search needs
-
 slice-aggregate-through-2 : tie.Need-slice-aggregate-through-2
 slice-aggregate-through-2 c = search needs
 
 through-requires-2 : tie.Need-through-requires-2
-through-requires-2 c κs = (ltb-false limit _ (within (c .before .before .before .before .before)), omega (arith, c .before .before .before .if3 .taken, c .before .before .some .ensures))
+through-requires-2 c κs = ltb-false limit _ (within (c .before .before .before .before))
 
 same-length-2 : tie.Need-same-length-2
 same-length-2 c = search needs
@@ -54,14 +47,11 @@ same-length-2 c = search needs
 returns-3 : tie.Need-returns-3
 returns-3 c = search needs
 
-many-requires : tie.Need-many-requires
-many-requires c κs = search needs
-
 slice-aggregate-through-3 : tie.Need-slice-aggregate-through-3
 slice-aggregate-through-3 c = search needs
 
 through-requires-3 : tie.Need-through-requires-3
-through-requires-3 c κs = (ltb-false limit _ (within (c .before .before .before .before .before .before)), omega (arith, c .before .before .before .if4 .taken, c .before .before .many .ensures))
+through-requires-3 c κs = ltb-false limit _ (within (c .before .before .before .before .before))
 
 same-length-3 : tie.Need-same-length-3
 same-length-3 c = search needs
@@ -69,8 +59,11 @@ same-length-3 c = search needs
 returns-4 : tie.Need-returns-4
 returns-4 c = search needs
 
-straight-requires : tie.Need-straight-requires
-straight-requires c κs = ltb-false limit _ (within (c .before .before .before .before))
+slice-aggregate-through-4 : tie.Need-slice-aggregate-through-4
+slice-aggregate-through-4 c = search needs
+
+through-requires-4 : tie.Need-through-requires-4
+through-requires-4 c κs = ltb-false limit _ (within (c .before .before .before .before .before))
 
 same-length-4 : tie.Need-same-length-4
 same-length-4 c = search needs
@@ -85,21 +78,19 @@ read-spec =
     over-limit-requires
     too-long-requires
     returns
-    few-requires
     slice-aggregate-through
     through-requires
     same-length
     returns-2
-    some-requires
     slice-aggregate-through-2
     through-requires-2
     same-length-2
     returns-3
-    many-requires
     slice-aggregate-through-3
     through-requires-3
     same-length-3
     returns-4
-    straight-requires
+    slice-aggregate-through-4
+    through-requires-4
     same-length-4
     returns-5)

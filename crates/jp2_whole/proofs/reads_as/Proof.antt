@@ -2,11 +2,12 @@ use Prim.Native.Nat.{_-_}
 use native.Mathlib.Omega.{arith}
 use lib.ListN.{length}
 use borrow.Author.Needs.{needs}
-use Rattle.reading.proofs.Matches.{Matching, matching-start, matching-give, matching-other, matching-past, matching-go, matching-bad, matching-refused, matching-accepted}
+use Rattle.reading.proofs.Matches.{Matching, matching-give, matching-other, matching-past, matching-go, matching-bad, matching-refused, matching-accepted}
 use Rattle.jp2.specs.Rule.{jp2}
 use Rattle.jp2.proofs.Kept.{ends-sound}
 use Rattle.jp2_read.specs.Cursor.{stateOf}
 use Rattle.jp2_read.proofs.Moves.{moved}
+use Rattle.jp2_whole.proofs.Laying.{matching-of}
 use Rattle.jp2_whole.proofs.reads_as.Statement.{statement}
 use Rattle.jp2_whole.proofs.reads_as.Tie as tie
 
@@ -16,11 +17,14 @@ Inv-loop text cells at₀ n₀ st₀ at n st = Matching jp2 text cells at (state
 abbrev μ-loop : tie.MeasureT-loop
 μ-loop text cells at₀ n₀ st₀ at n st = length text - at
 
-begin-requires : tie.Need-begin-requires Inv-loop μ-loop
-begin-requires c κs = search needs
+follow-requires : tie.Need-follow-requires Inv-loop μ-loop
+follow-requires c κs = search needs
+
+standing-requires : tie.Need-standing-requires Inv-loop μ-loop
+standing-requires c κs = search needs
 
 loop-holds : tie.Need-loop-holds Inv-loop μ-loop
-loop-holds c = rw (c .begin .ensures) (matching-start jp2 _ _)
+loop-holds c = rw (c .standing .ensures) (matching-of (c .before .follow .ensures))
 
 shared-slice-read-feed : tie.Need-shared-slice-read-feed Inv-loop μ-loop
 shared-slice-read-feed c = search needs
@@ -32,11 +36,7 @@ enum-known-value : tie.Need-enum-known-value Inv-loop μ-loop
 enum-known-value c = search needs
 
 returns : tie.Need-returns Inv-loop μ-loop
-returns c =
-    let v = c .before .before in
-    let f = v .before .before in
-    let i = f .before .before in
-    matching-past (i .before .loop .inv) (i .loop-test .taken) (moved (f .feed .ensures) (v .value .given .1)) (c .if1 .taken)
+returns c = matching-past (c .before .before .before .before .before .before .before .loop .inv) (c .before .before .before .before .before .before .loop-test .taken) (moved (c .before .before .before .before .feed .ensures) (c .before .before .value .given .1)) (c .if1 .taken)
 
 mul-if2 : tie.Need-mul-if2 Inv-loop μ-loop
 mul-if2 c = search needs
@@ -45,11 +45,7 @@ shared-slice-read-if2 : tie.Need-shared-slice-read-if2 Inv-loop μ-loop
 shared-slice-read-if2 c = search needs
 
 returns-2 : tie.Need-returns-2 Inv-loop μ-loop
-returns-2 c =
-    let v = c .before .before .before .before in
-    let f = v .before .before in
-    let i = f .before .before in
-    matching-other (i .before .loop .inv) (i .loop-test .taken) (moved (f .feed .ensures) (v .value .given .1)) (omega (arith, c .before .before .if1 .left)) (c .if2 .taken)
+returns-2 c = matching-other (c .before .before .before .before .before .before .before .before .before .loop .inv) (c .before .before .before .before .before .before .before .before .loop-test .taken) (moved (c .before .before .before .before .before .before .feed .ensures) (c .before .before .before .before .value .given .1)) (omega (arith, c .before .before .if1 .left)) (c .if2 .taken)
 
 add-n : tie.Need-add-n Inv-loop μ-loop
 add-n c = search needs
@@ -61,11 +57,7 @@ loop-less : tie.Need-loop-less Inv-loop μ-loop
 loop-less c = search needs
 
 loop-again : tie.Need-loop-again Inv-loop μ-loop
-loop-again c =
-    let v = c .before .before .before .before in
-    let f = v .before .before in
-    let i = f .before .before in
-    matching-give (i .before .loop .inv) (i .loop-test .taken) (moved (f .feed .ensures) (v .value .given .1)) (omega (arith, c .before .before .if1 .left)) (c .if2 .left)
+loop-again c = matching-give (c .before .before .before .before .before .before .before .before .before .loop .inv) (c .before .before .before .before .before .before .before .before .loop-test .taken) (moved (c .before .before .before .before .before .before .feed .ensures) (c .before .before .before .before .value .given .1)) (omega (arith, c .before .before .if1 .left)) (c .if2 .left)
 
 enum-known-state : tie.Need-enum-known-state Inv-loop μ-loop
 enum-known-state c = search needs
@@ -77,19 +69,13 @@ loop-less-2 : tie.Need-loop-less-2 Inv-loop μ-loop
 loop-less-2 c = search needs
 
 loop-again-2 : tie.Need-loop-again-2 Inv-loop μ-loop
-loop-again-2 c =
-    let f = c .before .before .before in
-    let i = f .before .before in
-    matching-go (i .before .loop .inv) (i .loop-test .taken) (moved (f .feed .ensures) (c .before .state .given .1))
+loop-again-2 c = matching-go (c .before .before .before .before .before .before .loop .inv) (c .before .before .before .before .before .loop-test .taken) (moved (c .before .before .before .feed .ensures) (c .before .state .given .1))
 
 enum-told : tie.Need-enum-told Inv-loop μ-loop
 enum-told c = search needs
 
 returns-3 : tie.Need-returns-3 Inv-loop μ-loop
-returns-3 c =
-    let f = c .before .before in
-    let i = f .before .before in
-    matching-bad (i .before .loop .inv) (i .loop-test .taken) (moved (f .feed .ensures) (c .enum-told .given .1))
+returns-3 c = matching-bad (c .before .before .before .before .before .loop .inv) (c .before .before .before .before .loop-test .taken) (moved (c .before .before .feed .ensures) (c .enum-told .given .1))
 
 finish-requires : tie.Need-finish-requires Inv-loop μ-loop
 finish-requires c κs = search needs
@@ -101,14 +87,10 @@ enum-told-3 : tie.Need-enum-told-3 Inv-loop μ-loop
 enum-told-3 c = search needs
 
 returns-4 : tie.Need-returns-4 Inv-loop μ-loop
-returns-4 c =
-    let f = c .before .before in
-    matching-accepted (f .before .before .loop .inv) (f .before .loop-test .left) _ (ends-sound _ _) (f .finish .ensures) (c .enum-told2 .given .1)
+returns-4 c = matching-accepted (c .before .before .before .before .loop .inv) (c .before .before .before .loop-test .left) _ (ends-sound _ _) (c .before .before .finish .ensures) (c .enum-told2 .given .1)
 
 returns-5 : tie.Need-returns-5 Inv-loop μ-loop
-returns-5 c =
-    let f = c .before .before in
-    matching-refused (f .before .before .loop .inv) (f .before .loop-test .left) _ (f .finish .ensures) (c .enum-told3 .given .1)
+returns-5 c = matching-refused (c .before .before .before .before .loop .inv) (c .before .before .before .loop-test .left) _ (c .before .before .finish .ensures) (c .enum-told3 .given .1)
 
 pub reads-as-spec : {M : Type 1} → statement M
 reads-as-spec =
@@ -116,7 +98,8 @@ reads-as-spec =
     (tie.spec
     Inv-loop
     μ-loop
-    begin-requires
+    follow-requires
+    standing-requires
     loop-holds
     shared-slice-read-feed
     feed-requires

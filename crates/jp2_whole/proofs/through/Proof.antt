@@ -1,30 +1,38 @@
+use Prim.Native.Nat.{ℕ, _≤_}
 use mathlib.Core.Path.{_≡_, refl, sym, ap, _∙_}
-use Prim.Native.Nat.{ℕ}
 use mathlib.Core.Bool.{false}
-use mathlib.Core.List.{List, []}
+use mathlib.Core.List.{List, [], _++_}
 use native.Mathlib.Omega.{arith}
 use denote.Ref.{now}
-use lib.ListN.{length, take}
-use lib.Seq.{take-at}
+use lib.ListN.{length, take, drop, length-append, length-drop}
+use lib.Seq.{take-at, length-take-le}
 use lib.Dec.{ltb}
 use borrow.Author.Needs.{needs}
 use borrow.Author.Tests.{le-ltb}
 use Rattle.answer.specs.Answer.{inNumbers, limit}
-use Rattle.reading.proofs.Filling.{into-refused, into-count, into-short, into-filled, few-cells}
-use Rattle.answer.specs.Output.{filled}
 use Rattle.reading.specs.Reading.{reading}
-use Rattle.jp2.specs.Rule.{jp2}
+use Rattle.reading.proofs.Laws.{Left, left-start}
+use Rattle.reading.proofs.Filling.{into-refused, into-count, into-room, into-short, into-filled}
+use Rattle.jp2.specs.Rule.{plain, state, jp2}
 use Rattle.jp2.proofs.Kept.{jp2-kept}
+use Rattle.jp2_whole.proofs.Laying.{laying-left, laying-front, filling-of, filled-behind}
 use Rattle.jp2_whole.proofs.through.Statement.{statement}
 use Rattle.jp2_whole.proofs.through.Tie as tie
 
-decode-requires : tie.Need-decode-requires
-decode-requires c κs =
-    let s = c .before .before .before .before in
-    omega (arith, few-cells jp2 (now (s .args .text)), s .pre .1)
+fill-on-requires : tie.Need-fill-on-requires
+fill-on-requires c κs = (omega arith, omega arith)
 
-within : (c : tie.After-decode) → ltb limit (length (now (c .before .before .before .before .before .args .text))) ≡ false
-within c = le-ltb limit _ (c .before .before .before .before .before .pre .0)
+left :
+    (c : tie.After-fill-on) →
+    let r = c .fill-on .result in
+    Left jp2 (now (c .before .before .before .before .before .args .text)) (r .at) (state (r .g0) (r .g2) plain) (r .n)
+left c = laying-left (c .fill-on .ensures) (left-start jp2 _)
+
+within : (c : tie.After-measure) → ltb limit (length (now (c .before .before .before .before .before .before .before .before .args .text))) ≡ false
+within c = le-ltb limit _ (c .before .before .before .before .before .before .before .before .pre)
+
+measure-requires : tie.Need-measure-requires
+measure-requires c κs = left (c .before .before)
 
 enum-told : tie.Need-enum-told
 enum-told c = search needs
@@ -33,9 +41,7 @@ same-length : tie.Need-same-length
 same-length c = search needs
 
 returns : tie.Need-returns
-returns c =
-    let d = c .before .before .before .before in
-    into-refused jp2-kept _ _ (within d) (d .decode .ensures .0) (c .enum-told .given .1)
+returns c = into-refused jp2-kept _ _ (within (c .before .before)) (c .before .before .measure .ensures) (c .enum-told .given .1)
 
 enum-known-found : tie.Need-enum-known-found
 enum-known-found c = search needs
@@ -44,19 +50,23 @@ same-length-2 : tie.Need-same-length-2
 same-length-2 c = search needs
 
 returns-2 : tie.Need-returns-2
-returns-2 c =
-    let f = c .before .before in
-    let d = f .before .before .before .before in
-    into-short jp2-kept _ _ (within d) (d .decode .ensures .0) (f .found .given .1) (c .if1 .taken)
+returns-2 c = into-short jp2-kept _ _ (within (c .before .before .before .before)) (c .before .before .before .before .measure .ensures) (c .before .before .found .given .1) (c .if1 .taken)
+
+count : (c : tie.After-found) → c .found .given .0 .0 ≡ length (reading jp2 (now (c .before .before .before .before .before .before .before .before .before .before .args .text)) .cells)
+count c = into-count jp2-kept (now (c .before .before .before .before .before .before .before .before .before .before .args .text)) [] (within (c .before .before)) (c .before .before .measure .ensures) (c .found .given .1)
 
 copy-requires : tie.Need-copy-requires
 copy-requires c κs =
-    let f = c .before .before .before .before in
-    let d = f .before .before .before .before in
-    let s = d .before .before .before .before .before in
-    let t = now (s .args .text) in
-    let n = into-count jp2-kept t [] (within d) (d .decode .ensures .0) (f .found .given .1) in
-    (omega (arith, n, few-cells jp2 t, s .pre .1, d .decode .kept .1 .0), c .before .before .if1 .left)
+    let f = c .before .before .before .before .before .before .before .before .before in
+    (f .fill-on .ensures .fits, omega (arith, left f .inside, count (c .before .before .before .before), c .before .before .if1 .left))
+
+decode-requires : tie.Need-decode-requires
+decode-requires c κs =
+    let f = c .before .before .before .before .before .before .before .before .before .before .before .before .before in
+    let k = length-take-le (f .fill-on .result .n) (f .fill-on .last .1 .1 .0) (f .fill-on .ensures .fits) in
+    filling-of (left f)
+    (omega (arith, count (c .before .before .before .before .before .before .before .before), c .before .before .before .before .before .before .if1 .left, c .before .before .before .copy .kept .1 .1 .0))
+    (rw (c .before .before .before .copy .ensures) (take-at _ _ _ k) ∙ laying-front (f .fill-on .ensures) (left-start jp2 _) refl)
 
 same-length-3 : tie.Need-same-length-3
 same-length-3 c = search needs
@@ -66,20 +76,19 @@ same-length-4 c = search needs
 
 returns-3 : tie.Need-returns-3
 returns-3 c =
-    let f = c .before .before .before .before .before .before .before in
-    let d = f .before .before .before .before in
-    let a = d .before .before .before .before .before .args in
-    let n = into-count jp2-kept (now (a .text)) [] (within d) (d .decode .ensures .0) (f .found .given .1) in
-    let k : take (f .found .given .0 .0) (d .decode .last .1 .0) ≡ reading jp2 (now (a .text)) .cells =
-    rw (d .decode .ensures .1) (take-at (reading jp2 (now (a .text)) .cells) _ _ (sym n)) in
-    into-filled jp2-kept _ _ (within d) (ap inNumbers (sym (f .found .given .1)) ∙ d .decode .ensures .0) refl (c .before .before .before .before .before .if1 .left)
-    (c .before .before .copy .ensures ∙ ap (λ (z : List ℕ). filled z (now (a .out))) k)
+    let f = c .before .before .before .before .before .before .before .before .before .before .before .before .before .before .before .before in
+    let t = now (c .before .before .before .before .before .before .before .before .before .before .before .before .before .before .before .before .before .before .before .before .before .args .text) in
+    let k = length-take-le (f .fill-on .result .n) (f .fill-on .last .1 .1 .0) (f .fill-on .ensures .fits) in
+    let b = filled-behind (take (f .fill-on .result .n) (f .fill-on .last .1 .1 .0)) (now (c .before .before .before .before .before .before .before .before .before .before .before .before .before .before .before .before .before .before .before .before .before .args .out)) (length (reading jp2 t .cells)) (omega (arith, k, left f .inside)) in
+    into-filled jp2-kept _ _ (within (c .before .before .before .before .before .before .before .before .before .before .before .before .before)) (ap inNumbers (sym (c .before .before .before .before .before .before .before .before .before .before .before .found .given .1)) ∙ c .before .before .before .before .before .before .before .before .before .before .before .before .before .measure .ensures) refl (c .before .before .before .before .before .before .before .before .before .if1 .left)
+    (c .before .before .decode .ensures ∙ ap (λ (z : List ℕ). reading jp2 t .cells ++ z) (rw (c .before .before .before .before .before .before .copy .ensures) b))
 
 pub through-spec : {M : Type 1} → statement M
 through-spec =
     tie.close
     (tie.spec
-    decode-requires
+    fill-on-requires
+    measure-requires
     enum-told
     same-length
     returns
@@ -87,6 +96,7 @@ through-spec =
     same-length-2
     returns-2
     copy-requires
+    decode-requires
     same-length-3
     same-length-4
     returns-3)

@@ -1,26 +1,31 @@
-use Prim.Native.Nat.{_+_, _-_, _≤_}
-use mathlib.Core.Path.{_≡_, refl}
+use Prim.Native.Nat.{_+_, _-_, _<_, _≤_}
+use mathlib.Core.Path.{_≡_, refl, sym, ap, _∙_}
 use native.Mathlib.Omega.{arith}
-use mathlib.Core.List.{_∷_}
-use lib.ListN.{drop, drop-of-length-le}
+use lib.ListN.{length, getD, take, drop}
+use lib.Seq.{take-all, drop-set-lt}
 use borrow.Author.Needs.{needs}
-use Rattle.answer.proofs.Put.{Put, put-start, put-as, put-lt, put-next, put-done}
-use Rattle.jp2_whole.proofs.Tokens.{cellsOf, cells-length, cells-at}
+use Rattle.answer.proofs.Laid.{Laid, laid-none, laid-next}
+use Rattle.jp2_whole.proofs.Tokens.{cellsOf, cells-length, cells-get}
 use Rattle.jp2_whole.proofs.quick.widen.Statement.{statement}
 use Rattle.jp2_whole.proofs.quick.widen.Tie as tie
 
 abbrev Inv-loop : tie.InvT-loop
-Inv-loop text from to out₀ size k₀ out k =
-    (size ≡ to - from) × ((k ≤ size) × Put (cellsOf text from to) out₀ out k (drop k (cellsOf text from to)))
+Inv-loop text from to out₀ n size k₀ out k =
+    (size ≡ to - from)
+    × ((k ≤ size) × (Laid (take k (cellsOf text from to)) n out₀ out × (drop (n + size) out ≡ drop (n + size) out₀)))
 
 abbrev μ-loop : tie.MeasureT-loop
-μ-loop text from to out₀ size k₀ out k = size - k
+μ-loop text from to out₀ n size k₀ out k = size - k
 
 sub-size : tie.Need-sub-size Inv-loop μ-loop
 sub-size c = search needs
 
 loop-holds : tie.Need-loop-holds Inv-loop μ-loop
-loop-holds c = (refl, (omega arith, put-start _ _ (let s = c .before .before in rw (cells-length _ (s .args .from) (s .args .to) (s .pre .1 .0)) (s .pre .1 .1))))
+loop-holds c = (refl, (omega arith, (laid-none _ _, refl)))
+
+-- the next cell has a place
+place : (c : tie.In-loop Inv-loop μ-loop) → c .before .before .before .before .args .n + c .before .loop .k < length (c .before .loop .out)
+place c = let i = c .before .loop .inv in omega (arith, i .0, i .1 .1 .0 .same, c .before .before .before .before .pre .1, c .loop-test .taken)
 
 add-ascii-cell : tie.Need-add-ascii-cell Inv-loop μ-loop
 add-ascii-cell c = search needs
@@ -31,22 +36,14 @@ shared-slice-read-ascii-cell c = search needs
 ascii-cell-requires : tie.Need-ascii-cell-requires Inv-loop μ-loop
 ascii-cell-requires c κs = search needs
 
--- the next cell
-next :
-    (c : tie.After-ascii-cell Inv-loop μ-loop) →
-    let l = c .before .before .before in
-    let a = l .before .before .before .args in
-    Put (cellsOf (a .text .now) (a .from) (a .to)) (a .out .now) (l .loop .out) (l .loop .k) (c .ascii-cell .result ∷ drop (l .loop .k + 1) (cellsOf (a .text .now) (a .from) (a .to)))
-next c =
-    let l = c .before .before .before in
-    let a = l .before .before .before .args in
-    put-as (rw (c .ascii-cell .ensures) (cells-at _ (a .from) (a .to) (l .before .before .before .pre .1 .0) (l .loop .k) (c .before .before .loop-test .taken))) (l .loop .inv .1 .1)
+add-out : tie.Need-add-out Inv-loop μ-loop
+add-out c = omega (arith, place (c .before .before), c .before .before .before .loop .inv .1 .1 .0 .same, c .before .before .before .before .before .before .good)
 
 mul-out : tie.Need-mul-out Inv-loop μ-loop
-mul-out c = omega (arith, put-lt (next c))
+mul-out c = omega (arith, place (c .before .before), c .before .before .before .loop .inv .1 .1 .0 .same, c .before .before .before .before .before .before .good)
 
 slice-write-out : tie.Need-slice-write-out Inv-loop μ-loop
-slice-write-out c = put-lt (next c)
+slice-write-out c = place (c .before .before)
 
 add-k : tie.Need-add-k Inv-loop μ-loop
 add-k c = search needs
@@ -55,16 +52,33 @@ loop-less : tie.Need-loop-less Inv-loop μ-loop
 loop-less c = search needs
 
 loop-again : tie.Need-loop-again Inv-loop μ-loop
-loop-again c = (refl, (omega arith, put-next (next c)))
+loop-again c =
+    let i = c .before .before .before .loop .inv in
+    let a = c .before .before .before .before .before .before .args in
+    let k = c .before .before .before .loop .k in
+    let q : k < a .to - a .from = omega (arith, i .0, c .before .before .loop-test .taken) in
+    let h = c .before .before .before .before .before .before .pre .0 .1 in
+    let e : c .ascii-cell .result ≡ getD (cellsOf (a .text .now) (a .from) (a .to)) k 0 = c .ascii-cell .ensures ∙ sym (cells-get (a .text .now) (a .from) (a .to) h k q) in (
+      i .0,
+      (
+        omega arith,
+        (
+          rw e (laid-next (cellsOf (a .text .now) (a .from) (a .to)) k (i .1 .1 .0) (omega (arith, q, cells-length (a .text .now) (a .from) (a .to) h)) (place (c .before .before))),
+          drop-set-lt (a .n + (a .to - a .from)) (c .before .before .before .loop .out) (a .n + k) _ (omega (arith, q)) ∙ i .1 .1 .1,
+        ),
+      ),
+    )
 
 same-length : tie.Need-same-length Inv-loop μ-loop
-same-length c = c .before .loop .inv .1 .1 .same
+same-length c = c .before .loop .inv .1 .1 .0 .same
 
 returns : tie.Need-returns Inv-loop μ-loop
 returns c =
-    let a = c .before .before .before .before .args in
-    let l = cells-length (a .text .now) (a .from) (a .to) (c .before .before .before .before .pre .1 .0) in
-    put-done (put-as (drop-of-length-le _ {i = c .before .loop .k} (omega (arith, l, c .loop-test .left))) (c .before .loop .inv .1 .1))
+    let i = c .before .loop .inv in
+    let a = c .before .before .before .before .args in (
+      rw (take-all (c .before .loop .k) (cellsOf (a .text .now) (a .from) (a .to)) (omega (arith, i .0, c .loop-test .left, cells-length (a .text .now) (a .from) (a .to) (c .before .before .before .before .pre .0 .1)))) at (i .1 .1 .0),
+      rw (i .0) at (i .1 .1 .1),
+    )
 
 pub widen-spec : {M : Type 1} → statement M
 widen-spec =
@@ -77,6 +91,7 @@ widen-spec =
     add-ascii-cell
     shared-slice-read-ascii-cell
     ascii-cell-requires
+    add-out
     mul-out
     slice-write-out
     add-k
