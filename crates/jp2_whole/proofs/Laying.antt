@@ -22,10 +22,10 @@ use Rattle.jp2.specs.Rule.{State, jp2}
 use Rattle.jp2_whole.specs.Quick.{Goes, Laying, Same, Matches}
 use Rattle.jp2_whole.proofs.Tokens.{at-rest}
 
-goes-of : {s : List ℕ} {at to : ℕ} {st st' : State} {cs : List ℕ} → Stride jp2 s at st to cs st' → Goes s at st to cs st'
+pub goes-of : {s : List ℕ} {at to : ℕ} {st st' : State} {cs : List ℕ} → Stride jp2 s at st to cs st' → Goes s at st to cs st'
 goes-of a = record { within = a .within; few = a .few; same = a .same }
 
-stride-of : {s : List ℕ} {at to : ℕ} {st st' : State} {cs : List ℕ} → Goes s at st to cs st' → Stride jp2 s at st to cs st'
+pub stride-of : {s : List ℕ} {at to : ℕ} {st st' : State} {cs : List ℕ} → Goes s at st to cs st' → Stride jp2 s at st to cs st'
 stride-of a = record { within = a .within; few = a .few; same = a .same }
 
 -- what is kept from a place on is kept from a later one on

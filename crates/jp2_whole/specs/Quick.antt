@@ -1,5 +1,5 @@
 -- What the loops over whole texts find in a text, a designation, a shift, a pair, stretches of ASCII and of pairs, and what they leave.
-use Prim.Native.Nat.{ℕ, _+_, _*_, _<_, _≤_}
+use Prim.Native.Nat.{ℕ, _+_, _-_, _*_, _<_, _≤_}
 use mathlib.Core.Path.{_≡_}
 use mathlib.Core.Bool.{Bool, true, _&&_, not}
 use mathlib.Core.List.{List, [], _∷_, _++_}
@@ -76,6 +76,12 @@ pub record Goes (text : List ℕ) (at : ℕ) (st : State) (to : ℕ) (cs : List 
   pub same :
       readFrom jp2 (drop at text) at st
       ≡ record { cells = cs ++ readFrom jp2 (drop to text) to st' .cells; ending = readFrom jp2 (drop to text) to st' .ending }
+
+-- there is a byte before a place, and as many places for cells as there are bytes
+pub record Room (text : List ℕ) (at n to : ℕ) (out : List ℕ) : Type 0 where
+  pub byte : at < to
+  pub within : to ≤ length text
+  pub places : n + (to - at) ≤ length out
 
 -- the cells from a place to another are laid into an output from n on; what lies behind them is kept
 pub record Laying (text : List ℕ) (at g0 g2 n : ℕ) (out : List ℕ) (to g0' g2' n' : ℕ) (out' : List ℕ) : Type 0 where

@@ -3,7 +3,7 @@
 use jp2::Designation;
 ghost use mathlib.Core.Path.{_≡_};
 ghost use mathlib.Core.Bool.{true, cond, _&&_, _||_, not};
-ghost use mathlib.Core.List.{List, map};
+ghost use mathlib.Core.List.{List, [], map};
 ghost use Prim.Native.Nat.{_<_, _≤_, _+_, _-_, _*_, _/_, _%_};
 ghost use lib.ListN.{length, getD, take, drop};
 ghost use lib.Dec.{eqb, leb, ltb};
@@ -11,7 +11,7 @@ ghost use Rattle.answer.specs.Inner.{Laid};
 ghost use Rattle.reading.specs.Inner.{Left};
 ghost use Rattle.jp2.specs.Rule.{graphic, plain, state, cellOf, jp2};
 ghost use Rattle.jp2.specs.Writable.{ascii};
-ghost use Rattle.jp2_whole.specs.Quick.{codeOf, Sends, Found, RowAt, Shift, Pair, Spanned, Plains, Stretch, Pairs, Laying, Same, Matches};
+ghost use Rattle.jp2_whole.specs.Quick.{codeOf, Sends, Found, RowAt, Shift, Pair, Spanned, Plains, Stretch, Pairs, Goes, Room, Laying, Same, Matches};
 
 // Where a loop stopped: between cells, after n of them.
 pub struct Reached {
@@ -331,8 +331,89 @@ fn reach(at: usize, size: usize, room: usize) -> usize
     at + room
 }
 
-// Puts the cells of a text from a place on into an output, of no more bytes than it has room for. Behind an escape and behind a stretch, a stretch
-// is looked for only after some bytes.
+// The reader behind the designation that stands at ESC; where there is none it stays.
+fn after_row(text: &[u8], from: Reached) -> Reached
+    requires { ⌜ (from .at < length (now text)) × (getD (now text) (from .at) 0 ≡ 27) ⌝ }
+    ensures { λ r. ⌜ Goes (now (text .entry)) (from .at) (state (from .g0) (from .g2) plain) (r .at) [] (state (r .g0) (r .g2) plain) ⌝ }
+    ensures { λ r. ⌜ r .n ≡ from .n ⌝ }
+{
+    let d = row_at(text, from.at);
+    if d == 0 {
+        return from;
+    }
+    Reached {
+        at: from.at + (d % 8) as usize,
+        n: from.n,
+        g0: g0_after(from.g0, d),
+        g2: g2_after(from.g2, d),
+    }
+}
+
+// Puts the cell of a byte of a set of single bytes, and those of a stretch behind it.
+fn put_single(text: &[u8], from: Reached, to: usize, out: &mut [u32]) -> Reached
+    requires { ⌜ Room (now text) (from .at) (from .n) to (now out) ⌝ }
+    requires { ⌜ ((eqb (from .g0) 6 || eqb (from .g0) 14) ≡ true) × (ascii (getD (now text) (from .at) 0) ≡ true) ⌝ }
+    ensures { λ r. ⌜ Laying (now (text .entry)) (from .at) (from .g0) (from .g2) (from .n) (now (out .entry)) (r .at) (r .g0) (r .g2) (r .n) (now (out .exit)) ⌝ }
+    ensures { λ r. ⌜ r .n + (to - r .at) ≤ length (now (out .exit)) ⌝ }
+{
+    let at = from.at;
+    let n = from.n;
+    let g0 = from.g0;
+    let g2 = cleared(text, at, from.g2);
+    out[n] = single_cell(g0, text[at]);
+    let end = stretch_end(text, at + 1, to, g0, g2);
+    widen(text, at + 1, end, out, n + 1);
+    Reached {
+        at: end,
+        n: n + 1 + (end - (at + 1)),
+        g0,
+        g2,
+    }
+}
+
+// Puts the cells of a token; where there is none the reader stays.
+fn put_token(text: &[u8], from: Reached, to: usize, out: &mut [u32]) -> Reached
+    requires { ⌜ Room (now text) (from .at) (from .n) to (now out) ⌝ }
+    ensures { λ r. ⌜ Laying (now (text .entry)) (from .at) (from .g0) (from .g2) (from .n) (now (out .entry)) (r .at) (r .g0) (r .g2) (r .n) (now (out .exit)) ⌝ }
+    ensures { λ r. ⌜ r .n + (to - r .at) ≤ length (now (out .exit)) ⌝ }
+{
+    let at = from.at;
+    let n = from.n;
+    let g0 = from.g0;
+    let g2 = from.g2;
+    let b = text[at];
+    if b == 27 {
+        if is_shift(text, at, g2) {
+            out[n] = shifted_cell(g2, text[at + 2]);
+            return Reached {
+                at: at + 3,
+                n: n + 1,
+                g0,
+                g2,
+            };
+        }
+        return after_row(text, from);
+    }
+    if is_single(g0) {
+        if is_plain(b) {
+            return put_single(text, from, to, out);
+        }
+        return from;
+    }
+    if is_pair(text, at) {
+        out[n] = pair_cell(g0, b, text[at + 1]);
+        return Reached {
+            at: at + 2,
+            n: n + 1,
+            g0,
+            g2,
+        };
+    }
+    from
+}
+
+// Puts the cells of a text from a place on into an output, of no more bytes than it has room for. Behind a token, a stretch is looked for only
+// after some bytes.
 fn fill(text: &[u8], from: Reached, out: &mut [u32]) -> Reached
     requires { ⌜ (from .at ≤ length (now text)) × (from .n ≤ length (now out)) ⌝ }
     ensures { λ r. ⌜ Laying (now (text .entry)) (from .at) (from .g0) (from .g2) (from .n) (now (out .entry)) (r .at) (r .g0) (r .g2) (r .n) (now (out .exit)) ⌝ }
@@ -350,45 +431,15 @@ fn fill(text: &[u8], from: Reached, out: &mut [u32]) -> Reached
             n += 1;
             at += 1;
         } else {
-            if b == 27 {
-                if is_shift(text, at, g2) {
-                    out[n] = shifted_cell(g2, text[at + 2]);
-                    n += 1;
-                    at += 3;
-                    next = at + 12;
-                } else {
-                    let d = row_at(text, at);
-                    if d == 0 {
-                        return Reached { at, n, g0, g2 };
-                    }
-                    g0 = g0_after(g0, d);
-                    g2 = g2_after(g2, d);
-                    at += (d % 8) as usize;
-                    next = at + 12;
-                }
-            } else {
-                if is_single(g0) {
-                    if !is_plain(b) {
-                        return Reached { at, n, g0, g2 };
-                    }
-                    g2 = cleared(text, at, g2);
-                    out[n] = single_cell(g0, b);
-                    n += 1;
-                    at += 1;
-                    let end = stretch_end(text, at, to, g0, g2);
-                    widen(text, at, end, out, n);
-                    n += end - at;
-                    at = end;
-                    next = at + 12;
-                } else {
-                    if !is_pair(text, at) {
-                        return Reached { at, n, g0, g2 };
-                    }
-                    out[n] = pair_cell(g0, b, text[at + 1]);
-                    n += 1;
-                    at += 2;
-                }
+            let r = put_token(text, Reached { at, n, g0, g2 }, to, out);
+            if r.at <= at {
+                return r;
             }
+            at = r.at;
+            n = r.n;
+            g0 = r.g0;
+            g2 = r.g2;
+            next = at + 12;
         }
     }
     Reached { at, n, g0, g2 }
@@ -416,6 +467,52 @@ pub fn fill_on(text: &[u8], from: Reached, out: &mut [u32]) -> Reached
     Reached { at, n, g0, g2 }
 }
 
+// Counts the cells of a token; where there is none the reader stays.
+fn judge_token(text: &[u8], from: Reached) -> Reached
+    requires { ⌜ Left jp2 (now text) (from .at) (state (from .g0) (from .g2) plain) (from .n) × (from .at < length (now text)) ⌝ }
+    ensures { λ r. ⌜ Left jp2 (now (text .entry)) (r .at) (state (r .g0) (r .g2) plain) (r .n) ⌝ }
+{
+    let at = from.at;
+    let n = from.n;
+    let g0 = from.g0;
+    let g2 = from.g2;
+    let b = text[at];
+    if b == 27 {
+        if is_shift(text, at, g2) {
+            return Reached {
+                at: at + 3,
+                n: n + 1,
+                g0,
+                g2,
+            };
+        }
+        return after_row(text, from);
+    }
+    if is_single(g0) {
+        if !is_plain(b) {
+            return from;
+        }
+        let g = cleared(text, at, g2);
+        let end = stretch_end(text, at + 1, text.len(), g0, g);
+        return Reached {
+            at: end,
+            n: n + 1 + (end - (at + 1)),
+            g0,
+            g2: g,
+        };
+    }
+    if !is_pair(text, at) {
+        return from;
+    }
+    let end = pairs_end(text, at + 2);
+    Reached {
+        at: end,
+        n: n + 1 + (end - (at + 2)) / 2,
+        g0,
+        g2,
+    }
+}
+
 // Counts the cells of a text from a place on.
 pub fn judge(text: &[u8], from: Reached) -> Reached
     requires { ⌜ Left jp2 (now text) (from .at) (state (from .g0) (from .g2) plain) (from .n) ⌝ }
@@ -427,49 +524,19 @@ pub fn judge(text: &[u8], from: Reached) -> Reached
     let mut g2 = from.g2;
     let mut next = at;
     while at < text.len() {
-        let b = text[at];
-        if is_lone(b, at, next, g0) {
+        if is_lone(text[at], at, next, g0) {
             n += 1;
             at += 1;
         } else {
-            if b == 27 {
-                if is_shift(text, at, g2) {
-                    n += 1;
-                    at += 3;
-                    next = at + 12;
-                } else {
-                    let d = row_at(text, at);
-                    if d == 0 {
-                        return Reached { at, n, g0, g2 };
-                    }
-                    g0 = g0_after(g0, d);
-                    g2 = g2_after(g2, d);
-                    at += (d % 8) as usize;
-                    next = at + 12;
-                }
-            } else {
-                if is_single(g0) {
-                    if !is_plain(b) {
-                        return Reached { at, n, g0, g2 };
-                    }
-                    g2 = cleared(text, at, g2);
-                    n += 1;
-                    at += 1;
-                    let end = stretch_end(text, at, text.len(), g0, g2);
-                    n += end - at;
-                    at = end;
-                    next = at + 12;
-                } else {
-                    if !is_pair(text, at) {
-                        return Reached { at, n, g0, g2 };
-                    }
-                    n += 1;
-                    at += 2;
-                    let end = pairs_end(text, at);
-                    n += (end - at) / 2;
-                    at = end;
-                }
+            let r = judge_token(text, Reached { at, n, g0, g2 });
+            if r.at <= at {
+                return r;
             }
+            at = r.at;
+            n = r.n;
+            g0 = r.g0;
+            g2 = r.g2;
+            next = at + 12;
         }
     }
     Reached { at, n, g0, g2 }
