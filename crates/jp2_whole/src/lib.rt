@@ -97,8 +97,8 @@ fn measure(text: &[u8], from: quick::Reached) -> Answer
     jp2_read::finish(at, n, st)
 }
 
-// Reads a text by way of a buffer. The whole text is judged before a cell is written to the output: the cells that the buffer has no room for
-// are counted, and read a second time.
+// Reads a text by way of a buffer. The whole text is judged before a cell is written to the output: the cells that the
+// buffer has no room for are counted, and read a second time.
 fn through(text: &[u8], cells: &mut [u32], out: &mut [u32]) -> Answer
     requires { ⌜ length (now text) ≤ limit ⌝ }
     ensures { λ r. ⌜ leaves r (now (out .exit)) ≡ readInto jp2 (now (text .entry)) (now (out .entry)) ⌝ }
@@ -126,7 +126,8 @@ fn through(text: &[u8], cells: &mut [u32], out: &mut [u32]) -> Answer
     }
 }
 
-// Reads a text into an output. The buffers are on the stack, 32 KiB at most, whatever the limit; a short text clears a small one only.
+// Reads a text into an output. The buffers are on the stack, 32 KiB at most, whatever the limit; a short text clears a
+// small one only.
 pub fn read(text: &[u8], out: &mut [u32]) -> Answer
     ensures { λ r. ⌜ leaves r (now (out .exit)) ≡ readInto jp2 (now (text .entry)) (now (out .entry)) ⌝ }
 {

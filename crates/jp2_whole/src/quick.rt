@@ -1,5 +1,5 @@
-// Whole texts, a token at a time: the loops of this file go over what accepted texts are made of, and stop at anything else. The loops that go
-// byte by byte, which name every fault, read on from there.
+// Whole texts, a token at a time: the loops of this file go over what accepted texts are made of, and stop at anything
+// else. The loops that go byte by byte, which name every fault, read on from there.
 use jp2::Designation;
 ghost use mathlib.Core.Path.{_≡_};
 ghost use mathlib.Core.Bool.{true, cond, _&&_, _||_, not};
@@ -37,8 +37,8 @@ fn both(s: bool, t: bool) -> bool
     false
 }
 
-// What a row sends after ESC starts with two bytes, and then goes on with c, or has just three bytes. Every test is made, for a choice without a
-// branch.
+// What a row sends after ESC starts with two bytes, and then goes on with c, or has just three bytes. Every test is
+// made, for a choice without a branch.
 fn is_sent(d: Designation, two: u32, c: u8, long: bool) -> bool
     ensures { λ r. ⌜ (r ≡ true → Sends d two c) ⌝ }
 {
@@ -82,7 +82,7 @@ fn found(a: u8, b: u8, c: u8, long: bool) -> u32
     r
 }
 
-// The row that stands at ESC, or 0. Where ( is the third byte it has four, so that a length is known before the row is.
+// The row that stands at ESC, or 0. Those that have ( as their third byte have four.
 fn row_at(text: &[u8], at: usize) -> u32
     requires { ⌜ at < length (now text) ⌝ }
     ensures { λ r. ⌜ RowAt (now (text .entry)) at r ⌝ }
@@ -412,8 +412,8 @@ fn put_token(text: &[u8], from: Reached, to: usize, out: &mut [u32]) -> Reached
     from
 }
 
-// Puts the cells of a text from a place on into an output, of no more bytes than it has room for. Behind a token, a stretch is looked for only
-// after some bytes.
+// Puts the cells of a text from a place on into an output, of no more bytes than it has room for. Behind a token, a
+// stretch is looked for only after some bytes.
 fn fill(text: &[u8], from: Reached, out: &mut [u32]) -> Reached
     requires { ⌜ (from .at ≤ length (now text)) × (from .n ≤ length (now out)) ⌝ }
     ensures { λ r. ⌜ Laying (now (text .entry)) (from .at) (from .g0) (from .g2) (from .n) (now (out .entry)) (r .at) (r .g0) (r .g2) (r .n) (now (out .exit)) ⌝ }
@@ -467,6 +467,24 @@ pub fn fill_on(text: &[u8], from: Reached, out: &mut [u32]) -> Reached
     Reached { at, n, g0, g2 }
 }
 
+// Counts the cell of a byte of a set of single bytes, and those of a stretch behind it.
+fn judge_single(text: &[u8], from: Reached) -> Reached
+    requires { ⌜ Left jp2 (now text) (from .at) (state (from .g0) (from .g2) plain) (from .n) × (from .at < length (now text)) ⌝ }
+    requires { ⌜ ((eqb (from .g0) 6 || eqb (from .g0) 14) ≡ true) × (ascii (getD (now text) (from .at) 0) ≡ true) ⌝ }
+    ensures { λ r. ⌜ Left jp2 (now (text .entry)) (r .at) (state (r .g0) (r .g2) plain) (r .n) ⌝ }
+{
+    let at = from.at;
+    let g0 = from.g0;
+    let g2 = cleared(text, at, from.g2);
+    let end = stretch_end(text, at + 1, text.len(), g0, g2);
+    Reached {
+        at: end,
+        n: from.n + 1 + (end - (at + 1)),
+        g0,
+        g2,
+    }
+}
+
 // Counts the cells of a token; where there is none the reader stays.
 fn judge_token(text: &[u8], from: Reached) -> Reached
     requires { ⌜ Left jp2 (now text) (from .at) (state (from .g0) (from .g2) plain) (from .n) × (from .at < length (now text)) ⌝ }
@@ -489,17 +507,10 @@ fn judge_token(text: &[u8], from: Reached) -> Reached
         return after_row(text, from);
     }
     if is_single(g0) {
-        if !is_plain(b) {
-            return from;
+        if is_plain(b) {
+            return judge_single(text, from);
         }
-        let g = cleared(text, at, g2);
-        let end = stretch_end(text, at + 1, text.len(), g0, g);
-        return Reached {
-            at: end,
-            n: n + 1 + (end - (at + 1)),
-            g0,
-            g2: g,
-        };
+        return from;
     }
     if !is_pair(text, at) {
         return from;

@@ -7,7 +7,7 @@ use borrow.Author.Tests.{not-false}
 use Rattle.reading.proofs.Laws.{Left}
 use Rattle.reading.proofs.Strides.{left-stride, left-none}
 use Rattle.jp2.specs.Rule.{plain, state, jp2}
-use Rattle.jp2_whole.proofs.Tokens.{single-stride, pair-stride, shift-stride, stretch-stride, stretch-bounds, cells-length, pairs-stride, pairs-count}
+use Rattle.jp2_whole.proofs.Tokens.{pair-stride, shift-stride, pairs-stride, pairs-count}
 use Rattle.jp2_whole.proofs.Laying.{stride-of}
 use Rattle.jp2_whole.proofs.quick.judge_token.Statement.{statement}
 use Rattle.jp2_whole.proofs.quick.judge_token.Tie as tie
@@ -25,11 +25,11 @@ shifts :
     Left jp2 (c .before .before .before .before .before .args .text .now) (f .at + 3) (state (f .g0) (f .g2) plain) (f .n + 1)
 shifts c = left-stride (shift-stride (c .before .before .if1 .taken) (c .before .is-shift .ensures (c .if2 .taken))) (c .before .before .before .before .before .pre .0)
 
-add-t15 : tie.Need-add-t15
-add-t15 c = omega (arith, shifts c .within, c .before .before .before .before .before .good)
+add-t13 : tie.Need-add-t13
+add-t13 c = omega (arith, shifts c .within, c .before .before .before .before .before .good)
 
-add-t16 : tie.Need-add-t16
-add-t16 c = omega (arith, shifts c .few, shifts c .within, c .before .before .before .before .before .good)
+add-t14 : tie.Need-add-t14
+add-t14 c = omega (arith, shifts c .few, shifts c .within, c .before .before .before .before .before .good)
 
 returns : tie.Need-returns
 returns c = shifts c
@@ -48,57 +48,14 @@ is-single-requires c κs = search needs
 is-plain-requires : tie.Need-is-plain-requires
 is-plain-requires c κs = search needs
 
+judge-single-requires : tie.Need-judge-single-requires
+judge-single-requires c κs = (c .before .before .before .before .before .before .before .pre, (sym (c .before .before .before .is-single .ensures) ∙ c .before .before .if3 .taken, sym (c .before .is-plain .ensures) ∙ c .if4 .taken))
+
 returns-3 : tie.Need-returns-3
-returns-3 c = c .before .before .before .before .before .before .before .pre .0
-
-cleared-requires : tie.Need-cleared-requires
-cleared-requires c κs = c .before .before .before .before .before .before .before .pre .1
-
--- a byte of a set of single bytes, and a stretch behind it
-one :
-    (c : tie.After-cleared) →
-    let f = c .before .before .before .before .before .before .before .before .args .from in
-    Left jp2 (c .before .before .before .before .before .before .before .before .args .text .now) (f .at + 1) (state (f .g0) (c .cleared .result) plain) (f .n + 1)
-one c =
-    rw (c .cleared .ensures)
-    (left-stride
-    (single-stride _ _ _ _ (c .before .before .before .before .before .before .before .before .pre .1) (sym (c .before .before .before .before .is-single .ensures) ∙ c .before .before .before .if3 .taken)
-    (sym (c .before .before .is-plain .ensures) ∙ not-false _ (c .before .if4 .left)))
-    (c .before .before .before .before .before .before .before .before .pre .0))
-
-add-stretch-end : tie.Need-add-stretch-end
-add-stretch-end c = omega (arith, one c .within, c .before .before .before .before .before .before .before .before .good)
-
-stretch-end-requires : tie.Need-stretch-end-requires
-stretch-end-requires c κs = (one c .within, omega arith)
-
-ends :
-    (c : tie.After-stretch-end) →
-    (c .before .before .before .before .before .before .before .before .before .args .from .at + 1 ≤ c .stretch-end .result) × (c .stretch-end .result ≤ length (c .before .before .before .before .before .before .before .before .before .args .text .now))
-ends c = stretch-bounds (one (c .before) .within) (c .stretch-end .ensures)
-
-stretch :
-    (c : tie.After-stretch-end) →
-    let f = c .before .before .before .before .before .before .before .before .before .args .from in
-    Left jp2 (c .before .before .before .before .before .before .before .before .before .args .text .now) (c .stretch-end .result) (state (f .g0) (c .before .cleared .result) plain)
-    (f .n + 1 + (c .stretch-end .result - (f .at + 1)))
-stretch c =
-    rw (cells-length _ _ _ (ends c .1)) at (left-stride (stretch-stride (one (c .before) .within) (c .stretch-end .ensures)) (one (c .before)))
-
-add-t20 : tie.Need-add-t20
-add-t20 c = omega (arith, one (c .before) .few, one (c .before) .within, c .before .before .before .before .before .before .before .before .before .good)
-
-add-t21 : tie.Need-add-t21
-add-t21 c = omega (arith, one (c .before) .within, c .before .before .before .before .before .before .before .before .before .good)
-
-sub-t22 : tie.Need-sub-t22
-sub-t22 c = ends c .0
-
-add-t23 : tie.Need-add-t23
-add-t23 c = omega (arith, stretch c .few, stretch c .within, c .before .before .before .before .before .before .before .before .before .good)
+returns-3 c = c .judge-single .ensures
 
 returns-4 : tie.Need-returns-4
-returns-4 c = stretch c
+returns-4 c = c .before .before .before .before .before .before .before .pre .0
 
 is-pair-requires : tie.Need-is-pair-requires
 is-pair-requires c κs = c .before .before .before .before .before .pre .1
@@ -132,17 +89,17 @@ more c =
     let m = sym (c .before .before .before .before .is-single .ensures) ∙ c .before .before .before .if3 .left in
     rw (pairs-count _ _ _ (p .count), e) at (left-stride (pairs-stride m p) (two (c .before)))
 
-add-t25 : tie.Need-add-t25
-add-t25 c = omega (arith, two (c .before) .few, two (c .before) .within, c .before .before .before .before .before .before .before .before .good)
+add-t18 : tie.Need-add-t18
+add-t18 c = omega (arith, two (c .before) .few, two (c .before) .within, c .before .before .before .before .before .before .before .before .good)
 
-add-t26 : tie.Need-add-t26
-add-t26 c = omega (arith, two (c .before) .within, c .before .before .before .before .before .before .before .before .good)
+add-t19 : tie.Need-add-t19
+add-t19 c = omega (arith, two (c .before) .within, c .before .before .before .before .before .before .before .before .good)
 
-sub-t27 : tie.Need-sub-t27
-sub-t27 c = c .pairs-end .ensures .codes .ordered
+sub-t20 : tie.Need-sub-t20
+sub-t20 c = c .pairs-end .ensures .codes .ordered
 
-add-t29 : tie.Need-add-t29
-add-t29 c = omega (arith, more c .few, more c .within, c .before .before .before .before .before .before .before .before .good)
+add-t22 : tie.Need-add-t22
+add-t22 c = omega (arith, more c .few, more c .within, c .before .before .before .before .before .before .before .before .good)
 
 returns-6 : tie.Need-returns-6
 returns-6 c = more c
@@ -153,28 +110,22 @@ judge-token-spec =
     (tie.spec
     shared-slice-read-b
     is-shift-requires
-    add-t15
-    add-t16
+    add-t13
+    add-t14
     returns
     after-row-requires
     returns-2
     is-single-requires
     is-plain-requires
+    judge-single-requires
     returns-3
-    cleared-requires
-    add-stretch-end
-    stretch-end-requires
-    add-t20
-    add-t21
-    sub-t22
-    add-t23
     returns-4
     is-pair-requires
     returns-5
     add-pairs-end
     pairs-end-requires
-    add-t25
-    add-t26
-    sub-t27
-    add-t29
+    add-t18
+    add-t19
+    sub-t20
+    add-t22
     returns-6)
