@@ -5,15 +5,14 @@ use mathlib.Core.Bool.{Bool, true, false}
 use mathlib.Core.List.{List, [], _∷_, _++_}
 use native.Mathlib.Omega.{arith}
 use native.Mathlib.Nat.{add-zero, zero-add}
-use lib.ListN.{length, getD, take, drop, set, length-append, length-drop, take-append-drop, drop-of-length-le}
-use lib.Seq.{drop-drop, drop-cons, drop-set-lt, take-add, take-at, drop-at, length-take-le, getD-drop, getD-take}
+use lib.ListN.{length, getD, take, drop, set, length-append, length-drop, take-append-drop}
+use lib.Seq.{drop-drop, drop-set-lt, take-add, take-at, drop-at, length-take-le, getD-drop, getD-take}
 use lib.Dec.{ltb}
 use borrow.Author.Tests.{eq-eqb, ltb-true, ltb-false}
 use Rattle.answer.specs.Output.{filled}
-use Rattle.answer.proofs.Put.{Put}
 use Rattle.answer.proofs.Laid.{Laid, laid-none, laid-one, laid-on}
 use Rattle.reading.specs.Reading.{Reading, Ending, accepted, fault, readFrom, reading}
-use Rattle.reading.specs.Matching.{sameCells, acceptedAs, gave, readsAs}
+use Rattle.reading.specs.Matching.{sameCells, acceptedAs, readsAs}
 use Rattle.reading.proofs.Laws.{Left}
 use Rattle.reading.proofs.Filling.{Filling}
 use Rattle.reading.proofs.Matches.{Matching}

@@ -11,7 +11,8 @@ ghost use Rattle.answer.specs.Inner.{Laid};
 ghost use Rattle.reading.specs.Inner.{Left};
 ghost use Rattle.jp2.specs.Rule.{graphic, plain, state, cellOf, jp2};
 ghost use Rattle.jp2.specs.Writable.{ascii};
-ghost use Rattle.jp2_whole.specs.Quick.{codeOf, Sends, Found, RowAt, Shift, Pair, Spanned, Plains, Stretch, Pairs, Goes, Room, Laying, Same, Matches};
+ghost use Rattle.jp2_whole.specs.Quick.{codeOf, Sends, Found, RowAt, Shift, Pair, Spanned, Plains, Stretch, Pairs};
+ghost use Rattle.jp2_whole.specs.Quick.{Goes, Room, Laying, Same, Matches};
 
 // Where a loop stopped: between cells, after n of them.
 pub struct Reached {

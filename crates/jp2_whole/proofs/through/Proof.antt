@@ -1,10 +1,10 @@
-use Prim.Native.Nat.{ℕ, _≤_}
+use Prim.Native.Nat.{ℕ}
 use mathlib.Core.Path.{_≡_, refl, sym, ap, _∙_}
 use mathlib.Core.Bool.{false}
 use mathlib.Core.List.{List, [], _++_}
 use native.Mathlib.Omega.{arith}
 use denote.Ref.{now}
-use lib.ListN.{length, take, drop, length-append, length-drop}
+use lib.ListN.{length, take}
 use lib.Seq.{take-at, length-take-le}
 use lib.Dec.{ltb}
 use borrow.Author.Needs.{needs}
@@ -12,7 +12,7 @@ use borrow.Author.Tests.{le-ltb}
 use Rattle.answer.specs.Answer.{inNumbers, limit}
 use Rattle.reading.specs.Reading.{reading}
 use Rattle.reading.proofs.Laws.{Left, left-start}
-use Rattle.reading.proofs.Filling.{into-refused, into-count, into-room, into-short, into-filled}
+use Rattle.reading.proofs.Filling.{into-refused, into-count, into-short, into-filled}
 use Rattle.jp2.specs.Rule.{plain, state, jp2}
 use Rattle.jp2.proofs.Kept.{jp2-kept}
 use Rattle.jp2_whole.proofs.Laying.{laying-left, laying-front, filling-of, filled-behind}

@@ -1,7 +1,6 @@
-use Prim.Native.Nat.{_-_, _≤_}
+use Prim.Native.Nat.{_-_}
 use native.Mathlib.Omega.{arith}
 use lib.ListN.{length}
-use borrow.Author.Needs.{needs}
 use Rattle.jp2_whole.specs.Quick.{Laying}
 use Rattle.jp2_whole.proofs.Laying.{laying-start, laying-more}
 use Rattle.jp2_whole.proofs.quick.fill_on.Statement.{statement}

@@ -1,7 +1,6 @@
 use Prim.Native.Nat.{_+_, _-_, _≤_}
 use native.Mathlib.Omega.{arith}
 use lib.ListN.{length}
-use borrow.Author.Needs.{needs}
 use Rattle.reading.proofs.Laws.{Left}
 use Rattle.reading.proofs.Strides.{left-stride}
 use Rattle.jp2.specs.Rule.{plain, state, jp2}

@@ -1,5 +1,4 @@
 use native.Mathlib.Omega.{arith}
-use borrow.Author.Needs.{needs}
 use Rattle.jp2_whole.proofs.quick.reach.Statement.{statement}
 use Rattle.jp2_whole.proofs.quick.reach.Tie as tie
 
