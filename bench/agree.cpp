@@ -59,23 +59,26 @@ public:
           iconv_characters([this](const Bytes &text) { return by_iconv(text); }),
           icu_characters([this](const Bytes &text) { return by_icu(text); }) {}
 
-    // Our cells are the peers' characters, one for one, and stepping gives the cells of reading.
+    // Our cells are the peers' characters, one for one.
     void reading(size_t piece) {
-        const Bytes &text = corpus.pieces[piece];
         const Cells &cells = m.cells[piece];
         const Units &units = m.units[piece];
         same(units_in(m.iconvs.at("UTF-16LE")[piece]) == units, "iconv and ICU read different characters");
-        for (const char *way : {"UCS-4LE", "WCHAR_T"})
-            same(as_units(numbers_in(m.iconvs.at(way)[piece])) == units, std::string("iconv reads otherwise to ") + way);
+        same(as_units(numbers_in(m.iconvs.at("WCHAR_T")[piece])) == units, "iconv reads otherwise to WCHAR_T");
         same(cells.size() == units.size(), "ours counts other cells than the peers count characters");
         same(characters(cells, iconv_characters) == units, "our cells are not iconv's characters");
         same(characters(cells, icu_characters) == units, "our cells are not ICU's characters");
-        if (format.steps) {
-            Cells stepped(text.size());
-            const auto answer = format.steps(text.data(), text.size(), stepped.data());
-            stepped.resize(answer.place);
-            same(answer.number == 0 && stepped == cells, "stepping gives other cells than reading");
-        }
+    }
+
+    // Stepping gives what reading gives, ours and ICU's.
+    void stepping(size_t piece) {
+        const Bytes &text = corpus.pieces[piece];
+        Cells cells(text.size()), characters(text.size());
+        const auto answer = format.steps(text.data(), text.size(), cells.data());
+        cells.resize(answer.place);
+        same(answer.number == 0 && cells == m.cells[piece], "stepping gives other cells than reading");
+        characters.resize(icu.step(text.data(), text.size(), characters.data()));
+        same(as_units(characters) == m.units[piece], "ICU steps over other characters than it reads");
     }
 
     // Every writing is read back by all three. It may be longer than the corpus, and our reader takes no more than LIMIT
@@ -182,6 +185,7 @@ Agreement check_agreement(const Material &material) {
     Checker checker(material);
     for (size_t piece = 0; piece < material.corpus.pieces.size(); piece++) {
         checker.reading(piece);
+        checker.stepping(piece);
         checker.writing(piece);
     }
     return checker.lengths();

@@ -1,6 +1,8 @@
 #include "corpora.h"
 
-#include <map>
+#include <algorithm>
+
+#include "spelling.h"
 
 static const char *const ENGLISH[] = {
     "the", "of", "and", "letter", "journal", "page", "bench", "apprentice", "silver", "watch", "we", "have", "sent",
@@ -14,38 +16,36 @@ static const char16_t *const WESTERN[] = {
 };
 static const char *const STOPS[] = {".", ",", ";", "!", "?", " -", ":", " &", " (sic)", "\""};
 
-// ---- UTF-7: a line is a list of units; this writes it in body style, one run for each stretch, closed by '-'.
+// ---- A line is a list of cells: UTF-16 units, or in JP-2 a set's number and a code.
 
-static bool direct(char16_t u) {
-    return (u >= 32 && u < 126 && u != '+' && u != '\\') || u == '\t' || u == '\r' || u == '\n';
+static uint32_t cell_of(int set, int code) { return uint32_t(set * 65536 + code); }
+
+// ASCII in units is of set 0, in JP-2 of set 6.
+static void say(Cells &line, int set, const std::string &ascii) {
+    for (unsigned char c : ascii) line.push_back(cell_of(set, c));
 }
 
-static std::string utf7_run(const Units &units) {
-    static const char letters[] = "ABCDEFGHIJKLMNOPQRSTUVWXYZabcdefghijklmnopqrstuvwxyz0123456789+/";
-    std::string run = "+";
-    uint32_t bits = 0;
-    int count = 0;
-    for (char16_t u : units) {
-        bits = bits << 16 | u;
-        for (count += 16; count >= 6; count -= 6) run += letters[bits >> (count - 6) & 63];
-    }
-    if (count > 0) run += letters[bits << (6 - count) & 63];
-    return run + "-";
-}
+static void say(Cells &line, const Units &units) { line.insert(line.end(), units.begin(), units.end()); }
 
-static std::string utf7_line(const Units &units) {
-    std::string line;
-    for (size_t i = 0; i < units.size();) {
-        Units stretch;
-        while (i < units.size() && !direct(units[i]) && units[i] != '+') stretch += units[i++];
-        if (!stretch.empty()) line += utf7_run(stretch);
-        else if (units[i] == '+') line += "+-", i++;
-        else line += char(units[i++]);
+// So many words with spaces between them, and a stop behind one in six; `word` puts the i-th, from 1.
+template <class Word> static Cells sentence(Rng &rng, int set, size_t words, Word word) {
+    Cells line;
+    for (size_t i = 1; i <= words; i++) {
+        if (i > 1) say(line, set, " ");
+        word(line, i);
+        if (rng.one_in(6)) say(line, set, rng.pick(STOPS));
     }
     return line;
 }
 
-static Units widened(const std::string &ascii) { return Units(ascii.begin(), ascii.end()); }
+// English words over and over, until the room is full.
+static Cells one_line(Rng &rng, int set, size_t room) {
+    Cells line;
+    while (line.size() < room) say(line, set, std::string(rng.pick(ENGLISH)) + " ");
+    return line;
+}
+
+// ---- UTF-7 and mailbox names
 
 // One character of Japanese: kana for the most part, kanji, and now and then one that takes a surrogate pair.
 static Units japanese(Rng &rng) {
@@ -58,87 +58,63 @@ static Units japanese(Rng &rng) {
     return {char16_t(0xD800 + beyond / 1024), char16_t(0xDC00 + beyond % 1024)};
 }
 
+static void japanese(Cells &line, Rng &rng, size_t characters) {
+    for (; characters > 0; characters--) say(line, japanese(rng));
+}
+
 // English words; one line in eight has a short foreign word, one in forty a '+'.
-static std::string utf7_ascii(Rng &rng) {
-    Units line;
+static Cells utf7_ascii(Rng &rng, size_t) {
     const size_t words = rng.between(8, 13);
     const size_t foreign = rng.one_in(8) ? rng.between(1, words) : 0;
     const size_t plus = rng.one_in(40) ? rng.between(1, words) : 0;
-    for (size_t i = 1; i <= words; i++) {
-        if (i > 1) line += u' ';
-        if (i == foreign) {
-            for (size_t n = rng.between(2, 4); n > 0; n--) line += japanese(rng);
-        } else if (i == plus) {
-            line += u"1+1";
-        } else {
-            line += widened(rng.pick(ENGLISH));
-        }
-        if (rng.one_in(6)) line += widened(rng.pick(STOPS));
-    }
-    return utf7_line(line + u"\r\n");
+    return sentence(rng, 0, words, [&](Cells &line, size_t i) {
+        if (i == foreign) japanese(line, rng, rng.between(2, 4));
+        else say(line, 0, i == plus ? "1+1" : rng.pick(ENGLISH));
+    });
 }
 
 // One run of 60 to 240 characters a line; one line in four starts with an English word.
-static std::string utf7_japanese(Rng &rng) {
-    Units line;
-    if (rng.one_in(4)) line += widened(rng.pick(ENGLISH)) + u": ";
-    for (size_t n = rng.between(60, 240); n > 0; n--) line += japanese(rng);
-    return utf7_line(line + u"\r\n");
+static Cells utf7_japanese(Rng &rng, size_t) {
+    Cells line;
+    if (rng.one_in(4)) say(line, 0, rng.pick(ENGLISH) + std::string(": "));
+    japanese(line, rng, rng.between(60, 240));
+    return line;
 }
 
 // French, German and Spanish words: runs of one unit, rarely two.
-static std::string utf7_western(Rng &rng) {
-    Units line;
-    const size_t words = rng.between(8, 13);
-    for (size_t i = 1; i <= words; i++) {
-        if (i > 1) line += u' ';
-        line += rng.pick(WESTERN);
-        if (rng.one_in(6)) line += widened(rng.pick(STOPS));
-    }
-    return utf7_line(line + u"\r\n");
+static Cells utf7_western(Rng &rng, size_t) {
+    return sentence(rng, 0, rng.between(8, 13), [&](Cells &line, size_t) { say(line, rng.pick(WESTERN)); });
 }
 
-// ---- JP-2: a line is written cell by cell, a designation wherever the set in force differs. It starts and ends in ASCII.
+static Cells utf7_one_line(Rng &rng, size_t room) { return one_line(rng, 0, room); }
 
-struct Designation {
-    int number;
-    const char *escape;
-    int bytes;  // of a cell
-    bool to_g2;
-};
+// One run that fills the room: eight letters spell three units.
+static Cells utf7_one_run(Rng &rng, size_t room) {
+    Cells line;
+    while (line.size() * 8 < (room - 2) * 3) japanese(line, rng, 1);
+    return line;
+}
 
-static const std::map<int, Designation> DESIGNATIONS = {
-    {6, {6, "\033(B", 1, false}},    {14, {14, "\033(J", 1, false}},     {42, {42, "\033$@", 2, false}},
-    {58, {58, "\033$A", 2, false}},  {87, {87, "\033$B", 2, false}},     {149, {149, "\033$(C", 2, false}},
-    {159, {159, "\033$(D", 2, false}}, {100, {100, "\033.A", 1, true}}, {126, {126, "\033.F", 1, true}},
-};
+// Folders in English, Japanese and French, one to four words each.
+static Cells mailbox_ascii(Rng &rng, size_t) {
+    Cells line;
+    for (size_t n = rng.between(1, 4); n > 0; n--) say(line, 0, rng.pick(ENGLISH) + std::string(n > 1 ? " " : ""));
+    return line;
+}
 
-class Jp2Line {
-public:
-    void put(int set, int code) {
-        const Designation &d = DESIGNATIONS.at(set);
-        int &force = d.to_g2 ? g2 : g0;
-        if (force != set) bytes += d.escape;
-        force = set;
-        if (d.to_g2) bytes += "\033N";
-        if (d.bytes == 2) bytes += char(code / 256);
-        bytes += char(code % 256);
-    }
+static Cells mailbox_japanese(Rng &rng, size_t) {
+    Cells line;
+    japanese(line, rng, rng.between(2, 12));
+    return line;
+}
 
-    void words(const std::string &ascii) {
-        for (unsigned char c : ascii) put(6, c);
-    }
+static Cells mailbox_western(Rng &rng, size_t) {
+    Cells line;
+    for (size_t n = rng.between(1, 4); n > 0; n--) say(line, rng.pick(WESTERN) + Units(n > 1 ? u" " : u""));
+    return line;
+}
 
-    std::string ended() {
-        words("\r\n");
-        return bytes;
-    }
-
-    std::string bytes;
-
-private:
-    int g0 = 6, g2 = 0;
-};
+// ---- JP-2
 
 static int pair_in(Rng &rng, size_t first_row, size_t last_row, size_t first = 0x21, size_t last = 0x7E) {
     return int(rng.between(first_row, last_row) * 256 + rng.between(first, last));
@@ -162,68 +138,90 @@ static int code_in(Rng &rng, int set) {
     }
 }
 
+static void put(Cells &line, Rng &rng, int set, size_t count) {
+    for (; count > 0; count--) line.push_back(cell_of(set, code_in(rng, set)));
+}
+
 // One to four characters of a set, then another set.
-static std::string jp2_designations(Rng &rng) {
+static Cells jp2_designations(Rng &rng, size_t) {
     static const int sets[] = {6, 14, 42, 58, 87, 87, 149, 159};
-    Jp2Line line;
+    Cells line;
     for (size_t n = rng.between(12, 24); n > 0; n--) {
         const int set = rng.pick(sets);
-        for (size_t k = rng.between(1, 4); k > 0; k--) line.put(set, code_in(rng, set));
+        put(line, rng, set, rng.between(1, 4));
     }
-    return line.ended();
+    return line;
 }
 
 // Words of a Western language with about one accented letter in four, or words that are Greek throughout.
-static std::string jp2_shifts(Rng &rng) {
-    Jp2Line line;
+static Cells jp2_shifts(Rng &rng, size_t) {
+    Cells line;
     const int set = rng.one_in(3) ? 126 : 100;
     for (size_t n = rng.between(6, 11); n > 0; n--) {
-        for (size_t k = rng.between(2, 8); k > 0; k--) {
-            const int used = set == 126 || rng.one_in(4) ? set : 6;
-            line.put(used, code_in(rng, used));
-        }
-        line.words(n > 1 ? " " : ".");
+        for (size_t k = rng.between(2, 8); k > 0; k--) put(line, rng, set == 126 || rng.one_in(4) ? set : 6, 1);
+        say(line, 6, n > 1 ? " " : ".");
     }
-    return line.ended();
+    return line;
+}
+
+// The words of utf7_western, their accented letters in ISO-8859-1.
+static Cells jp2_western(Rng &rng, size_t) {
+    return sentence(rng, 6, rng.between(8, 13), [&](Cells &line, size_t) {
+        for (const char16_t u : Units(rng.pick(WESTERN))) line.push_back(u < 128 ? cell_of(6, u) : cell_of(100, u - 128));
+    });
 }
 
 // English words; one line in six has a Japanese word.
-static std::string jp2_ascii(Rng &rng) {
-    Jp2Line line;
+static Cells jp2_ascii(Rng &rng, size_t) {
     const size_t words = rng.between(8, 13);
     const size_t foreign = rng.one_in(6) ? rng.between(1, words) : 0;
-    for (size_t i = 1; i <= words; i++) {
-        if (i > 1) line.words(" ");
-        if (i == foreign) {
-            for (size_t n = rng.between(2, 8); n > 0; n--) line.put(87, code_in(rng, 87));
-        } else {
-            line.words(rng.pick(ENGLISH));
-        }
-        if (rng.one_in(6)) line.words(rng.pick(STOPS));
-    }
-    return line.ended();
+    return sentence(rng, 6, words, [&](Cells &line, size_t i) {
+        if (i == foreign) put(line, rng, 87, rng.between(2, 8));
+        else say(line, 6, rng.pick(ENGLISH));
+    });
 }
 
+// A line of a Japanese letter: some thirty pairs.
+static Cells jp2_mail(Rng &rng, size_t) {
+    Cells line;
+    put(line, rng, 87, rng.between(24, 36));
+    return line;
+}
+
+static Cells jp2_one_line(Rng &rng, size_t room) { return one_line(rng, 6, room); }
+
 Bytes jp2_text_of(uint32_t cell) {
-    Jp2Line line;
-    line.put(int(cell / 65536), int(cell % 65536));
-    line.put(6, '.'); // back to ASCII
-    line.bytes.pop_back();
-    return Bytes(line.bytes.begin(), line.bytes.end());
+    const std::string text = spelled_jp2({cell});
+    return Bytes(text.begin(), text.end());
 }
 
 // ---- The corpora
 
 const std::vector<TextKind> &text_kinds() {
     static const std::vector<TextKind> kinds = {
-        {"utf7-ascii", &UTF7, utf7_ascii},
-        {"utf7-japanese", &UTF7, utf7_japanese},
-        {"utf7-western", &UTF7, utf7_western},
-        {"jp2-designations", &JP2, jp2_designations},
-        {"jp2-shifts", &JP2, jp2_shifts},
-        {"jp2-ascii", &JP2, jp2_ascii},
+        {"utf7-ascii", &UTF7, utf7_ascii, spelled_utf7, "\r\n"},
+        {"utf7-japanese", &UTF7, utf7_japanese, spelled_utf7, "\r\n"},
+        {"utf7-western", &UTF7, utf7_western, spelled_utf7, "\r\n"},
+        {"utf7-one-run", &UTF7, utf7_one_run, spelled_utf7, ""},
+        {"utf7-one-line", &UTF7, utf7_one_line, spelled_utf7, ""},
+        {"jp2-designations", &JP2, jp2_designations, spelled_jp2, "\r\n"},
+        {"jp2-shifts", &JP2, jp2_shifts, spelled_jp2, "\r\n"},
+        {"jp2-western", &JP2, jp2_western, spelled_jp2, "\r\n"},
+        {"jp2-ascii", &JP2, jp2_ascii, spelled_jp2, "\r\n"},
+        {"jp2-mail", &JP2, jp2_mail, spelled_jp2, "\r\n"},
+        {"jp2-one-line", &JP2, jp2_one_line, spelled_jp2, ""},
+        {"mailbox-ascii", &MAILBOX, mailbox_ascii, spelled_mailbox, "/"},
+        {"mailbox-japanese", &MAILBOX, mailbox_japanese, spelled_mailbox, "/"},
+        {"mailbox-western", &MAILBOX, mailbox_western, spelled_mailbox, "/"},
     };
     return kinds;
+}
+
+const std::vector<TextSize> &text_sizes() {
+    static const std::vector<TextSize> sizes = {
+        {"200", 200}, {"1K", 1 << 10}, {"4K", 1 << 12}, {"16K", 1 << 14}, {"64K", 1 << 16}, {"1M", 1 << 20},
+    };
+    return sizes;
 }
 
 size_t Corpus::bytes() const {
@@ -232,21 +230,36 @@ size_t Corpus::bytes() const {
     return sum;
 }
 
-// Whole lines, and what little is left over as one line of ASCII.
-static Bytes make_piece(const TextKind &kind, Rng &rng) {
+static bool is_high_surrogate(uint32_t cell) { return cell >= 0xD800 && cell < 0xDC00; }
+
+// Spelled with its end, and cut until it fits; nothing if no cell does.
+static std::string line_within(const TextKind &kind, Cells cells, size_t room) {
+    while (!cells.empty()) {
+        const std::string line = kind.spelled(cells) + kind.end;
+        if (line.size() <= room) return line;
+        cells.pop_back();
+        if (!cells.empty() && is_high_surrogate(cells.back())) cells.pop_back();
+    }
+    return "";
+}
+
+// Lines, the last cut to fit, and what little is left over in ASCII.
+static Bytes make_piece(const TextKind &kind, Rng &rng, size_t bytes) {
     Bytes piece;
     for (;;) {
-        const std::string line = kind.line(rng);
-        if (piece.size() + line.size() > LIMIT) break;
+        const size_t room = bytes - piece.size();
+        const std::string line = room < 8 ? "" : line_within(kind, kind.line(rng, room), room);
+        if (line.empty()) break;
         piece.insert(piece.end(), line.begin(), line.end());
     }
-    piece.resize(LIMIT, 'e');
+    piece.resize(bytes, 'e');
     return piece;
 }
 
-Corpus make_corpus(const TextKind &kind, const std::string &size, size_t bytes, uint64_t seed) {
+Corpus make_corpus(const TextKind &kind, const TextSize &size, uint64_t seed) {
     Rng rng(seed, kind.name);
-    Corpus corpus{kind.name, size, kind.format, {}};
-    for (size_t made = 0; made < bytes; made += LIMIT) corpus.pieces.push_back(make_piece(kind, rng));
+    Corpus corpus{kind.name, size.name, kind.format, {}};
+    const size_t each = std::min(size.bytes, LIMIT), all = std::max(size.bytes, size_t(1 << 16));
+    for (size_t made = 0; made + each <= all; made += each) corpus.pieces.push_back(make_piece(kind, rng, each));
     return corpus;
 }

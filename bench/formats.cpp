@@ -31,3 +31,13 @@ const Format JP2 = {
     "ISO-2022-JP-2",
     false,
 };
+
+const Format MAILBOX = {
+    "mailbox names",
+    qalithonda_mailbox_read,
+    steps<qalithonda_mailbox_start, qalithonda_mailbox_step>,
+    {{"", qalithonda_mailbox_write, "IMAP-mailbox-name"}},
+    "UTF-7-IMAP",
+    "IMAP-mailbox-name",
+    true,
+};

@@ -21,10 +21,10 @@ struct Style {
 struct Format {
     std::string name;
     ReadCall read;
-    StepsCall steps;           // null where a format has none
+    StepsCall steps;
     std::vector<Style> styles; // the first is the one that the corpora are written in
     std::string iconv, icu;
     bool cells_are_units;      // a cell is a UTF-16 unit; else a set's number and a code, as in JP-2
 };
 
-extern const Format UTF7, JP2;
+extern const Format UTF7, JP2, MAILBOX;

@@ -16,7 +16,7 @@
 #include "texts.h"
 
 struct Options {
-    bool markdown = false, ways = false, valgrind = false;
+    bool markdown = false, parties = false, valgrind = false;
     std::string only; // rows whose key contains this
     std::string seed = "2152";
     Effort effort;
@@ -26,7 +26,7 @@ struct Options {
 };
 
 [[noreturn]] static void usage() {
-    fail("usage: bench [--markdown] [--only TEXT] [--runs N] [--ms N] [--seed N] [--ways] [--valgrind] [--passes N]\n"
+    fail("usage: bench [--markdown] [--only TEXT] [--runs N] [--ms N] [--seed N] [--parties] [--valgrind] [--passes N]\n"
          "       bench [--seed N] --alone ROW PARTY N");
 }
 
@@ -39,7 +39,7 @@ static Options options_of(int count, char **words) {
             return words[++i];
         };
         if (word == "--markdown") o.markdown = true;
-        else if (word == "--ways") o.ways = true;
+        else if (word == "--parties") o.parties = true;
         else if (word == "--valgrind") o.valgrind = true;
         else if (word == "--only") o.only = value();
         else if (word == "--seed") o.seed = std::to_string(std::strtoull(value().c_str(), nullptr, 10));
@@ -56,39 +56,41 @@ static Options options_of(int count, char **words) {
     return o;
 }
 
-static const std::pair<const char *, size_t> SIZES[] = {{"64K", LIMIT}, {"1M", 16 * LIMIT}};
-
-static Corpus corpus_for(const Options &o, const TextKind &kind, const std::string &size, size_t bytes) {
-    return make_corpus(kind, size, bytes, std::strtoull(o.seed.c_str(), nullptr, 10));
+static std::shared_ptr<const Material> material_for(const Options &o, const TextKind &kind, const TextSize &size) {
+    const uint64_t seed = std::strtoull(o.seed.c_str(), nullptr, 10);
+    return std::make_shared<const Material>(prepare(make_corpus(kind, size, seed)));
 }
 
 static bool wanted(const Options &o, const std::string &key) { return key.find(o.only) != std::string::npos; }
 
 // For valgrind and profilers: one party of one row, so many times, and nothing else.
-static int run_alone(const Options &o) {
-    for (const TextKind &kind : text_kinds()) {
-        if (o.alone_row.rfind(kind.name + "/64K/", 0) != 0) continue;
-        auto material = std::make_shared<const Material>(prepare(corpus_for(o, kind, "64K", LIMIT)));
-        for (const Row &row : text_rows(material)) {
-            if (row.task.key() != o.alone_row) continue;
-            for (const Party &party : row.parties) {
-                if (party.column + ":" + party.way != o.alone_party) continue;
-                for (size_t i = 0; i < o.alone_passes; i++) party.pass();
-                return 0;
-            }
-        }
+static int run_party(const Options &o, const Row &row) {
+    for (const Party &party : row.parties) {
+        if (party.name != o.alone_party) continue;
+        for (size_t i = 0; i < o.alone_passes; i++) party.pass();
+        return 0;
     }
-    fail("no such row or party: " + o.alone_row + " " + o.alone_party);
+    fail("no such party: " + o.alone_party);
+}
+
+static int run_alone(const Options &o) {
+    for (const TextSize &size : text_sizes())
+        for (const TextKind &kind : text_kinds()) {
+            if (o.alone_row.rfind(kind.name + "/" + size.name + "/", 0) != 0) continue;
+            for (const Row &row : text_rows(material_for(o, kind, size)))
+                if (row.task.key() == o.alone_row) return run_party(o, row);
+        }
+    fail("no such row: " + o.alone_row);
 }
 
 // The wanted rows of a corpus, once its contents are seen to agree.
-static std::vector<Row> wanted_rows(const Options &o, const TextKind &kind, const std::string &size, size_t bytes,
+static std::vector<Row> wanted_rows(const Options &o, const TextKind &kind, const TextSize &size,
                                     std::vector<Agreement> &agreements) {
     std::vector<Row> rows;
     bool any = false;
-    for (const std::string &call : text_calls(*kind.format)) any |= wanted(o, kind.name + "/" + size + "/" + call);
+    for (const std::string &call : text_calls(*kind.format)) any |= wanted(o, kind.name + "/" + size.name + "/" + call);
     if (!any) return rows;
-    auto material = std::make_shared<const Material>(prepare(corpus_for(o, kind, size, bytes)));
+    auto material = material_for(o, kind, size);
     agreements.push_back(check_agreement(*material));
     for (const Row &row : text_rows(material))
         if (wanted(o, row.task.key())) rows.push_back(row);
@@ -107,8 +109,11 @@ static void count_instructions(const Options &o) {
     program[length] = 0;
     std::vector<Row> rows;
     std::vector<Agreement> agreements;
-    for (const TextKind &kind : text_kinds())
-        for (const Row &row : wanted_rows(o, kind, "64K", LIMIT, agreements)) rows.push_back(row);
+    for (const TextSize &size : text_sizes()) {
+        if (size.name != "64K") continue;
+        for (const TextKind &kind : text_kinds())
+            for (const Row &row : wanted_rows(o, kind, size, agreements)) rows.push_back(row);
+    }
     print(instruction_table(rows, program, o.seed, o.passes), o.markdown);
 }
 
@@ -120,17 +125,18 @@ static void measure_all(const Options &o) {
         std::fprintf(stderr, "%s\n", row.task.key().c_str()); // so that one sees it move
         all.push_back({row.task, measure(row, o.effort)});
     };
-    for (const auto &[size, bytes] : SIZES) {
-        take(limit_row(corpus_for(o, text_kinds()[0], size, bytes)));
+    for (const TextSize &size : text_sizes()) {
+        take(limit_row(size));
         for (const TextKind &kind : text_kinds())
-            for (const Row &row : wanted_rows(o, kind, size, bytes, agreements)) take(row);
+            for (const Row &row : wanted_rows(o, kind, size, agreements)) take(row);
     }
     for (const Row &row : page_rows()) take(row);
     for (const Row &row : page_file_rows()) take(row);
-    for (const Table &table : {reading_table(all), writing_table(all), stepping_table(all), page_table(all),
-                               squeeze_table(all), page_file_table(all), limit_table(all), agreement_table(agreements)})
+    for (const Table &table : {ratio_table(all), reading_table(all), writing_table(all), stepping_table(all),
+                               page_table(all), squeeze_table(all), page_file_table(all), limit_table(all),
+                               agreement_table(agreements)})
         print(table, o.markdown);
-    if (o.ways) print(ways_table(all), o.markdown);
+    if (o.parties) print(parties_table(all), o.markdown);
     std::printf("\n%zu runs of at least %.0f ms for each party, in turn, after a warm-up; medians.\n", o.effort.runs,
                 o.effort.seconds * 1000);
 }

@@ -13,7 +13,7 @@
 }
 
 static Party plain_pass(SharedDesk desk) {
-    return {"pass", "", [desk] {
+    return {"pass", [desk] {
                 volatile uint32_t all = sum(desk->text.data(), desk->page.length) + sum(desk->history.data(), desk->page.used);
                 (void)all;
             }};
@@ -21,7 +21,7 @@ static Party plain_pass(SharedDesk desk) {
 
 static Row row(SharedDesk desk, const std::string &size, const std::string &call, std::function<void()> ours) {
     const size_t bytes = 4 * (desk->page.length + desk->page.used);
-    return {{desk->kind->name, size, call, bytes, desk->page.length}, {{"ours", "", std::move(ours)}, plain_pass(desk)}};
+    return {{desk->kind->name, size, call, bytes, desk->page.length}, {{"ours", std::move(ours)}, plain_pass(desk)}};
 }
 
 // The middle of the page, where no step of Desk falls.
@@ -103,9 +103,9 @@ static Row squeezing(const PageKind &kind) {
     const Desk made(kind, 2 * OLDEST, scattered(2 * OLDEST));
     const size_t bytes = 4 * (made.page.length + made.page.used);
     return {{kind.name, "10000 steps", "squeeze 5000", bytes, made.page.length},
-            {{"ours", "", one_squeeze(copy_of(made), copy_of(made))},
-             {"one by one", "", one_by_one(copy_of(made))},
-             {"one undo", "", one_undo(copy_of(made))}}};
+            {{"ours", one_squeeze(copy_of(made), copy_of(made))},
+             {"one by one", one_by_one(copy_of(made))},
+             {"one undo", one_undo(copy_of(made))}}};
 }
 
 std::vector<Row> page_rows() {

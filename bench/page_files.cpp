@@ -77,8 +77,8 @@ static Row keeping(const Desk &made) {
     SharedDesk desk = copy_of(made);
     auto ours = std::make_shared<Bytes>(file_room(made)), plain = std::make_shared<Bytes>(file_room(made));
     return {task_of(made, "page_keep", file_of(made).size()),
-            {{"ours", "", [desk, ours] { keep(*desk, *ours); }},
-             {"hex", "", [desk, plain] { put_lists(*desk, plain->data()); }}}};
+            {{"ours", [desk, ours] { keep(*desk, *ours); }},
+             {"hex", [desk, plain] { put_lists(*desk, plain->data()); }}}};
 }
 
 // Both must give back what was kept.
@@ -93,8 +93,8 @@ static Row reading(const Desk &made) {
         if (desk->arrived != made.arrived || desk->text != made.text || desk->history != made.history)
             fail("page file: not the page that was kept");
     return {task_of(made, "page_read", file->size()),
-            {{"ours", "", [ours, file] { read_back(*file, *ours); }},
-             {"hex", "", [plain, digits] { take_lists(digits->data(), *plain); }}}};
+            {{"ours", [ours, file] { read_back(*file, *ours); }},
+             {"hex", [plain, digits] { take_lists(digits->data(), *plain); }}}};
 }
 
 std::vector<Row> page_file_rows() {

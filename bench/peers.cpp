@@ -52,6 +52,19 @@ size_t Icu::read(const uint8_t *text, size_t length, char16_t *out, size_t room)
     return size_t(to - out);
 }
 
+size_t Icu::step(const uint8_t *text, size_t length, uint32_t *characters) {
+    const char *from = reinterpret_cast<const char *>(text), *end = from + length;
+    uint32_t *to = characters;
+    UErrorCode error = U_ZERO_ERROR;
+    ucnv_resetToUnicode(state);
+    for (;;) {
+        const UChar32 character = ucnv_getNextUChar(state, &from, end, &error);
+        if (error == U_INDEX_OUTOFBOUNDS_ERROR) return size_t(to - characters); // the text's end
+        if (U_FAILURE(error)) fail(name + ", stepping: " + u_errorName(error));
+        *to++ = uint32_t(character);
+    }
+}
+
 size_t Icu::write(const char16_t *units, size_t length, uint8_t *out, size_t room) {
     char *to = reinterpret_cast<char *>(out), *start = to;
     const char16_t *from = units;

@@ -34,6 +34,9 @@ public:
     // Gives the units written.
     size_t read(const uint8_t *text, size_t length, char16_t *out, size_t room);
 
+    // One call for each character; gives how many there are.
+    size_t step(const uint8_t *text, size_t length, uint32_t *characters);
+
     // Gives the bytes written.
     size_t write(const char16_t *units, size_t length, uint8_t *out, size_t room);
 

@@ -1,7 +1,7 @@
 #include "results.h"
 
 #include <algorithm>
-#include <map>
+#include <set>
 
 static double per_second(size_t amount, const Timed &t) { return double(amount) / median(t.seconds); }
 
@@ -13,78 +13,86 @@ static std::string shown(const Ratio &ratio) {
     return fixed(ratio.median, places) + " ±" + fixed(ratio.spread, places);
 }
 
-static bool is_call(const Task &task, const std::string &call) { return task.call.rfind(call, 0) == 0; }
+// The rows of a call on texts, by how its name begins.
+static std::vector<const Measured *> rows_of(const std::vector<Measured> &all, const std::string &call) {
+    std::vector<const Measured *> rows;
+    for (const Measured &m : all)
+        if (m.task.call.rfind(call, 0) == 0) rows.push_back(&m);
+    return rows;
+}
 
-// Which way of iconv was the fastest, and how often.
-class Ways {
-public:
-    void add(const Timed &t) { counts[t.way]++; }
+// Which row stands in the line of a corpus and a call, in the column of a size; null where it was not measured.
+static const Measured *measured_at(const std::vector<Measured> &all, const Task &task, const std::string &size) {
+    for (const Measured &m : all)
+        if (m.task.subject == task.subject && m.task.call == task.call && m.task.size == size) return &m;
+    return nullptr;
+}
 
-    std::string note(const std::string &verb) const {
-        std::string text = "iconv: the fastest of three ways " + verb + " Unicode; it was";
-        for (const auto &[way, count] : counts) text += " " + way + " in " + std::to_string(count) + " rows,";
-        text.back() = '.';
-        return text;
+static std::string ratio_to_fastest(const Measured &m) {
+    return fixed(faster_by(*times_of(m.timed, "ours"), fastest_peer(m.timed)).median, 2);
+}
+
+Table ratio_table(const std::vector<Measured> &all) {
+    Table table{"Ours against the fastest peer, by size", {"call", "corpus"}, {}, {}};
+    for (const TextSize &size : text_sizes()) table.head.push_back(size.name);
+    for (const char *call : {"read", "write", "step"}) {
+        std::set<std::string> told;
+        for (const Measured *m : rows_of(all, call)) {
+            if (!told.insert(m->task.call + m->task.subject).second) continue;
+            std::vector<std::string> line{m->task.call, m->task.subject};
+            for (const TextSize &size : text_sizes()) {
+                const Measured *there = measured_at(all, m->task, size.name);
+                line.push_back(there ? ratio_to_fastest(*there) : "-");
+            }
+            table.lines.push_back(line);
+        }
     }
+    table.notes = {"Above 1 ours is faster. Reading and writing: the fastest of iconv with WCHAR_T, iconv with UTF-16LE and "
+                   "ICU; stepping: ICU's ucnv_getNextUChar."};
+    return table;
+}
 
-private:
-    std::map<std::string, size_t> counts;
-};
+// Speeds of ours and of each peer, the ratio to the fastest, and which that is.
+static std::vector<std::string> text_line(const Measured &m) {
+    const Timed &ours = *times_of(m.timed, "ours"), &peer = fastest_peer(m.timed);
+    std::vector<std::string> line{m.task.subject, m.task.size, m.task.call};
+    for (const Timed &t : m.timed) line.push_back(speed(m.task.bytes, t));
+    line.push_back(shown(faster_by(ours, peer)));
+    line.push_back(peer.party);
+    return line;
+}
 
-// Speeds and ratios of ours, iconv and ICU; then ours against `limit` if that is a column of the rows.
-static void add_line(Table &table, const Measured &m, Ways &ways, const std::string &limit) {
-    const Timed &ours = *fastest(m.timed, "ours"), &iconv = *fastest(m.timed, "iconv"), &icu = *fastest(m.timed, "ICU");
-    ways.add(iconv);
-    std::vector<std::string> line{m.task.subject, m.task.size};
-    if (limit.empty()) line.push_back(m.task.call);
-    for (const Timed *t : {&ours, &iconv, &icu}) line.push_back(speed(m.task.bytes, *t));
-    for (const Timed *t : {&iconv, &icu}) line.push_back(shown(faster_by(ours, *t)));
-    if (!limit.empty()) line.push_back(fixed(faster_by(ours, *fastest(m.timed, limit)).median, 3));
-    table.lines.push_back(line);
+static Table text_table(const std::string &title, const std::vector<Measured> &all, const std::string &call) {
+    Table table{title,
+                {"corpus", "size", "call", "ours MB/s", "iconv WCHAR_T", "iconv UTF-16LE", "ICU", "ours/fastest", "fastest"},
+                {},
+                {}};
+    for (const Measured *m : rows_of(all, call)) table.lines.push_back(text_line(*m));
+    return table;
 }
 
 Table reading_table(const std::vector<Measured> &all) {
-    Table table{"Reading",
-                {"corpus", "size", "ours MB/s", "iconv MB/s", "ICU MB/s", "ours/iconv", "ours/ICU", "ours/widen"},
-                {},
-                {}};
-    Ways ways;
-    for (const Measured &m : all)
-        if (is_call(m.task, "read")) add_line(table, m, ways, "widen");
-    table.notes = {ways.note("to"),
-                   "Ours reads to 32-bit cells, and judges the whole text before it writes a cell; ICU to UTF-16."};
+    Table table = text_table("Reading", all, "read");
+    table.notes = {"Ours reads to 32-bit cells, and judges the whole text before it writes a cell; ICU to UTF-16."};
     return table;
 }
 
 Table writing_table(const std::vector<Measured> &all) {
-    Table table{"Writing",
-                {"corpus", "size", "call", "ours MB/s", "iconv MB/s", "ICU MB/s", "ours/iconv", "ours/ICU"},
-                {},
-                {}};
-    Ways ways;
-    for (const Measured &m : all)
-        if (is_call(m.task, "write")) add_line(table, m, ways, "");
-    table.notes = {ways.note("from"),
-                   "Each writes the same characters in its own way; MB/s are of the corpus's bytes, for all alike.",
+    Table table = text_table("Writing", all, "write");
+    table.notes = {"Each writes the same characters in its own way; MB/s are of the corpus's bytes, for all alike.",
                    "UTF-7: iconv writes only set D as itself, in both rows; ICU is UTF-7 (body) and UTF-7,version=1 (header).",
                    "JP-2: the peers choose the sets, since Unicode does not name them; our cells name them."};
     return table;
 }
 
 Table stepping_table(const std::vector<Measured> &all) {
-    Table table{"Stepping, against iconv's reading",
-                {"corpus", "size", "ours Mcells/s", "iconv Mcells/s", "ours MB/s", "iconv MB/s", "ours/iconv"},
-                {},
-                {}};
-    Ways ways;
-    for (const Measured &m : all) {
-        if (!is_call(m.task, "step")) continue;
-        const Timed &ours = *fastest(m.timed, "ours"), &iconv = *fastest(m.timed, "iconv");
-        ways.add(iconv);
-        table.lines.push_back({m.task.subject, m.task.size, speed(m.task.cells, ours), speed(m.task.cells, iconv),
-                               speed(m.task.bytes, ours), speed(m.task.bytes, iconv), shown(faster_by(ours, iconv))});
+    Table table{"Stepping", {"corpus", "size", "ours Mcells/s", "ours MB/s", "ICU MB/s", "ours/ICU"}, {}, {}};
+    for (const Measured *m : rows_of(all, "step")) {
+        const Timed &ours = *times_of(m->timed, "ours"), &icu = *times_of(m->timed, "ICU");
+        table.lines.push_back({m->task.subject, m->task.size, speed(m->task.cells, ours), speed(m->task.bytes, ours),
+                               speed(m->task.bytes, icu), shown(faster_by(ours, icu))});
     }
-    table.notes = {ways.note("to"), "One call of the C interface for each cell."};
+    table.notes = {"One call of the C interface for each cell; ICU: one of ucnv_getNextUChar for each character."};
     return table;
 }
 
@@ -92,7 +100,7 @@ Table limit_table(const std::vector<Measured> &all) {
     Table table{"The limit", {"size", "memcpy MB/s", "widening loop MB/s"}, {}, {}};
     for (const Measured &m : all) {
         if (m.task.subject != "limit") continue;
-        const Timed &copied = *fastest(m.timed, "memcpy"), &widened = *fastest(m.timed, "widen");
+        const Timed &copied = *times_of(m.timed, "memcpy"), &widened = *times_of(m.timed, "widen");
         table.lines.push_back({m.task.size, speed(m.task.bytes, copied), speed(m.task.bytes, widened)});
     }
     table.notes = {"Bytes copied, and bytes widened to 32 bits, by plain loops that the compiler vectorises."};
@@ -102,9 +110,9 @@ Table limit_table(const std::vector<Measured> &all) {
 Table page_table(const std::vector<Measured> &all) {
     Table table{"The page", {"kind", "history", "call", "ours µs", "plain pass µs", "ours/pass"}, {}, {}};
     for (const Measured &m : all) {
-        const Timed *pass = fastest(m.timed, "pass");
+        const Timed *pass = times_of(m.timed, "pass");
         if (!pass) continue;
-        const Timed &ours = *fastest(m.timed, "ours");
+        const Timed &ours = *times_of(m.timed, "ours");
         table.lines.push_back({m.task.subject, m.task.size, m.task.call, fixed(median(ours.seconds) * 1e6, 1),
                                fixed(median(pass->seconds) * 1e6, 1), shown(faster_by(ours, *pass))});
     }
@@ -119,9 +127,9 @@ Table squeeze_table(const std::vector<Measured> &all) {
                 {},
                 {}};
     for (const Measured &m : all) {
-        const Timed *each = fastest(m.timed, "one by one");
+        const Timed *each = times_of(m.timed, "one by one");
         if (!each) continue;
-        const Timed &ours = *fastest(m.timed, "ours"), &undo = *fastest(m.timed, "one undo");
+        const Timed &ours = *times_of(m.timed, "ours"), &undo = *times_of(m.timed, "one undo");
         table.lines.push_back({m.task.subject, fixed(median(undo.seconds) * 1e6, 1),
                                fixed(median(ours.seconds) * 1e3, 1), fixed(median(each->seconds) * 1e3, 1),
                                shown(faster_by(ours, *each))});
@@ -135,9 +143,9 @@ Table squeeze_table(const std::vector<Measured> &all) {
 Table page_file_table(const std::vector<Measured> &all) {
     Table table{"Page files", {"kind", "call", "bytes of file", "ours MB/s", "hex copy MB/s", "ours/copy"}, {}, {}};
     for (const Measured &m : all) {
-        const Timed *hex = fastest(m.timed, "hex");
+        const Timed *hex = times_of(m.timed, "hex");
         if (!hex) continue;
-        const Timed &ours = *fastest(m.timed, "ours");
+        const Timed &ours = *times_of(m.timed, "ours");
         table.lines.push_back({m.task.subject, m.task.call, std::to_string(m.task.bytes), speed(m.task.bytes, ours),
                                speed(m.task.bytes, *hex), shown(faster_by(ours, *hex))});
     }
@@ -146,12 +154,12 @@ Table page_file_table(const std::vector<Measured> &all) {
     return table;
 }
 
-Table ways_table(const std::vector<Measured> &all) {
-    Table table{"Every way by itself", {"row", "party", "MB/s", "slowest", "fastest"}, {}, {}};
+Table parties_table(const std::vector<Measured> &all) {
+    Table table{"Every party by itself", {"row", "party", "MB/s", "slowest", "fastest"}, {}, {}};
     for (const Measured &m : all) {
         for (const Timed &t : m.timed) {
             const auto [least, most] = std::minmax_element(t.seconds.begin(), t.seconds.end());
-            table.lines.push_back({m.task.key(), t.way.empty() ? t.column : t.column + " " + t.way, speed(m.task.bytes, t),
+            table.lines.push_back({m.task.key(), t.party, speed(m.task.bytes, t),
                                    fixed(double(m.task.bytes) / *most / 1e6, 0), fixed(double(m.task.bytes) / *least / 1e6, 0)});
         }
     }

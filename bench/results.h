@@ -13,6 +13,9 @@ struct Measured {
     std::vector<Timed> timed;
 };
 
+// Ratios alone, with the sizes beside each other.
+Table ratio_table(const std::vector<Measured> &all);
+
 Table reading_table(const std::vector<Measured> &all);
 Table writing_table(const std::vector<Measured> &all);
 Table stepping_table(const std::vector<Measured> &all);
@@ -21,8 +24,8 @@ Table page_table(const std::vector<Measured> &all);
 Table squeeze_table(const std::vector<Measured> &all);
 Table page_file_table(const std::vector<Measured> &all);
 
-// Every party and way by itself.
-Table ways_table(const std::vector<Measured> &all);
+// Every party by itself.
+Table parties_table(const std::vector<Measured> &all);
 
 // How long each party's own writing of the corpora is.
 Table agreement_table(const std::vector<Agreement> &all);

@@ -47,7 +47,7 @@ Material prepare(Corpus corpus) {
 template <class List> static std::shared_ptr<List> memory(size_t length) { return std::make_shared<List>(length, 0); }
 
 static Party our_reading(Shared m) {
-    return {"ours", "", [m, out = memory<Cells>(m->corpus.bytes())] {
+    return {"ours", [m, out = memory<Cells>(m->corpus.bytes())] {
                 size_t at = 0;
                 for (const Bytes &text : m->corpus.pieces)
                     at += accepted(m->corpus.format->read(text.data(), text.size(), &(*out)[at], out->size() - at), "reading");
@@ -55,7 +55,7 @@ static Party our_reading(Shared m) {
 }
 
 static Party our_stepping(Shared m) {
-    return {"ours", "", [m, out = memory<Cells>(m->corpus.bytes())] {
+    return {"ours", [m, out = memory<Cells>(m->corpus.bytes())] {
                 size_t at = 0;
                 for (const Bytes &text : m->corpus.pieces)
                     at += accepted(m->corpus.format->steps(text.data(), text.size(), &(*out)[at]), "stepping");
@@ -64,7 +64,7 @@ static Party our_stepping(Shared m) {
 
 static Party iconv_reading(Shared m, const std::string &way) {
     auto iconv = std::make_shared<Iconv>(way, m->corpus.format->iconv);
-    return {"iconv", way, [m, iconv, out = memory<Bytes>(4 * m->corpus.bytes())] {
+    return {way, [m, iconv, out = memory<Bytes>(4 * m->corpus.bytes())] {
                 size_t at = 0;
                 for (const Bytes &text : m->corpus.pieces)
                     at += iconv->convert(text.data(), text.size(), &(*out)[at], out->size() - at);
@@ -73,10 +73,18 @@ static Party iconv_reading(Shared m, const std::string &way) {
 
 static Party icu_reading(Shared m) {
     auto icu = std::make_shared<Icu>(m->corpus.format->icu);
-    return {"ICU", "", [m, icu, out = memory<Units>(m->corpus.bytes())] {
+    return {"ICU", [m, icu, out = memory<Units>(m->corpus.bytes())] {
                 size_t at = 0;
                 for (const Bytes &text : m->corpus.pieces)
                     at += icu->read(text.data(), text.size(), &(*out)[at], out->size() - at);
+            }};
+}
+
+static Party icu_stepping(Shared m) {
+    auto icu = std::make_shared<Icu>(m->corpus.format->icu);
+    return {"ICU", [m, icu, out = memory<Cells>(m->corpus.bytes())] {
+                size_t at = 0;
+                for (const Bytes &text : m->corpus.pieces) at += icu->step(text.data(), text.size(), &(*out)[at]);
             }};
 }
 
@@ -84,7 +92,7 @@ static Party icu_reading(Shared m) {
 static size_t writing_room(const Material &m) { return 6 * m.cell_count() + 3 * m.cells.size(); }
 
 static Party our_writing(Shared m, const Style &style) {
-    return {"ours", "", [m, write = style.ours, out = memory<Bytes>(writing_room(*m))] {
+    return {"ours", [m, write = style.ours, out = memory<Bytes>(writing_room(*m))] {
                 size_t at = 0;
                 for (const Cells &cells : m->cells)
                     at += accepted(write(cells.data(), cells.size(), &(*out)[at], out->size() - at), "writing");
@@ -93,7 +101,7 @@ static Party our_writing(Shared m, const Style &style) {
 
 static Party iconv_writing(Shared m, const std::string &way) {
     auto iconv = std::make_shared<Iconv>(m->corpus.format->iconv, way);
-    return {"iconv", way, [m, iconv, pieces = &m->iconvs.at(way), out = memory<Bytes>(writing_room(*m))] {
+    return {way, [m, iconv, pieces = &m->iconvs.at(way), out = memory<Bytes>(writing_room(*m))] {
                 size_t at = 0;
                 for (const Bytes &wide : *pieces)
                     at += iconv->convert(wide.data(), wide.size(), &(*out)[at], out->size() - at);
@@ -102,7 +110,7 @@ static Party iconv_writing(Shared m, const std::string &way) {
 
 static Party icu_writing(Shared m, const Style &style) {
     auto icu = std::make_shared<Icu>(style.icu);
-    return {"ICU", "", [m, icu, out = memory<Bytes>(writing_room(*m))] {
+    return {"ICU", [m, icu, out = memory<Bytes>(writing_room(*m))] {
                 size_t at = 0;
                 for (const Units &units : m->units)
                     at += icu->write(units.data(), units.size(), &(*out)[at], out->size() - at);
@@ -120,30 +128,11 @@ static Party icu_writing(Shared m, const Style &style) {
     asm volatile("" ::: "memory");
 }
 
-static Party widening(std::shared_ptr<const std::vector<Bytes>> pieces, size_t bytes) {
-    return {"widen", "", [pieces, out = memory<Cells>(bytes)] {
-                size_t at = 0;
-                for (const Bytes &text : *pieces) {
-                    widen(text.data(), text.size(), &(*out)[at]);
-                    at += text.size();
-                }
-            }};
-}
-
-static Party copying(std::shared_ptr<const std::vector<Bytes>> pieces, size_t bytes) {
-    return {"memcpy", "", [pieces, out = memory<Bytes>(bytes)] {
-                size_t at = 0;
-                for (const Bytes &text : *pieces) {
-                    copy(text.data(), text.size(), &(*out)[at]);
-                    at += text.size();
-                }
-            }};
-}
-
-Row limit_row(const Corpus &corpus) {
-    auto pieces = std::make_shared<const std::vector<Bytes>>(corpus.pieces);
-    const size_t bytes = corpus.bytes();
-    return {{"limit", corpus.size, "bytes", bytes, bytes}, {copying(pieces, bytes), widening(pieces, bytes)}};
+Row limit_row(const TextSize &size) {
+    auto from = std::make_shared<const Bytes>(size.bytes, 'e');
+    return {{"limit", size.name, "bytes", size.bytes, size.bytes},
+            {{"memcpy", [from, out = memory<Bytes>(size.bytes)] { copy(from->data(), from->size(), out->data()); }},
+             {"widen", [from, out = memory<Cells>(size.bytes)] { widen(from->data(), from->size(), out->data()); }}}};
 }
 
 static std::string writing_call(const Style &style) { return style.name.empty() ? "write" : "write-" + style.name; }
@@ -151,32 +140,31 @@ static std::string writing_call(const Style &style) { return style.name.empty() 
 std::vector<std::string> text_calls(const Format &format) {
     std::vector<std::string> calls{"read"};
     for (const Style &style : format.styles) calls.push_back(writing_call(style));
-    if (format.steps) calls.push_back("step");
+    calls.push_back("step");
     return calls;
 }
 
+static Row reading(Shared m, const Task &task) {
+    Row row{task, {our_reading(m)}};
+    for (const char *way : ICONV_WAYS) row.parties.push_back(iconv_reading(m, way));
+    row.parties.push_back(icu_reading(m));
+    return row;
+}
+
+static Row writing(Shared m, const Task &task, const Style &style) {
+    Row row{task, {our_writing(m, style)}};
+    for (const char *way : ICONV_WAYS) row.parties.push_back(iconv_writing(m, way));
+    row.parties.push_back(icu_writing(m, style));
+    return row;
+}
+
 std::vector<Row> text_rows(Shared m) {
-    const Corpus &corpus = m->corpus;
-    const size_t bytes = corpus.bytes(), cells = m->cell_count();
-    std::vector<Row> rows;
-
-    Row read{{corpus.name, corpus.size, "read", bytes, cells}, {our_reading(m)}};
-    for (const char *way : ICONV_WAYS) read.parties.push_back(iconv_reading(m, way));
-    read.parties.push_back(icu_reading(m));
-    read.parties.push_back(widening(std::make_shared<const std::vector<Bytes>>(corpus.pieces), bytes));
-    rows.push_back(read);
-
-    for (const Style &style : corpus.format->styles) {
-        Row write{{corpus.name, corpus.size, writing_call(style), bytes, cells}, {our_writing(m, style)}};
-        for (const char *way : ICONV_WAYS) write.parties.push_back(iconv_writing(m, way));
-        write.parties.push_back(icu_writing(m, style));
-        rows.push_back(write);
-    }
-
-    if (corpus.format->steps) {
-        Row step{{corpus.name, corpus.size, "step", bytes, cells}, {our_stepping(m)}};
-        for (const char *way : ICONV_WAYS) step.parties.push_back(iconv_reading(m, way));
-        rows.push_back(step);
-    }
+    const Format &format = *m->corpus.format;
+    const auto task = [&](const std::string &call) -> Task {
+        return {m->corpus.name, m->corpus.size, call, m->corpus.bytes(), m->cell_count()};
+    };
+    std::vector<Row> rows{reading(m, task("read"))};
+    for (const Style &style : format.styles) rows.push_back(writing(m, task(writing_call(style)), style));
+    rows.push_back({task("step"), {our_stepping(m), icu_stepping(m)}});
     return rows;
 }

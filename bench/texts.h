@@ -9,8 +9,8 @@
 #include "corpora.h"
 #include "rows.h"
 
-// What iconv converts to and from. WCHAR_T is glibc's own inner form: one step less than the others.
-constexpr const char *ICONV_WAYS[] = {"UTF-16LE", "UCS-4LE", "WCHAR_T"};
+// What iconv converts to and from, each a peer by itself. WCHAR_T is glibc's own inner form: one step less.
+constexpr const char *ICONV_WAYS[] = {"WCHAR_T", "UTF-16LE"};
 
 // A corpus, and what each party reads in it, piece by piece. Each writes from what it has read.
 struct Material {
@@ -30,4 +30,4 @@ std::vector<Row> text_rows(std::shared_ptr<const Material> material);
 std::vector<std::string> text_calls(const Format &format);
 
 // memcpy and a loop that widens bytes to cells: no reader of bytes into cells is faster.
-Row limit_row(const Corpus &corpus);
+Row limit_row(const TextSize &size);

@@ -32,7 +32,7 @@ std::vector<Timed> measure(const Row &row, const Effort &effort) {
     std::vector<Timed> timed;
     std::vector<size_t> passes;
     for (const Party &party : row.parties) {
-        timed.push_back({party.column, party.way, {}});
+        timed.push_back({party.name, {}});
         passes.push_back(passes_for(party, effort.seconds));
     }
     // In turn, starting with another party each time, so that a slow moment of the machine meets all alike.
@@ -55,13 +55,19 @@ static double quantile(std::vector<double> numbers, double part) {
 
 double median(std::vector<double> numbers) { return quantile(std::move(numbers), 0.5); }
 
-const Timed *fastest(const std::vector<Timed> &timed, const std::string &column) {
+const Timed *times_of(const std::vector<Timed> &timed, const std::string &party) {
+    for (const Timed &t : timed)
+        if (t.party == party) return &t;
+    return nullptr;
+}
+
+const Timed &fastest_peer(const std::vector<Timed> &timed) {
     const Timed *best = nullptr;
     for (const Timed &t : timed) {
-        if (t.column != column) continue;
+        if (t.party == "ours") continue;
         if (!best || median(t.seconds) < median(best->seconds)) best = &t;
     }
-    return best;
+    return *best;
 }
 
 Ratio faster_by(const Timed &ours, const Timed &peer) {

@@ -13,7 +13,7 @@ struct Effort {
 
 // A party's seconds for one pass, a number for each run.
 struct Timed {
-    std::string column, way;
+    std::string party;
     std::vector<double> seconds;
 };
 
@@ -26,7 +26,10 @@ std::vector<Timed> measure(const Row &row, const Effort &effort);
 
 double median(std::vector<double> numbers);
 
-// The fastest way of a column by its median; null where the row has no such column.
-const Timed *fastest(const std::vector<Timed> &timed, const std::string &column);
+// Null where the row has no such party.
+const Timed *times_of(const std::vector<Timed> &timed, const std::string &party);
+
+// The fastest by its median of all parties but ours.
+const Timed &fastest_peer(const std::vector<Timed> &timed);
 
 Ratio faster_by(const Timed &ours, const Timed &peer);
