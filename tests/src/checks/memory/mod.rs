@@ -4,6 +4,7 @@
 
 mod lists;
 mod page;
+mod stack;
 mod steps;
 
 use crate::fault;
@@ -14,7 +15,7 @@ use crate::library::{self, Functions};
 use crate::parts::Part;
 use crate::settings::Settings;
 
-/// A part for each format, and one for the page.
+/// A part for each format, one for the page, and one for all on a small stack, aside until the readers take less of it.
 pub fn parts(settings: Settings) -> Vec<Part> {
     vec![
         of_format(formats::utf7, &library::UTF7, settings),
@@ -22,6 +23,7 @@ pub fn parts(settings: Settings) -> Vec<Part> {
         of_format(formats::mailbox, &library::MAILBOX, settings),
         Part::new("memory-jp2-tally", move |report| lists::tally(report, &formats::jp2(), settings)),
         Part::new("memory-page", move |report| page::run(report, settings)),
+        Part::aside("stack", move |report| stack::run(report, settings.seed)),
     ]
 }
 

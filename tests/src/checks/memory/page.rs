@@ -31,16 +31,7 @@ struct Memory {
 pub fn run(report: &mut Report, settings: Settings) {
     let Settings { seed, rounds } = settings;
     let mut memory = Memory::new();
-    let opens = Kind::ALL.map(|kind| (library::open_name(kind), Sort::Open(kind)));
-    let others = [
-        (library::REPLACE, Sort::Replace),
-        (library::UNDO, Sort::Undo),
-        (library::REDO, Sort::Redo),
-        (library::SAVE, Sort::Save),
-        (KEEP, Sort::Keep),
-        (SQUEEZE, Sort::Squeeze),
-    ];
-    for (function, sort) in opens.into_iter().chain(others) {
+    for (function, sort) in functions() {
         report.check(&name(function), WHAT, |statuses| {
             try_all(seeded::alone(seed, sort, rounds), |list| memory.follow(list, statuses))
         });
@@ -56,6 +47,20 @@ pub fn run(report: &mut Report, settings: Settings) {
         expect_statuses(report, kind);
     }
     run_files(report, &mut memory, settings);
+}
+
+/// The functions that a list of calls is made of, and the sort of each.
+pub fn functions() -> impl Iterator<Item = (&'static str, Sort)> {
+    let opens = Kind::ALL.map(|kind| (library::open_name(kind), Sort::Open(kind)));
+    let others = [
+        (library::REPLACE, Sort::Replace),
+        (library::UNDO, Sort::Undo),
+        (library::REDO, Sort::Redo),
+        (library::SAVE, Sort::Save),
+        (KEEP, Sort::Keep),
+        (SQUEEZE, Sort::Squeeze),
+    ];
+    opens.into_iter().chain(others)
 }
 
 /// Readings of page files.
