@@ -200,7 +200,8 @@ mod tests {
 
     #[test]
     fn functions_are_found_in_a_header() {
-        let header = "/* `qalithonda_a` (see b) */ qalithonda_x qalithonda_f(int);\nvoid *qalithonda_g(void (*h)(int));";
+        let header =
+            "/* `qalithonda_a` (see b) */ qalithonda_x qalithonda_f(int);\nvoid *qalithonda_g(void (*h)(int));";
         assert_eq!(functions_in(header), ["qalithonda_f", "qalithonda_g"].into());
     }
 }
