@@ -1,3 +1,4 @@
 pub mod Moves
 pub mod Nth
+pub mod Designating
 pub mod Passing

@@ -9,16 +9,22 @@ use lib.Dec.{eqb}
 use Rattle.reading.specs.Reading.{give, go}
 use Rattle.reading.specs.Spans.{upTo}
 use Rattle.reading.proofs.Steps.{Going, going-give, going-go}
-use Rattle.jp2.specs.Rule.{State, state, plain, first, shifted, escape, graphic, cellOf, singleDoes, betweenDoes, byteDoes, jp2}
+use Rattle.jp2.specs.Rule.{Phase, State, state, plain, first, shifted, escape, graphic, cellOf, singleDoes, betweenDoes, byteDoes, jp2}
 use Rattle.jp2.specs.Spans.{spanIn}
 use Rattle.jp2.proofs.Sets.{differs, graphic-ascii, single}
 use Rattle.jp2.proofs.Round.{byte-single, byte-first, byte-second, byte-n, byte-shifted}
-use Rattle.jp2_read.specs.Passing.{stepFrom, Hands}
+use Rattle.jp2_read.specs.Passing.{stepFrom, handedOn, Hands}
 
 -- the loop of the step from a place, before its first byte
 pub begun : {text : List ℕ} (at : ℕ) (st : State) (handed : ℕ) → Going jp2 spanIn text at handed st (stepFrom text at st handed)
 unfolding stepFrom
 begun at st handed = record { so = refl }
+
+-- between cells
+pub hands-in :
+    {text : List ℕ} {at g0 g2 value count : ℕ} {p : Phase} → p ≡ plain → Hands text at (state g0 g2 plain) value count → (handed : ℕ) →
+    stepFrom text at (state g0 g2 p) handed ≡ handedOn value at count handed (state g0 g2 plain)
+hands-in e h handed = rw e (h .so handed)
 
 -- the byte at `to` completes a cell that begins at `at`
 hands-give :

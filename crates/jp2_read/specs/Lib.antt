@@ -1,2 +1,3 @@
 pub mod Cursor
+pub mod Escapes
 pub mod Passing

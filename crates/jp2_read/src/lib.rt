@@ -1,4 +1,6 @@
 // Reading ISO-2022-JP-2: a byte and a cell at a time.
+mod escapes;
+
 use answer::Answer;
 use answer::Refusal;
 use reading::Marked;
@@ -16,7 +18,7 @@ ghost use Rattle.jp2.specs.Table.{rowAt, isList};
 ghost use Rattle.jp2.specs.Rule.{plain, return, state, cellOf, graphic, designated, inPhase, endPhase, jp2, singleDoes, firstDoes, secondDoes, betweenDoes, shiftedDoes, escapeDoes, byteDoes, endsIn};
 ghost use Rattle.jp2.specs.Spans.{phaseSpan};
 ghost use Rattle.jp2_read.specs.Cursor.{phaseOf, stateOf, inEscape, stateFor, doesOf, cursorOf, told, stepOf};
-ghost use Rattle.jp2_read.specs.Passing.{stepFrom, Hands};
+ghost use Rattle.jp2_read.specs.Passing.{stepFrom, handedOn, Hands, Passes};
 
 // Where a reader stands to cells and escapes.
 pub enum Phase {
@@ -452,7 +454,7 @@ fn cell_next(text: &[u8], at: usize, g0: u16, g2: u16) -> Told
 // The cell that comes next, where the reader stands between cells.
 fn told_at(text: &[u8], at: usize, st: State) -> Told
     requires { ⌜ length (now text) ≤ limit ⌝ }
-    ensures { λ r. ⌜ ((r .count ≡ 0 → ⊥) → Hands (now (text .entry)) at (stateOf st) (r .value) (r .count)) ⌝ }
+    ensures { λ r. ⌜ ((r .count ≡ 0 → ⊥) → (phaseOf (st .phase) ≡ plain) × Hands (now (text .entry)) at (state (st .g0) (st .g2) plain) (r .value) (r .count)) ⌝ }
 {
     let phase = st.phase;
     if let Phase::Plain = phase {
@@ -494,6 +496,66 @@ fn step_on(text: &[u8], from: usize, handed: usize, state: State) -> Stepped
     Stepped::Final(finish(text.len(), handed, st))
 }
 
+// The step that hands out a cell all of whose bytes come next.
+fn handed_on(t: Told, at: usize, handed: usize, g0: u16, g2: u16) -> Stepped
+    requires { ⌜ (handed ≤ at) × (at + t .count ≤ limit) ⌝ }
+    ensures { λ r. ⌜ told r ≡ onward cursorOf (handedOn (t .value) at (t .count) handed (state g0 g2 plain)) ⌝ }
+{
+    let end = at + t.count;
+    let one_more = handed + 1;
+    let cell = Marked {
+        value: t.value,
+        begin: at,
+        end,
+    };
+    let next = Cursor {
+        at: end,
+        handed: one_more,
+        state: State {
+            g0,
+            g2,
+            phase: Phase::Plain,
+        },
+    };
+    Stepped::Cell(Given { cell, next })
+}
+
+// Over the designations that come next, where the reader stands between cells.
+fn passed(text: &[u8], from: usize, st: State) -> escapes::Passed
+    requires { ⌜ from ≤ length (now text) ⌝ }
+    ensures { λ r. ⌜ Passes (now (text .entry)) from (stateOf st) (r .at) (state (r .g0) (r .g2) (phaseOf (st .phase))) ⌝ }
+{
+    let phase = st.phase;
+    if let Phase::Plain = phase {
+        return escapes::pass(text, from, st.g0, st.g2);
+    }
+    escapes::Passed {
+        at: from,
+        g0: st.g0,
+        g2: st.g2,
+    }
+}
+
+// The step past designations: a cell that comes next, or a byte at a time.
+fn step_past(text: &[u8], from: usize, handed: usize, given: State) -> Stepped
+    requires { ⌜ (handed ≤ from) × (from ≤ length (now text)) × (length (now text) ≤ limit) ⌝ }
+    ensures { λ r. ⌜ told r ≡ onward cursorOf (stepFrom (now (text .entry)) from (stateOf given) handed) ⌝ }
+{
+    let p = passed(text, from, given);
+    let at = p.at;
+    let phase = given.phase;
+    let state = State {
+        g0: p.g0,
+        g2: p.g2,
+        phase,
+    };
+    let t = told_at(text, at, state);
+    if t.count != 0 {
+        return handed_on(t, at, handed, p.g0, p.g2);
+    }
+    step_on(text, at, handed, state)
+}
+
 // The step from any cursor over a text.
 pub fn step(text: &[u8], c: Cursor) -> Stepped
     ensures { λ r. ⌜ told r ≡ stepOf (now (text .entry)) c ⌝ }
@@ -505,21 +567,8 @@ pub fn step(text: &[u8], c: Cursor) -> Stepped
     let handed = reading::lesser(c.handed, at);
     let state = c.state;
     let t = told_at(text, at, state);
-    let count = t.count;
-    if count != 0 {
-        let end = at + count;
-        let one_more = handed + 1;
-        let cell = Marked {
-            value: t.value,
-            begin: at,
-            end,
-        };
-        let next = Cursor {
-            at: end,
-            handed: one_more,
-            state,
-        };
-        return Stepped::Cell(Given { cell, next });
+    if t.count != 0 {
+        return handed_on(t, at, handed, state.g0, state.g2);
     }
-    step_on(text, at, handed, state)
+    step_past(text, at, handed, state)
 }

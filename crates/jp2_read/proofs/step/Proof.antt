@@ -2,6 +2,8 @@ use Prim.Native.Nat.{_≤_}
 use mathlib.Core.Path.{_≡_, sym, ap, _∙_}
 use native.Mathlib.Omega.{arith}
 use denote.Ref.{now}
+use lib.ListN.{length}
+use Rattle.answer.specs.Answer.{limit}
 use borrow.Author.Tests.{ltb-true, ltb-false}
 use Rattle.reading.specs.Stepping.{inText, final, onward, nextAt}
 use Rattle.reading.proofs.Steps.{least-at, step-long}
@@ -9,7 +11,7 @@ use Rattle.jp2.specs.Rule.{jp2}
 use Rattle.jp2.specs.Spans.{spanIn}
 use Rattle.jp2_read.specs.Cursor.{stateOf, spotOf, cursorOf}
 use Rattle.jp2_read.specs.Passing.{stepFrom}
-use Rattle.jp2_read.proofs.Moves.{cell-told}
+use Rattle.jp2_read.proofs.Passing.{hands-in}
 use borrow.Author.Needs.{needs}
 use Rattle.jp2_read.proofs.step.Statement.{statement}
 use Rattle.jp2_read.proofs.step.Tie as tie
@@ -46,27 +48,34 @@ lesser-requires c κs = search needs
 lesser-requires-2 : tie.Need-lesser-requires-2
 lesser-requires-2 c κs = search needs
 
-told-at-requires : tie.Need-told-at-requires
-told-at-requires c κs =
-    let e = c .before .before .before in
+-- the text is within the limit
+within : (c : tie.After-lesser2) → length (now (c .before .before .before .before .before .args .text)) ≤ limit
+within c =
+    let e = c .before .before in
     ltb-false _ _ (sym (e .before .over-limit .ensures) ∙ e .if1 .left)
 
-add-end : tie.Need-add-end
-add-end c = omega (arith, c .before .told-at .ensures (c .if2 .taken) .within)
+told-at-requires : tie.Need-told-at-requires
+told-at-requires c κs = within (c .before)
 
-add-one-more : tie.Need-add-one-more
-add-one-more c = let t = c .before in
-    let h = t .told-at .ensures (c .if2 .taken) in
-    omega (arith, h .some, h .within, counted (t .before .before))
+handed-on-requires : tie.Need-handed-on-requires
+handed-on-requires c κs =
+    let t = c .before .before in
+    let h = t .told-at .ensures (c .if2 .taken) .1 in
+    (counted (t .before .before), omega (arith, h .within, within (t .before .before)))
 
 returns-2 : tie.Need-returns-2
-returns-2 c = let t = c .before in cell-told (sym (t .told-at .ensures (c .if2 .taken) .so _) ∙ asked (t .before .before))
+returns-2 c =
+    let t = c .before .before .before in
+    let h = t .told-at .ensures (c .before .if2 .taken) in
+    c .handed-on .ensures ∙ ap (onward cursorOf) (sym (hands-in (h .0) (h .1) _) ∙ asked (t .before .before))
 
-step-on-requires : tie.Need-step-on-requires
-step-on-requires c κs = counted (c .before .before .before)
+step-past-requires : tie.Need-step-past-requires
+step-past-requires c κs =
+    let l = c .before .before .before .before in
+    (counted l, rw (l .before .lesser .ensures) (least-at _ _), within l)
 
 returns-3 : tie.Need-returns-3
-returns-3 c = c .step-on .ensures ∙ ap (onward cursorOf) (asked (c .before .before .before .before))
+returns-3 c = c .step-past .ensures ∙ ap (onward cursorOf) (asked (c .before .before .before .before .before))
 
 pub step-spec : {M : Type 1} → statement M
 step-spec =
@@ -78,8 +87,7 @@ step-spec =
     lesser-requires
     lesser-requires-2
     told-at-requires
-    add-end
-    add-one-more
+    handed-on-requires
     returns-2
-    step-on-requires
+    step-past-requires
     returns-3)

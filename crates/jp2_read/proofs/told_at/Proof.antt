@@ -10,7 +10,7 @@ cell-next-requires : tie.Need-cell-next-requires
 cell-next-requires c κs = search needs
 
 returns : tie.Need-returns
-returns c = rw (c .before .before .enum-told .given .1) (c .cell-next .ensures)
+returns c = rw (c .before .before .enum-told .given .1) (λ e. (refl, c .cell-next .ensures e))
 
 returns-2 : tie.Need-returns-2
 returns-2 c = λ e. absurd (e refl)
