@@ -13,9 +13,9 @@ use Rattle.answer.proofs.Below.{both}
 use Rattle.jp2.specs.Table.{designations, firstWhere, rowOfNumber}
 use Rattle.jp2.specs.Rule.{graphic, cellOf}
 use Rattle.jp2.specs.Writable.{setOf, codeOf, ascii, pairSet, shiftSet, codes}
-use Rattle.jp2.specs.Writing.{force, writeFrom}
 use Rattle.jp2.proofs.Sets.{Kind, of-ascii, of-roman, of-pair, of-shift, kind-of, graphic-range, codes-pair, codes-shift}
 use Rattle.jp2_write.specs.Pieces.{baseOf, afterCr, Plain, Stretch}
+pub use Rattle.jp2_write.specs.Pieces.{todo}
 
 -- the codes of a writable cell fit a byte, or two
 single-small : {n c : ℕ} → Kind n c → shiftSet n ≡ false → pairSet n ≡ false → c < 128
@@ -89,10 +89,6 @@ base-length n c = by (pairSet n)
 pub after-cr : (cells : List ℕ) (i : ℕ) → (i ≡ 0 → ⊥) → afterCr cells i ≡ eqb (getD cells (i - 1) 0) (cellOf 6 13)
 after-cr cells zero h = absurd (h refl)
 after-cr cells (suc i) h = let q : suc i - 1 ≡ i = omega arith in rw q
-
--- what is to be written from the i-th cell on
-abbrev pub todo : List ℕ → ℕ → ℕ → ℕ → List ℕ
-todo cells i g0 g2 = writeFrom (drop i cells) (force g0 g2 (afterCr cells i))
 
 abbrev pub setAt : List ℕ → ℕ → ℕ
 setAt cells i = setOf (getD cells i 0)

@@ -18,9 +18,9 @@ use Rattle.jp2.specs.Writing.{Force, force, designating, spell, forceAfter, wri
 use Rattle.jp2.proofs.Sets.{differs, codes-shift}
 use Rattle.jp2.proofs.Search.{Passed, passed-on}
 use Rattle.jp2.proofs.Table.{rows, row-size, row-most}
-use Rattle.jp2_write.specs.Pieces.{designationOf, bodySize, baseOf, shiftedOf, lowByte, afterCr, g2After, Plain, Stretch, Ready}
+use Rattle.jp2_write.specs.Pieces.{designationOf, bodySize, baseOf, shiftedOf, lowByte, afterCr, g2After, Plain, Stretch, Ready, Run}
 use Rattle.jp2_write.proofs.Cells.{base-length, code-is, codeAt, setAt, todo}
-use Rattle.jp2_write.proofs.Turns.{Turn, turn-base, turn-shift, turnsLeft}
+use Rattle.jp2_write.proofs.Turns.{Turn, turn-base, turn-shift, turnsLeft, cell-less}
 
 -- a turn, by its count of bytes alone
 pub record Grows (cells : List ℕ) (i g0 g2 k i' g0' g2' : ℕ) : Type 0 where
@@ -92,7 +92,7 @@ base-one n c k e d = rw e d
 pub ready-grows :
     {cells : List ℕ} {i : ℕ} (g0 g2 k : ℕ) → i < length cells → Ready (getD cells i 0) g0 g2 k → shiftSet g0 ≡ false →
     Grows cells i g0 g2 k (i + 1) g0 g2
-ready-grows {cells} {i} g0 g2 k h r b =
+ready-grows {cells = cells} {i = i} g0 g2 k h r b =
     ⊎-elim
     (λ (q : (setAt cells i ≡ 6) × (k ≡ 1)). let t : Grows cells i g0 g2 k (i + 1) g0 (g2After cells i g2) =
     grows (turn-base g0 g2 h (q .0 ∙ sym (r .ascii)) b) (base-one (setAt cells i) (codeAt cells i) k (q .0) (q .1)) in
@@ -137,19 +137,60 @@ Judged cells i = Passed (λ v. not (writable v)) cells i
 pub judged-on : {cells : List ℕ} {i : ℕ} → Judged cells i → i < length cells → writable (getD cells i 0) ≡ true → Judged cells (i + 1)
 judged-on p h w = passed-on p 0 h (rw w)
 
-judged-plain :
-    {cells : List ℕ} (k i : ℕ) → Judged cells i → i + k ≤ length cells → ((m : ℕ) → i ≤ m → m < i + k → Plain (getD cells m 0)) → Judged cells (i + k)
-judged-plain zero i p h q = rw add-zero p
-judged-plain {cells} (suc k) i p h q =
+judged-part :
+    {cells : List ℕ} (k i : ℕ) → Judged cells i → i + k ≤ length cells → ((m : ℕ) → i ≤ m → m < i + k → writable (getD cells m 0) ≡ true) → Judged cells (i + k)
+judged-part zero i p h q = rw add-zero p
+judged-part {cells} (suc k) i p h q =
     let e : i + 1 + k ≡ i + suc k = omega arith in
     rw e at
-    (judged-plain {cells = cells} k (i + 1) (judged-on p (omega arith) (plain-writable (q i (omega arith) (omega arith)))) (omega arith)
+    (judged-part {cells = cells} k (i + 1) (judged-on p (omega arith) (q i (omega arith) (omega arith))) (omega arith)
     (λ m a b. q m (omega arith) (omega arith)))
 
+pub judged-to : {cells : List ℕ} {i j : ℕ} → Judged cells i → i ≤ j → j ≤ length cells → ((m : ℕ) → i ≤ m → m < j → writable (getD cells m 0) ≡ true) → Judged cells j
+judged-to {cells} {i} {j} p h k q =
+    let e : i + (j - i) ≡ j = omega arith in
+    rw e at (judged-part (j - i) i p (omega arith) (λ m a b. q m a (omega arith)))
+
 pub judged-stretch : {cells : List ℕ} {g0 i j : ℕ} → Judged cells i → Stretch cells g0 i j → Judged cells j
-judged-stretch {cells} {i = i} {j} p s =
-    let e : i + (j - i) ≡ j = omega (arith, s .after) in
-    rw e at (judged-plain (j - i) i p (omega (arith, s .after, s .within)) (λ m a b. s .plain m a (omega (arith, s .after))))
+judged-stretch p s = judged-to p (s .after) (s .within) (λ m a b. plain-writable (s .plain m a b))
+
+-- a run of cells that are ready
+pub run-stay : (cells : List ℕ) (g0 g2 from : ℕ) → from ≤ length cells → Run cells g0 g2 from from 0
+run-stay cells g0 g2 from h =
+    record { after = omega arith; within = h; sum = omega arith; most = omega arith; may = λ k a b. absurd (omega arith) }
+
+ready-base : {v g0 g2 k : ℕ} → Ready v g0 g2 k → shiftSet g0 ≡ false
+unfolding shiftSet
+ready-base r = rw (r .ascii)
+
+pub ready-most : {v g0 g2 k : ℕ} → Ready v g0 g2 k → k ≤ 3
+ready-most {v} {g2 = g2} {k} r = ⊎-elim (λ (q : (setOf v ≡ 6) × (k ≡ 1)). omega (arith, q .1)) (λ (q : (setOf v ≡ g2) × (k ≡ 3)). omega (arith, q .1)) (r .stands)
+
+pub run-on : {cells : List ℕ} {g0 g2 from i n k : ℕ} → Run cells g0 g2 from i n → i < length cells → Ready (getD cells i 0) g0 g2 k → Run cells g0 g2 from (i + 1) (n + k)
+run-on {cells} {g0} {g2} {from} {i} {n} {k} p h r =
+    let g = ready-grows {cells = cells} {i = i} g0 g2 k h r (ready-base r) in
+    record {
+      after = omega (arith, p .after);
+      within = omega arith;
+      sum = omega (arith, p .sum, g .sum);
+      most = omega (arith, p .most, p .after, ready-most r);
+      may = λ m a b. by m a b (ltb m i) refl;
+    }
+  where
+    by : (m : ℕ) → from ≤ m → m < i + 1 → (t : Bool) → ltb m i ≡ t → writable (getD cells m 0) ≡ true
+    by m a b true e = p .may m a (ltb-true m i e)
+    by m a b false e =
+        let q : m ≡ i = omega (arith, ltb-false m i e) in
+        rw q (ready-writable r)
+
+pub run-grows : {cells : List ℕ} {g0 g2 i k to n : ℕ} → Grows cells i g0 g2 k (i + 1) g0 g2 → Run cells g0 g2 (i + 1) to n → Grows cells i g0 g2 (k + n) to g0 g2
+run-grows {cells} {g0} {g2} {i} {k} {to} {n} g r =
+    record {
+      sum = omega (arith, g .sum, r .sum);
+      within = r .within;
+      base = g .base;
+      less = cell-less cells i to g0 g2 g0 g2 (omega (arith, r .after)) (omega (arith, g .within));
+    }
 
 -- any cells have a small writing
 escape-most : (i : ℕ) → length (sent (rowAt i)) ≤ 4

@@ -135,7 +135,7 @@ unfolding waits
 waits-most cells i g0 g2 = zero-or-one (eqb (cond (shiftSet (setAt cells i)) g2 g0) (setAt cells i))
 
 -- a cell further on, whatever is then in force
-cell-less : (cells : List ℕ) (i j g0 g2 g0' g2' : ℕ) → i < j → i < length cells → turnsLeft cells j g0' g2' < turnsLeft cells i g0 g2
+pub cell-less : (cells : List ℕ) (i j g0 g2 g0' g2' : ℕ) → i < j → i < length cells → turnsLeft cells j g0' g2' < turnsLeft cells i g0 g2
 cell-less cells i j g0 g2 g0' g2' a b = omega (arith, waits-most cells j g0' g2')
 
 -- a turn of a loop: a piece of what is to be written, and the index and the sets in force after it

@@ -1,16 +1,16 @@
 -- What the writer's private functions hand on: a text's pieces, and the sets in force.
-use Prim.Native.Nat.{ℕ, zero, suc, _/_, _%_, _<_, _≤_}
+use Prim.Native.Nat.{ℕ, zero, suc, _+_, _*_, _-_, _/_, _%_, _<_, _≤_}
 use mathlib.Core.Path.{_≡_}
 use mathlib.Core.Bool.{Bool, true, false, cond, _&&_}
 use mathlib.Core.List.{List, [], _∷_}
 use mathlib.Core.Logic.{_⊎_}
-use lib.ListN.{length, getD}
+use lib.ListN.{length, getD, drop}
 use lib.Dec.{eqb}
 use Rattle.answer.specs.Output.{filled}
 use Rattle.jp2.specs.Table.{rowAt, sent, rowOfNumber}
 use Rattle.jp2.specs.Rule.{cellOf}
-use Rattle.jp2.specs.Writable.{setOf, codeOf, pairSet, shiftSet, firstForeign}
-use Rattle.jp2.specs.Writing.{writing}
+use Rattle.jp2.specs.Writable.{setOf, codeOf, pairSet, shiftSet, writable, firstForeign}
+use Rattle.jp2.specs.Writing.{force, writeFrom, writing}
 use Rattle.jp2_write.specs.declared.Survey.{Survey}
 
 abbrev pub designationOf : ℕ → List ℕ
@@ -39,6 +39,10 @@ afterCr cells (suc i) = eqb (getD cells i 0) (cellOf 6 13)
 unfoldable pub g2After : List ℕ → ℕ → ℕ → ℕ
 g2After cells i g2 = cond (afterCr cells i && eqb (getD cells i 0) (cellOf 6 10)) 0 g2
 
+-- what is to be written from the i-th cell on, with these sets in force
+abbrev pub todo : List ℕ → ℕ → ℕ → ℕ → List ℕ
+todo cells i g0 g2 = writeFrom (drop i cells) (force g0 g2 (afterCr cells i))
+
 -- a cell of ASCII that is one byte and leaves G2 as it is: 32 to 127
 pub record Plain (v : ℕ) : Type 0 where
   pub least : cellOf 6 32 ≤ v
@@ -58,6 +62,14 @@ pub record Ready (v g0 g2 size : ℕ) : Type 0 where
   pub least : 32 ≤ codeOf v
   pub most : codeOf v ≤ 127
   pub stands : ((setOf v ≡ 6) × (size ≡ 1)) ⊎ ((setOf v ≡ g2) × (size ≡ 3))
+
+-- cells from an index to another that are ready, and their bytes
+pub record Run (cells : List ℕ) (g0 g2 from to size : ℕ) : Type 0 where
+  pub after : from ≤ to
+  pub within : to ≤ length cells
+  pub sum : length (todo cells from g0 g2) ≡ size + length (todo cells to g0 g2)
+  pub most : size ≤ 3 * (to - from)
+  pub may : (k : ℕ) → from ≤ k → k < to → writable (getD cells k 0) ≡ true
 
 -- cells are judged, and if all are writable, their bytes are counted
 pub record Surveyed (cells : List ℕ) (s : Survey) : Type 0 where

@@ -12,7 +12,7 @@ ghost use Rattle.answer.specs.Output.{leaves, filled};
 ghost use Rattle.jp2.specs.Table.{rowOfNumber};
 ghost use Rattle.jp2.specs.Writable.{shiftSet, codes, writable};
 ghost use Rattle.jp2.specs.Writing.{designating, writing, writeInto};
-ghost use Rattle.jp2_write.specs.Pieces.{designationOf, bodySize, baseOf, shiftedOf, lowByte, g2After, Stretch, Ready, Surveyed, Puts};
+ghost use Rattle.jp2_write.specs.Pieces.{designationOf, bodySize, baseOf, shiftedOf, lowByte, g2After, Stretch, Ready, Run, Surveyed, Puts};
 
 const LF: u32 = 6 * 65536 + 10;
 
@@ -114,6 +114,12 @@ fn body_size(n: u16, g0: u16, g2: u16) -> usize
     1
 }
 
+// How far a run of cells goes, and its bytes.
+struct Reached {
+    i: usize,
+    count: usize,
+}
+
 // The bytes of a cell of ASCII or of the set in G2, with a code of 32 to 127, where both are in force; 0 for any other.
 fn ready(v: u32, g0: u16, g2: u16) -> usize
     ensures { λ r. ⌜ (0 < r → Ready v g0 g2 r) ⌝ }
@@ -130,6 +136,24 @@ fn ready(v: u32, g0: u16, g2: u16) -> usize
     let either = pick(n == g2, 3, single);
     let above = pick(c < 32, 0, either);
     pick(127 < c, 0, above)
+}
+
+// The bytes of the cells from an index on that are ready.
+fn survey_ready(cells: &[u32], from: usize, g0: u16, g2: u16) -> Reached
+    requires { ⌜ (from ≤ length (now cells)) × (length (now cells) ≤ limit) ⌝ }
+    ensures { λ r. ⌜ Run (now (cells .entry)) g0 g2 from (r .i) (r .count) ⌝ }
+{
+    let mut i = from;
+    let mut count: usize = 0;
+    while i < cells.len() {
+        let size = ready(cells[i], g0, g2);
+        if size == 0 {
+            return Reached { i, count };
+        }
+        count += size;
+        i += 1;
+    }
+    Reached { i, count }
 }
 
 // Judges cells and counts their bytes. A set that is not in force is designated, and its cell then looked at again.
@@ -150,8 +174,9 @@ fn survey_cells(cells: &[u32]) -> Survey
             let v = cells[i];
             let size = ready(v, g0, g2);
             if 0 < size {
-                total += size;
-                i += 1;
+                let run = survey_ready(cells, i + 1, g0, g2);
+                total += size + run.count;
+                i = run.i;
             } else {
                 if !jp2::is_writable(v) {
                     return Survey {

@@ -15,7 +15,7 @@ use Rattle.jp2.proofs.Rows.{row-found}
 use Rattle.jp2_write.specs.Pieces.{bodySize, g2After}
 use Rattle.jp2_write.proofs.Cells.{setAt}
 use Rattle.jp2_write.proofs.Turns.{turnsLeft, turn-stretch, turn-g2, turn-g0, last-first}
-use Rattle.jp2_write.proofs.Counting.{stretch-length, Grows, grows, ready-writable, ready-grows, body-grows, not-g2, not-g0, Judged, judged-on, judged-stretch, writing-most, Counted, counted-on, counted-fits}
+use Rattle.jp2_write.proofs.Counting.{stretch-length, Grows, grows, ready-writable, ready-grows, body-grows, not-g2, not-g0, Judged, judged-on, judged-to, judged-stretch, run-grows, writing-most, Counted, counted-on, counted-fits}
 use Rattle.jp2_write.proofs.survey_cells.Statement.{statement}
 use Rattle.jp2_write.proofs.survey_cells.Tie as tie
 
@@ -155,22 +155,47 @@ shared-slice-read-v c = search needs
 ready-requires : tie.Need-ready-requires Inv-loop μ-loop
 ready-requires c κs = search needs
 
-add-total-2 : tie.Need-add-total-2 Inv-loop μ-loop
-add-total-2 c = omega (arith, counted-fits (at-loop (c .before .before) .loop .inv) (stood c))
+-- the run of ready cells behind it
+ran :
+    (c : tie.After-survey-ready Inv-loop μ-loop) → let l = at-loop (c .before .before .before) in
+    Grows
+    (cellsOf l)
+    (l .loop .i)
+    (l .loop .g0)
+    (l .loop .g2)
+    (c .before .before .ready .result + c .survey-ready .result .count)
+    (c .survey-ready .result .i)
+    (l .loop .g0)
+    (l .loop .g2)
+ran c = run-grows (stood (c .before)) (c .survey-ready .ensures)
 
-add-i : tie.Need-add-i Inv-loop μ-loop
-add-i c =
+add-survey-ready : tie.Need-add-survey-ready Inv-loop μ-loop
+add-survey-ready c =
     let k = c .before .before in
     omega (arith, in-list k, at-loop k .before .before .good)
 
+survey-ready-requires : tie.Need-survey-ready-requires Inv-loop μ-loop
+survey-ready-requires c κs =
+    let k = c .before .before in
+    (omega (arith, in-list k), at-loop k .before .before .pre)
+
+add-total-2 : tie.Need-add-total-2 Inv-loop μ-loop
+add-total-2 c = omega (arith, counted-fits (at-loop (c .before .before .before .before) .loop .inv) (ran (c .before)))
+
+add-total-3 : tie.Need-add-total-3 Inv-loop μ-loop
+add-total-3 c = omega (arith, counted-fits (at-loop (c .before .before .before .before) .loop .inv) (ran (c .before)))
+
 loop-less-2 : tie.Need-loop-less-2 Inv-loop μ-loop
-loop-less-2 c = stood c .less
+loop-less-2 c = ran (c .before) .less
 
 loop-again-2 : tie.Need-loop-again-2 Inv-loop μ-loop
 loop-again-2 c =
-    let k = c .before .before in
+    let t = c .before .before in
+    let k = t .before .before in
     let v = at-loop k .loop .inv in
-    counted-on v (stood c) (judged-on (v .judged) (in-list k) (ready-writable (c .before .ready .ensures (c .if2 .taken))))
+    let r = c .before .survey-ready .ensures in
+    counted-on v (ran (c .before))
+    (judged-to (judged-on (v .judged) (in-list k) (ready-writable (t .before .ready .ensures (t .if2 .taken)))) (r .after) (r .within) (r .may))
 
 is-writable-requires : tie.Need-is-writable-requires Inv-loop μ-loop
 is-writable-requires c κs = search needs
@@ -190,14 +215,14 @@ cast-n c = omega (arith, cell c .shared-slice-known2 .given (here c .loop .i))
 body-size-requires : tie.Need-body-size-requires Inv-loop μ-loop
 body-size-requires c κs = search needs
 
-add-total-3 : tie.Need-add-total-3 Inv-loop μ-loop
-add-total-3 c = omega (arith, counted-fits (here (c .before .before) .loop .inv) (stands c))
+add-total-4 : tie.Need-add-total-4 Inv-loop μ-loop
+add-total-4 c = omega (arith, counted-fits (here (c .before .before) .loop .inv) (stands c))
 
 g2-after-requires : tie.Need-g2-after-requires Inv-loop μ-loop
 g2-after-requires c κs = in-list (cell (c .before .before))
 
-add-i-2 : tie.Need-add-i-2 Inv-loop μ-loop
-add-i-2 c =
+add-i : tie.Need-add-i Inv-loop μ-loop
+add-i c =
     let k = cell (c .before .before .before) in
     omega (arith, in-list k, at-loop k .before .before .good)
 
@@ -212,8 +237,8 @@ loop-again-3 c =
 designation-size-requires : tie.Need-designation-size-requires Inv-loop μ-loop
 designation-size-requires c κs = known (c .before .before)
 
-add-total-4 : tie.Need-add-total-4 Inv-loop μ-loop
-add-total-4 c = omega (arith, either-fits c (shiftSet (set c)) refl)
+add-total-5 : tie.Need-add-total-5 Inv-loop μ-loop
+add-total-5 c = omega (arith, either-fits c (shiftSet (set c)) refl)
 
 cast-is-shift-set : tie.Need-cast-is-shift-set Inv-loop μ-loop
 cast-is-shift-set c =
@@ -250,8 +275,8 @@ returned c =
     let l = c .before .before in
     rw (c .return-size .ensures, ← last-first (cellsOf l) (l .loop .i) (l .loop .g0) (l .loop .g2) (c .before .loop-test .left)) (l .loop .inv .sum)
 
-add-t25 : tie.Need-add-t25 Inv-loop μ-loop
-add-t25 c = omega (arith, returned c, c .before .before .loop .inv .small)
+add-t27 : tie.Need-add-t27 Inv-loop μ-loop
+add-t27 c = omega (arith, returned c, c .before .before .loop .inv .small)
 
 returns-2 : tie.Need-returns-2 Inv-loop μ-loop
 unfolding firstForeign
@@ -273,21 +298,23 @@ survey-cells-spec =
     mul-v
     shared-slice-read-v
     ready-requires
+    add-survey-ready
+    survey-ready-requires
     add-total-2
-    add-i
+    add-total-3
     loop-less-2
     loop-again-2
     is-writable-requires
     returns
     cast-n
     body-size-requires
-    add-total-3
+    add-total-4
     g2-after-requires
-    add-i-2
+    add-i
     loop-less-3
     loop-again-3
     designation-size-requires
-    add-total-4
+    add-total-5
     cast-is-shift-set
     is-shift-set-requires
     loop-less-4
@@ -295,5 +322,5 @@ survey-cells-spec =
     loop-less-5
     loop-again-5
     return-size-requires
-    add-t25
+    add-t27
     returns-2)
