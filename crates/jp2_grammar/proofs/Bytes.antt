@@ -30,7 +30,7 @@ pub ascii-in : (b : ℕ) → b ≤ 127 → Each (λ c. eqb b c ≡ false) (bytes
 unfolding ascii
 ascii-in b l n = rw (le-leb b 127 l, n .0, n .1 .0, n .1 .1 .0)
 
-ascii-most : (c : ℕ) → ascii c ≡ true → c ≤ 127
+pub ascii-most : (c : ℕ) → ascii c ≡ true → c ≤ 127
 unfolding ascii
 ascii-most c h = leb-true c 127 (both (leb c 127) _ h .0)
 

@@ -1,0 +1,4 @@
+pub mod Stands
+pub mod Escapes
+pub mod Cells
+pub mod Whole
