@@ -1,5 +1,5 @@
 -- Reading a single byte, and a pair. Assumes nothing.
-use Prim.Native.Nat.{ℕ, _+_, _*_, _<_, _≤_}
+use Prim.Native.Nat.{ℕ, _+_, _*_, _<_}
 use mathlib.Core.Path.{_≡_, refl, ap, _∙_}
 use mathlib.Core.Bool.{Bool, true, false, cond, _||_, not, true≢false}
 use mathlib.Core.List.{List, [], _∷_}
@@ -43,7 +43,8 @@ return-list (b ∷ bs) at g0 g2 h = rw (return-does g0 g2 b h)
 
 return-reads :
     (text : List ℕ) (at g0 g2 b : ℕ) → single g0 ≡ true →
-    readFrom jp2 (drop at text) at (state g0 g2 (phaseOf (eqb b 13))) ≡ readAt text at g0 (g2After g2 b (byteAt text at))
+    readFrom jp2 (drop at text) at (state g0 g2 (phaseOf (eqb b 13)))
+    ≡ readAt text at g0 (g2After g2 b (byteAt text at))
 return-reads text at g0 g2 b h = by-return (eqb b 13) refl
   where
     by-return :

@@ -1,11 +1,11 @@
 -- Reading an escape: as far as it was read, to its end, and to a byte that fits none. Assumes nothing.
-use Prim.Native.Nat.{ℕ, _+_, _<_, _≤_}
+use Prim.Native.Nat.{ℕ, _+_, _<_}
 use mathlib.Core.Path.{_≡_, refl, sym, _∙_}
 use mathlib.Core.Bool.{Bool, true, false, _&&_, true≢false}
 use mathlib.Core.List.{List, [], _∷_, _++_}
 use native.Mathlib.Omega.{arith}
 use lib.ListN.{length, drop, length-append}
-use lib.Dec.{leb, ltb, eqb, lit<}
+use lib.Dec.{leb, ltb, lit<}
 use borrow.Author.Tests.{lt-ltb, ne-eqb, le-leb, leb-true, leb-false}
 use Rattle.answer.specs.Bytes.{bytes}
 use Rattle.answer.proofs.Below.{both}

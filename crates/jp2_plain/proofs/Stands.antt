@@ -1,15 +1,15 @@
 -- Bytes that stand at a place, and reading along them. Assumes nothing.
 use Prim.Native.Nat.{ℕ, _+_, _<_, _≤_}
-use mathlib.Core.Path.{_≡_, refl, sym, _∙_}
+use mathlib.Core.Path.{_≡_, refl, _∙_}
 use mathlib.Core.Bool.{Bool, true, false}
 use mathlib.Core.List.{List, [], _∷_, _++_}
 use native.Mathlib.Omega.{arith}
 use native.Mathlib.Nat.{add-zero}
 use native.Mathlib.Numerals.{add-one}
-use lib.ListN.{length, getD, drop, length-append, List·getD-eq-default}
+use lib.ListN.{length, drop, length-append, List·getD-eq-default}
 use lib.Seq.{drop-cons, append-snoc}
 use lib.Dec.{ltb}
-use borrow.Author.Tests.{ltb-true, ltb-false, le-ltb}
+use borrow.Author.Tests.{ltb-true, ltb-false}
 use Rattle.reading.specs.Reading.{bad, fault, readFrom}
 use Rattle.reading.proofs.Laws.{read-by, read-end}
 use Rattle.reading.proofs.Walk.{Walk, pushAll}

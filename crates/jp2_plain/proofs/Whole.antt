@@ -4,8 +4,8 @@ use mathlib.Core.Path.{_≡_, refl, sym, ap, _∙_}
 use mathlib.Core.Bool.{false}
 use mathlib.Core.List.{List, [], _∷_, _++_}
 use native.Mathlib.Omega.{arith}
-use lib.ListN.{length, take, drop, set, length-drop}
-use lib.Seq.{drop-drop, drop-at, take-at, length-take-le}
+use lib.ListN.{length, take, drop, set}
+use lib.Seq.{drop-drop, drop-at, length-take-le}
 use lib.Dec.{ltb}
 use borrow.Author.Tests.{lt-ltb, le-ltb}
 use Rattle.answer.specs.Answer.{Verdict, numbered, inNumbers, limit}
@@ -14,8 +14,8 @@ use Rattle.answer.specs.declared.Answer.{Answer}
 use Rattle.answer.specs.declared.Answer.the-variants.{Accepted, Refused}
 use Rattle.answer.specs.declared.Refusal.{Refusal}
 use Rattle.answer.specs.declared.Refusal.the-variants.{NoRoom}
-use Rattle.answer.proofs.Put.{Put, put-as, put-end, put-done}
-use Rattle.reading.specs.Reading.{Reading, Ending, push, closing, verdictOf, readFrom, reading, readInto}
+use Rattle.answer.proofs.Put.{put-as, put-end, put-done}
+use Rattle.reading.specs.Reading.{Reading, Ending, push, closing, verdictOf, reading, readInto}
 use Rattle.reading.specs.Inner.{Filling}
 use Rattle.reading.proofs.Laws.{read-end}
 use Rattle.reading.proofs.Filling.{into-refused, into-short, into-room, into-filled}

@@ -4,8 +4,8 @@ use answer::Answer;
 use answer::Refusal;
 ghost use mathlib.Core.Path.{_≡_};
 ghost use mathlib.Core.Bool.{true, _&&_};
-ghost use Prim.Native.Nat.{ℕ, _+_, _*_, _<_, _≤_};
-ghost use lib.ListN.{length, getD};
+ghost use Prim.Native.Nat.{ℕ, _+_, _*_, _<_};
+ghost use lib.ListN.{length};
 ghost use lib.Dec.{leb};
 ghost use Rattle.answer.specs.Answer.{inNumbers, numberOf};
 ghost use Rattle.answer.specs.Bytes.{bytes};
@@ -18,7 +18,7 @@ ghost use Rattle.jp2_plain.specs.Plain.{plainInto};
 ghost use Rattle.jp2_plain.specs.Inner.{single, byteAt, faultAt, g2After, Stands, Finds};
 
 // What stands at a place between cells.
-pub enum Item {
+enum Item {
     // a designation: the set's number, and the place behind it
     ToSingles(u16, usize),
     ToPairs(u16, usize),
@@ -59,11 +59,11 @@ pub fn read(text: &[u8], out: &mut [u32]) -> Answer
 
 // A stretch of single bytes, and all that follows it: *(single-byte-char / g2-desig-seq / single-shift-char). It stands
 // at a place, with sets in G0 and G2, after some cells. The designation of a set of pairs hands over.
-fn singles(text: &[u8], from: usize, set: u16, shift: u16, count: usize, cells: &mut [u32]) -> Answer
-    requires { ⌜ Filling jp2 (now text) from (state set shift plain) count (now cells) (now cells) ⌝ }
+fn singles(text: &[u8], from: usize, set: u16, shift: u16, count: usize, out: &mut [u32]) -> Answer
+    requires { ⌜ Filling jp2 (now text) from (state set shift plain) count (now out) (now out) ⌝ }
     requires { ⌜ single set ≡ true ⌝ }
     ensures { λ r. ⌜ inNumbers r ≡ verdictOf (reading jp2 (now (text .entry))) ⌝ }
-    ensures { λ _. ⌜ now (cells .exit) ≡ filled (reading jp2 (now (text .entry)) .cells) (now (cells .entry)) ⌝ }
+    ensures { λ _. ⌜ now (out .exit) ≡ filled (reading jp2 (now (text .entry)) .cells) (now (out .entry)) ⌝ }
 {
     let mut at = from;
     let mut g0 = set;
@@ -75,13 +75,13 @@ fn singles(text: &[u8], from: usize, set: u16, shift: u16, count: usize, cells: 
                 g0 = set;
                 at = next;
             }
-            Item::ToPairs(set, next) => return pairs(text, next, set, g2, n, cells),
+            Item::ToPairs(set, next) => return pairs(text, next, set, g2, n, out),
             Item::ToG2(set, next) => {
                 g2 = set;
                 at = next;
             }
             Item::Cell(value, next, left) => {
-                cells[n] = value;
+                out[n] = value;
                 n += 1;
                 g2 = left;
                 at = next;
@@ -94,11 +94,11 @@ fn singles(text: &[u8], from: usize, set: u16, shift: u16, count: usize, cells: 
 
 // A stretch of pairs, and all that follows it: *((one-of-94 one-of-94) / g2-desig-seq / single-shift-char). The
 // designation of a set of single bytes hands back.
-fn pairs(text: &[u8], from: usize, set: u16, shift: u16, count: usize, cells: &mut [u32]) -> Answer
-    requires { ⌜ Filling jp2 (now text) from (state set shift plain) count (now cells) (now cells) ⌝ }
+fn pairs(text: &[u8], from: usize, set: u16, shift: u16, count: usize, out: &mut [u32]) -> Answer
+    requires { ⌜ Filling jp2 (now text) from (state set shift plain) count (now out) (now out) ⌝ }
     requires { ⌜ pairSet set ≡ true ⌝ }
     ensures { λ r. ⌜ inNumbers r ≡ verdictOf (reading jp2 (now (text .entry))) ⌝ }
-    ensures { λ _. ⌜ now (cells .exit) ≡ filled (reading jp2 (now (text .entry)) .cells) (now (cells .entry)) ⌝ }
+    ensures { λ _. ⌜ now (out .exit) ≡ filled (reading jp2 (now (text .entry)) .cells) (now (out .entry)) ⌝ }
 {
     let mut at = from;
     let mut g0 = set;
@@ -106,7 +106,7 @@ fn pairs(text: &[u8], from: usize, set: u16, shift: u16, count: usize, cells: &m
     let mut n = count;
     while at < text.len() {
         match pair_item(text, at, g0, g2) {
-            Item::ToSingles(set, next) => return singles(text, next, set, g2, n, cells),
+            Item::ToSingles(set, next) => return singles(text, next, set, g2, n, out),
             Item::ToPairs(set, next) => {
                 g0 = set;
                 at = next;
@@ -116,7 +116,7 @@ fn pairs(text: &[u8], from: usize, set: u16, shift: u16, count: usize, cells: &m
                 at = next;
             }
             Item::Cell(value, next, left) => {
-                cells[n] = value;
+                out[n] = value;
                 n += 1;
                 g2 = left;
                 at = next;

@@ -67,8 +67,8 @@ returns-5 c =
     let b = m .before in
     let n = m .match .rest in
     λ g0 g2.
-      unknown (b .before .before .pre) (b .byte-at .ensures) (dollar g0 g2) (none-dollar g0 g2 _ (n .0 .0 .0 .1) (n .0 .0 .1) (n .0 .1) (n .1))
-      (c .fault .ensures)
+    unknown (b .before .before .pre) (b .byte-at .ensures) (dollar g0 g2)
+    (none-dollar g0 g2 _ (n .0 .0 .0 .1) (n .0 .0 .1) (n .0 .1) (n .1)) (c .fault .ensures)
 
 pub double-byte-seq-spec : {M : Type 1} → statement M
 double-byte-seq-spec =

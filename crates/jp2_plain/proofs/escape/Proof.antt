@@ -59,8 +59,8 @@ returns-5 c =
     let b = m .before in
     let n = m .match .rest in
     λ g0.
-      unknown (b .before .before .pre) (b .byte-at .ensures) (esc g0 _) (none-esc g0 _ _ (n .0 .0 .0 .1) (n .0 .0 .1) (n .0 .1) (n .1))
-      (c .fault .ensures)
+    unknown (b .before .before .pre) (b .byte-at .ensures) (esc g0 _)
+    (none-esc g0 _ _ (n .0 .0 .0 .1) (n .0 .0 .1) (n .0 .1) (n .1)) (c .fault .ensures)
 
 pub escape-spec : {M : Type 1} → statement M
 escape-spec =

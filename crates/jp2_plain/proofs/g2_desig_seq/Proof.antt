@@ -47,8 +47,8 @@ returns-3 c =
     let b = m .before in
     let n = m .match .rest in
     λ g0 g2.
-      unknown (b .before .before .pre) (b .byte-at .ensures) (dot g0 g2) (none-dot g0 g2 _ (n .0 .1) (n .1))
-      (c .fault .ensures)
+    unknown (b .before .before .pre) (b .byte-at .ensures) (dot g0 g2)
+    (none-dot g0 g2 _ (n .0 .1) (n .1)) (c .fault .ensures)
 
 pub g2-desig-seq-spec : {M : Type 1} → statement M
 g2-desig-seq-spec =

@@ -19,8 +19,9 @@ slice-aggregate-singles c = search needs
 
 singles-requires : tie.Need-singles-requires
 singles-requires c κs =
-    let t = now (c .before .before .before .before .before .args .text) in
-    (filling-start jp2 t _ (omega (arith, few-cells jp2 t, c .before .before .if1 .left, c .before .blank .ensures)), refl)
+    let e = c .before .before in
+    let t = now (e .before .before .before .args .text) in
+    (filling-start jp2 t _ (omega (arith, few-cells jp2 t, e .if1 .left, c .before .blank .ensures)), refl)
 
 enum-told : tie.Need-enum-told
 enum-told c = search needs
@@ -32,7 +33,8 @@ returns-2 : tie.Need-returns-2
 returns-2 c =
     let f = c .before .before in
     let d = f .before .before .before in
-    plain-no-room _ _ (d .before .before .before .if1 .left) (d .singles .ensures .0) (f .found .given .1) (c .if2 .taken)
+    let h = d .before .before .before .if1 .left in
+    plain-no-room _ _ h (d .singles .ensures .0) (f .found .given .1) (c .if2 .taken)
 
 singles-requires-2 : tie.Need-singles-requires-2
 singles-requires-2 c κs =
@@ -57,8 +59,9 @@ returns-4 c =
     let e = s .before .before in
     let f = e .before .before in
     let d = f .before .before .before in
-    plain-filled _ _ (d .before .before .before .if1 .left) (d .singles .ensures .0) (f .found .given .1) (s .singles2 .result)
-    (e .if2 .left) (s .singles2 .ensures .0) (s .singles2 .ensures .1)
+    let h = d .before .before .before .if1 .left in
+    plain-filled _ _ h (d .singles .ensures .0) (f .found .given .1) (s .singles2 .result) (e .if2 .left)
+    (s .singles2 .ensures .0) (s .singles2 .ensures .1)
 
 pub read-spec : {M : Type 1} → statement M
 read-spec =
