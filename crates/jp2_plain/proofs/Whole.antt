@@ -22,7 +22,7 @@ use Rattle.reading.proofs.Filling.{into-refused, into-short, into-room, into-fi
 use Rattle.reading.proofs.Strides.{Stride, filling-none, filling-place, filling-one}
 use Rattle.jp2.specs.Rule.{plain, state, endsIn, jp2}
 use Rattle.jp2.proofs.Kept.{jp2-kept}
-use Rattle.jp2_plain.specs.Plain.{plainInto}
+use Rattle.jp2_plain.specs.Plain.{plainInto, AsMainReader}
 use Rattle.jp2_plain.specs.Inner.{readAt, Shorter}
 
 abbrev Cells : List ℕ → List ℕ
@@ -114,36 +114,38 @@ module _ {text cells₀ cells : List ℕ} {from at g0 g2 n : ℕ} (r : Reached t
       ∙ ap (λ (l : List ℕ). Cells text ++ l)
       (rw z at (sym (drop-drop k n cells) ∙ ap (drop k) kept ∙ drop-drop k n cells₀))
 
--- "It takes up to 512 bytes": more of them, and no more
-pub plain-long : (text out : List ℕ) → 512 < length text → refusing (numbered 16 512) out ≡ plainInto text out
+pub as-main-reader : AsMainReader
 unfolding plainInto
-plain-long text out h = rw (lt-ltb 512 (length text) h)
+as-main-reader =
+    record {
+      same = λ text out h. rw (le-ltb 512 (length text) h);
+      longer = λ text out h. rw (lt-ltb 512 (length text) h);
+    }
 
 -- the whole call, by the answer `a` that was found with a buffer
 module _ (text out : List ℕ) (h : length text ≤ 512) where
-  plain-short : {o : Outcome} → o ≡ readInto jp2 text out → o ≡ plainInto text out
-  unfolding plainInto
-  plain-short e = rw (le-ltb 512 (length text) h) e
+  shown : {o : Outcome} → o ≡ readInto jp2 text out → o ≡ plainInto text out
+  shown e = e ∙ sym (as-main-reader .same text out h)
 
   within : ltb limit (length text) ≡ false
   unfolding limit
   within = le-ltb limit (length text) (omega arith)
 
   module _ {a : Answer} (q : inNumbers a ≡ verdictOf (reading jp2 text)) where
-    pub plain-refused : {why : Refusal} {place : ℕ} → a ≡ Refused why place → leaves a out ≡ plainInto text out
-    plain-refused e = plain-short (into-refused jp2-kept text out within q e)
+    pub read-refused : {why : Refusal} {place : ℕ} → a ≡ Refused why place → leaves a out ≡ plainInto text out
+    read-refused e = shown (into-refused jp2-kept text out within q e)
 
     module _ {n : ℕ} (e : a ≡ Accepted n) where
-      pub plain-no-room : length out < n → leaves (Refused NoRoom n) out ≡ plainInto text out
-      plain-no-room r = plain-short (into-short jp2-kept text out within q e r)
+      pub read-short : length out < n → leaves (Refused NoRoom n) out ≡ plainInto text out
+      read-short r = shown (into-short jp2-kept text out within q e r)
 
-      pub plain-room : n ≤ length out → length (Cells text) ≤ length out
-      plain-room r = into-room jp2-kept text out within q e r
+      pub read-room : n ≤ length out → length (Cells text) ≤ length out
+      read-room r = into-room jp2-kept text out within q e r
 
       -- the answer `b` and the output that were found with the output
-      pub plain-filled :
+      pub read-filled :
           (b : Answer) {o : List ℕ} → n ≤ length out → inNumbers b ≡ verdictOf (reading jp2 text) →
           o ≡ filled (Cells text) out → leaves b o ≡ plainInto text out
-      plain-filled b {o} r k f =
-          plain-short
+      read-filled b {o} r k f =
+          shown
           (ap (λ (v : Verdict). refusing v o) (k ∙ sym q) ∙ into-filled jp2-kept text out within q e r f)

@@ -1,15 +1,15 @@
-use mathlib.Core.Path.{refl}
+use mathlib.Core.Path.{refl, sym}
 use native.Mathlib.Omega.{arith}
 use denote.Ref.{now}
 use borrow.Author.Needs.{needs}
 use Rattle.reading.proofs.Filling.{filling-start, few-cells}
 use Rattle.jp2.specs.Rule.{jp2}
-use Rattle.jp2_plain.proofs.Whole.{plain-long, plain-refused, plain-no-room, plain-room, plain-filled}
+use Rattle.jp2_plain.proofs.Whole.{as-main-reader, read-refused, read-short, read-room, read-filled}
 use Rattle.jp2_plain.proofs.read.Statement.{statement}
 use Rattle.jp2_plain.proofs.read.Tie as tie
 
 returns : tie.Need-returns
-returns c = plain-long _ _ (c .if1 .taken)
+returns c = sym (as-main-reader .longer _ _ (c .if1 .taken))
 
 blank-requires : tie.Need-blank-requires
 blank-requires c κs = search needs
@@ -34,7 +34,7 @@ returns-2 c =
     let f = c .before .before in
     let d = f .before .before .before in
     let h = d .before .before .before .if1 .left in
-    plain-no-room _ _ h (d .singles .ensures .0) (f .found .given .1) (c .if2 .taken)
+    read-short _ _ h (d .singles .ensures .0) (f .found .given .1) (c .if2 .taken)
 
 singles-requires-2 : tie.Need-singles-requires-2
 singles-requires-2 c κs =
@@ -42,13 +42,13 @@ singles-requires-2 c κs =
     let d = f .before .before .before in
     let e = d .before .before .before in
     let o = now (e .before .before .before .args .out) in
-    let k = plain-room _ o (e .if1 .left) (d .singles .ensures .0) (f .found .given .1) (c .before .if2 .left) in
+    let k = read-room _ o (e .if1 .left) (d .singles .ensures .0) (f .found .given .1) (c .before .if2 .left) in
     (filling-start jp2 _ o k, refl)
 
 returns-3 : tie.Need-returns-3
 returns-3 c =
     let d = c .before .before .before in
-    plain-refused _ _ (d .before .before .before .if1 .left) (d .singles .ensures .0) (c .enum-told .given .1)
+    read-refused _ _ (d .before .before .before .if1 .left) (d .singles .ensures .0) (c .enum-told .given .1)
 
 same-length : tie.Need-same-length
 same-length c = search needs
@@ -60,7 +60,7 @@ returns-4 c =
     let f = e .before .before in
     let d = f .before .before .before in
     let h = d .before .before .before .if1 .left in
-    plain-filled _ _ h (d .singles .ensures .0) (f .found .given .1) (s .singles2 .result) (e .if2 .left)
+    read-filled _ _ h (d .singles .ensures .0) (f .found .given .1) (s .singles2 .result) (e .if2 .left)
     (s .singles2 .ensures .0) (s .singles2 .ensures .1)
 
 pub read-spec : {M : Type 1} → statement M
