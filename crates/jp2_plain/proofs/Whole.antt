@@ -8,7 +8,7 @@ use lib.ListN.{length, take, drop, set}
 use lib.Seq.{drop-drop, drop-at, length-take-le}
 use lib.Dec.{ltb}
 use borrow.Author.Tests.{lt-ltb, le-ltb}
-use Rattle.answer.specs.Answer.{Verdict, numbered, inNumbers, limit}
+use Rattle.answer.specs.Answer.{Verdict, inNumbers, limit}
 use Rattle.answer.specs.Output.{Outcome, leaves, refusing, filled}
 use Rattle.answer.specs.declared.Answer.{Answer}
 use Rattle.answer.specs.declared.Answer.the-variants.{Accepted, Refused}
