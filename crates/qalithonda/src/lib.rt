@@ -14,6 +14,7 @@ ghost use Rattle.mailbox.specs.Rule.{mailbox};
 ghost use Rattle.jp2.specs.Rule.{jp2};
 ghost use Rattle.jp2.specs.Writing as jp2-writing;
 ghost use Rattle.jp2.specs.Tally.{tallyOf};
+ghost use Rattle.jp2_plain.specs.Plain.{plainInto};
 ghost use Rattle.host_numbers.specs.Numbers.{left};
 ghost use Rattle.qalithonda.specs.Numbers.{counted};
 
@@ -57,6 +58,13 @@ pub extern "C" fn qalithonda_jp2_read(text: &[u8], cells: &mut [u32]) -> Numbers
     ensures { λ r. ⌜ left r (now (cells .exit)) ≡ readInto jp2 (now (text .entry)) (now (cells .entry)) ⌝ }
 {
     in_numbers(jp2_whole::read(text, cells))
+}
+
+#[no_mangle]
+pub extern "C" fn qalithonda_jp2_plain_read(text: &[u8], cells: &mut [u32]) -> Numbers
+    ensures { λ r. ⌜ left r (now (cells .exit)) ≡ plainInto (now (text .entry)) (now (cells .entry)) ⌝ }
+{
+    in_numbers(jp2_plain::read(text, cells))
 }
 
 #[no_mangle]
