@@ -11,6 +11,7 @@ mod memory;
 mod page;
 mod page_file;
 mod peers;
+mod plain;
 mod reading;
 mod spelling;
 mod squeeze;
@@ -39,6 +40,7 @@ pub fn parts(settings: Settings) -> Vec<Part> {
     parts.extend(of_format(formats::jp2, &library::JP2, icu::JP2, seed));
     parts.push(tally);
     parts.push(Part::new("jp2-grammar", move |report| grammar::run(report, seed)));
+    parts.push(Part::new("jp2-plain", move |report| plain::run(report, seed)));
     parts.extend(of_format(formats::mailbox, &library::MAILBOX, icu::MAILBOX, seed));
     parts.push(Part::new("mailbox-spelling", move |report| spelling::run(report, seed)));
     parts.extend(page::parts(seed));

@@ -25,6 +25,7 @@ extern "C" {
     fn qalithonda_utf7_header_write(cells: *const u32, cells_len: usize, out: *mut u8, out_len: usize) -> RawAnswer;
     fn qalithonda_utf7_body_write(cells: *const u32, cells_len: usize, out: *mut u8, out_len: usize) -> RawAnswer;
     fn qalithonda_jp2_read(text: *const u8, text_len: usize, cells: *mut u32, cells_len: usize) -> RawAnswer;
+    fn qalithonda_jp2_plain_read(text: *const u8, text_len: usize, cells: *mut u32, cells_len: usize) -> RawAnswer;
     fn qalithonda_jp2_write(cells: *const u32, cells_len: usize, out: *mut u8, out_len: usize) -> RawAnswer;
     fn qalithonda_jp2_tally(cells: *const u32, cells_len: usize, counts: *mut [u32; 9]) -> RawAnswer;
     fn qalithonda_mailbox_read(text: *const u8, text_len: usize, cells: *mut u32, cells_len: usize) -> RawAnswer;
@@ -65,6 +66,10 @@ pub const JP2: Functions<Jp2Cursor> = Functions {
     step: steps::JP2,
     write: &[Function { name: "qalithonda_jp2_write", raw: qalithonda_jp2_write }],
 };
+
+/// "A plain second reader."
+pub const JP2_PLAIN_READ: Function<u8, u32> =
+    Function { name: "qalithonda_jp2_plain_read", raw: qalithonda_jp2_plain_read };
 
 pub const MAILBOX: Functions<MailboxCursor> = Functions {
     read: Function { name: "qalithonda_mailbox_read", raw: qalithonda_mailbox_read },

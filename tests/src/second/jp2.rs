@@ -1,7 +1,7 @@
 //! ISO-2022-JP-2, after the section "JP-2" of document 01.
 
 use super::reading::{self, first_fault, Cursor, Found};
-use super::{all_writable, within_limit, Answer, Complete, Elements, Outcome, Steps};
+use super::{all_writable, refuse, within_limit, Answer, Complete, Elements, Outcome, Steps};
 
 const ESC: u8 = 0x1B;
 
@@ -62,6 +62,17 @@ fn numbered(number: u32, code: &[u8]) -> u32 {
 /// Reads a text.
 pub fn read(text: &[u8]) -> Elements<u32> {
     reading::read(find, Before::START, text)
+}
+
+/// Document 02, order 12: "It takes up to 512 bytes".
+pub const PLAIN_LIMIT: usize = 512;
+
+/// Reads a text as order 12's reader is to: "Refusals: 16 at 512, the rest as the main reader's."
+pub fn read_plain(text: &[u8]) -> Elements<u32> {
+    if text.len() > PLAIN_LIMIT {
+        return refuse(16, PLAIN_LIMIT);
+    }
+    read(text)
 }
 
 /// Steps through a text.
