@@ -70,7 +70,8 @@ enum qalithonda_number {
     QALITHONDA_UNSOUND = 14,        /* page not sound: 0 */
     QALITHONDA_NOT_THE_TEXT = 15,   /* arrived bytes do not read as the text, or in a page file as
                                        so many cells as the page was opened with: 0 */
-    QALITHONDA_OVER_LIMIT = 16,     /* more than 65,536 elements lent: 65,536 */
+    QALITHONDA_OVER_LIMIT = 16,     /* more than 65,536 elements lent: 65,536. More than 512 bytes for
+                                       the plain reader of JP-2: 512 */
     QALITHONDA_NEEDLESS_SHIFT = 17, /* needless shift in a mailbox name. A unit of 32 to 126 in a
                                        run: the letter that completes it. A run directly after a
                                        run: its first letter. Six or more left-over bits, all zero:
@@ -127,6 +128,16 @@ qalithonda_numbers qalithonda_utf7_body_write(const uint32_t *cells, size_t cell
  */
 qalithonda_numbers qalithonda_jp2_read(const uint8_t *text, size_t text_len,
                                        uint32_t *cells, size_t cells_len);
+
+/*
+ * Reads a text of at most 512 bytes to cells, by a second reader that was written plainly from
+ * RFC 1554's formal syntax: for tests. On each of these texts it answers what the first answers and
+ * leaves what the first leaves.
+ * Accepted: the count of cells, which are in `cells`.
+ * Refused: 16 (text; the place is 512); 1, 3, 5, 6, 7, 8; 9 (cells).
+ */
+qalithonda_numbers qalithonda_jp2_plain_read(const uint8_t *text, size_t text_len,
+                                             uint32_t *cells, size_t cells_len);
 
 /*
  * Writes cells as a text. n cells need at most 6n + 3 bytes.

@@ -50,7 +50,7 @@ class Refusal(enum.IntEnum):
     #: the arrived bytes of a page file do not read as the text, or as so many cells as the page was opened with: 0
     #: (those of a Page that was opened always do)
     NOT_THE_TEXT = 15
-    OVER_LIMIT = 16  #: more than LIMIT elements: that limit
+    OVER_LIMIT = 16  #: more than LIMIT elements, or 512 bytes for jp2.plain_read: that limit
     #: a needless shift in a mailbox name. A unit of 32 to 126 in a run: the letter that completes it. A run directly
     #: after a run: its first letter. Six or more left-over bits, all zero: the '-' that closes the run.
     NEEDLESS_SHIFT = 17
@@ -222,6 +222,7 @@ _utf7_body_write = _function("utf7_body_write", _Numbers, *_WORDS, *_OUT)
 _utf7_start = _function("utf7_start", _Utf7Cursor)
 _utf7_step = _function("utf7_step", _Utf7Stepped, *_BYTES, _Utf7Cursor)
 _jp2_read = _function("jp2_read", _Numbers, *_BYTES, *_WORDS)
+_jp2_plain_read = _function("jp2_plain_read", _Numbers, *_BYTES, *_WORDS)
 _jp2_write = _function("jp2_write", _Numbers, *_WORDS, *_OUT)
 _jp2_tally = _function("jp2_tally", _Numbers, *_WORDS, ctypes.POINTER(_Word))
 _jp2_start = _function("jp2_start", _Jp2Cursor)
@@ -394,6 +395,12 @@ class jp2:
     def read(text: bytes) -> List[int]:
         """The cells of a text. Refused with 16, 1, 3, 5, 6, 7 or 8."""
         return _read(_jp2_read, text)
+
+    @staticmethod
+    def plain_read(text: bytes) -> List[int]:
+        """The cells of a text of at most 512 bytes, by a second reader that was written plainly from RFC 1554's formal
+        syntax: for tests. Refused with 16 at 512; on any other text it gives what read gives."""
+        return _read(_jp2_plain_read, text)
 
     @staticmethod
     def write(cells: Iterable[int]) -> bytes:

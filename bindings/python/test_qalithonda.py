@@ -80,6 +80,17 @@ class Formats(Case):
         self.refused(7, 4, jp2.read, P9[:4])
         self.refused(8, 5, jp2.read, P9[:5])
 
+    def test_jp2_plain_reads_as_jp2_reads(self):
+        for text in (b"", b"a\0b", P9, b"\x1b.A\n\x1bNA", b"a" * 512):
+            self.assertEqual(jp2.plain_read(text), jp2.read(text))
+        self.refused(1, 1, jp2.plain_read, b"\x1b\xff")
+        self.refused(3, 3, jp2.plain_read, b"\x1b$B ")
+        self.refused(5, 3, jp2.plain_read, b"\x1b$(B")
+        self.refused(6, 6, jp2.plain_read, b"\x1b.A\r\n\x1bNA")
+        self.refused(7, 4, jp2.plain_read, P9[:4])
+        self.refused(8, 5, jp2.plain_read, P9[:5])
+        self.refused(16, 512, jp2.plain_read, b"a" * 513)
+
     def test_jp2_writes_and_counts(self):
         self.assertEqual(jp2.write([0x572422]), P9)
         self.assertEqual(jp2.write([0x952121]), b"\x1b$(C!!\x1b(B")

@@ -121,6 +121,7 @@ extern "C" {
     pub fn qalithonda_utf7_step(text: *const u8, text_len: usize, cursor: Utf7Cursor) -> Utf7Stepped;
 
     pub fn qalithonda_jp2_read(text: *const u8, text_len: usize, cells: *mut u32, cells_len: usize) -> Numbers;
+    pub fn qalithonda_jp2_plain_read(text: *const u8, text_len: usize, cells: *mut u32, cells_len: usize) -> Numbers;
     pub fn qalithonda_jp2_write(cells: *const u32, cells_len: usize, out: *mut u8, out_len: usize) -> Numbers;
     pub fn qalithonda_jp2_tally(cells: *const u32, cells_len: usize, counts: *mut [u32; 9]) -> Numbers;
     pub fn qalithonda_jp2_start() -> Jp2Cursor;

@@ -15,6 +15,9 @@ use crate::{ffi, room, Refused, Steps};
 /// JIS X 0208-1978, GB2312-1980, JIS X 0208-1983, ISO8859-1, ISO8859-7, KSC5601-1987 and JIS X 0212-1990.
 pub const SETS: [u32; 9] = [6, 14, 42, 58, 87, 100, 126, 149, 159];
 
+/// The most bytes that [`plain_read`] takes.
+pub const PLAIN_LIMIT: usize = 512;
+
 /// Reads a text into the first elements of `cells`, and gives their count. A text of n bytes has at most n cells.
 ///
 /// A refusal leaves `cells` as it was: [`OverLimit`], [`HighByte`], [`StrayByte`], [`UnknownEscape`], [`EmptyG2`],
@@ -43,6 +46,28 @@ pub fn read(text: &[u8], cells: &mut [u32]) -> Result<usize, Refused> {
 /// Reads a text, as [`read`] does, into a vector of exactly its cells.
 pub fn read_to_vec(text: &[u8]) -> Result<Vec<u32>, Refused> {
     room::filled(|cells| read(text, cells))
+}
+
+/// Reads a text of at most [`PLAIN_LIMIT`] bytes, as [`read`] does, by a second reader that was written plainly from
+/// RFC 1554's formal syntax: for tests. A longer text is refused with `OverLimit` and [`PLAIN_LIMIT`]; on any other it
+/// gives what [`read`] gives.
+///
+/// ```
+/// use qalithonda::jp2;
+///
+/// let (mut cells, mut plain) = ([0; 8], [0; 8]);
+/// let text = b"\x1b$B$\"\x1b(B";
+/// assert_eq!(jp2::plain_read(text, &mut plain), jp2::read(text, &mut cells));
+/// assert_eq!(plain, cells);
+/// ```
+pub fn plain_read(text: &[u8], cells: &mut [u32]) -> Result<usize, Refused> {
+    // SAFETY: each pointer comes with the length of its slice.
+    unsafe { ffi::qalithonda_jp2_plain_read(text.as_ptr(), text.len(), cells.as_mut_ptr(), cells.len()) }.answer()
+}
+
+/// Reads a text, as [`plain_read`] does, into a vector of exactly its cells.
+pub fn plain_read_to_vec(text: &[u8]) -> Result<Vec<u32>, Refused> {
+    room::filled(|cells| plain_read(text, cells))
 }
 
 /// Writes cells into the first elements of `out`, and gives their count. n cells need at most 6n + 3 bytes.

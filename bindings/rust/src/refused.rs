@@ -41,7 +41,8 @@ pub enum Refusal {
     /// The arrived bytes of a page file do not read as the text, or as so many cells as the page was opened with. The
     /// place is 0. (Those of a [`Page`](crate::Page) that was opened always do.)
     NotTheText = 15,
-    /// More than [`LIMIT`](crate::LIMIT) elements. The place is that limit.
+    /// More than [`LIMIT`](crate::LIMIT) elements, or bytes than [`jp2::PLAIN_LIMIT`](crate::jp2::PLAIN_LIMIT) for
+    /// [`jp2::plain_read`](crate::jp2::plain_read). The place is that limit.
     OverLimit = 16,
     /// A needless shift in a mailbox name. For a unit of 32 to 126 in a run the place is the letter that completes it,
     /// for a run directly after a run its first letter, and for six or more left-over bits, all zero, the `-` that

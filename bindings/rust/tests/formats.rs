@@ -47,6 +47,19 @@ fn jp2_reads() {
 }
 
 #[test]
+fn jp2_plain_reads_as_jp2_reads() {
+    let long = [b'a'; jp2::PLAIN_LIMIT + 1];
+    let most = &long[1..];
+    for text in [b"".as_slice(), P9, &P9[..4], &P9[..5], b"\x1b.A\r\n\x1bNA", b"\x1b$(B", b"\x1b$B ", most] {
+        assert_eq!(jp2::plain_read_to_vec(text), jp2::read_to_vec(text));
+    }
+    assert_eq!(jp2::plain_read_to_vec(&long), refused(Refusal::OverLimit, 512));
+    let mut cells = [7; 3];
+    assert_eq!(jp2::plain_read(b"ab\x1b$B$\"\x1b(Bc", &mut cells), refused(Refusal::NoRoom, 4));
+    assert_eq!(cells, [7; 3]);
+}
+
+#[test]
 fn jp2_writes_and_counts() {
     assert_eq!(jp2::write_to_vec(&[0x572422]), Ok(P9.to_vec()));
     assert_eq!(jp2::write_to_vec(&[0x952121]), Ok(b"\x1b$(C!!\x1b(B".to_vec()));

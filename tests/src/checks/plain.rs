@@ -1,5 +1,5 @@
-//! Order 12 of document 02: the plain second reader "is proved to give the same answer, cells and place as the main reader
-//! on each of them". Here it stands beside the main reader and the second program.
+//! Order 12 of document 02: the plain second reader "is proved to give the same answer, cells and place as the main
+//! reader on each of them". Here it stands beside the main reader and the second program.
 
 use super::call::Call;
 use super::reading::check_on_texts;
@@ -43,7 +43,8 @@ pub fn run(report: &mut Report, seed: u64) {
 /// A designation of a set of pairs and one of a set of single bytes, over and over, with a byte or pair in the stretches
 /// or none: of every length up to the bound and a little past it.
 fn hand_overs() -> impl Iterator<Item = Vec<u8>> {
-    let rounds: [&[u8]; 4] = [b"\x1B$B\x1B(B", b"\x1B$(C!!\x1B(Ja", b"\x1B$@\x1B.A\x1BNA\x1B(B", b"a\x1B$A!!\x1B$(D!!\x1B(B"];
+    let rounds: [&[u8]; 4] =
+        [b"\x1B$B\x1B(B", b"\x1B$(C!!\x1B(Ja", b"\x1B$@\x1B.A\x1BNA\x1B(B", b"a\x1B$A!!\x1B$(D!!\x1B(B"];
     rounds.into_iter().flat_map(|round| {
         (0..PLAIN_LIMIT + 9).map(|length| round.iter().copied().cycle().take(length).collect::<Vec<u8>>())
     })
