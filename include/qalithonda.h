@@ -132,7 +132,7 @@ qalithonda_numbers qalithonda_jp2_read(const uint8_t *text, size_t text_len,
 /*
  * Reads a text of at most 512 bytes to cells, by a second reader that was written plainly from
  * RFC 1554's formal syntax: for tests. On each of these texts it answers what the first answers and
- * leaves what the first leaves.
+ * leaves what the first leaves. The call needs some 20 KiB of stack.
  * Accepted: the count of cells, which are in `cells`.
  * Refused: 16 (text; the place is 512); 1, 3, 5, 6, 7, 8; 9 (cells).
  */
