@@ -28,17 +28,7 @@ use Rattle.jp2_plain.specs.Inner.{readAt, Shorter}
 abbrev Cells : List ℕ → List ℕ
 Cells text = reading jp2 text .cells
 
--- the rest of a text, read as `r`, is nothing but its end
-filling-over :
-    {text out₀ out : List ℕ} {at g0 g2 n : ℕ} {e : Ending} → Filling jp2 text at (state g0 g2 plain) n out₀ out →
-    readAt text at g0 g2 ≡ record { cells = []; ending = e } →
-    (closing e n ≡ verdictOf (reading jp2 text)) × (out ≡ filled (Cells text) out₀)
-filling-over {text} {at = at} {n = n} {e = e} f q =
-    let p = put-as (ap (λ (r : Reading). r .cells) q) (f .put) in
-    let ends : reading jp2 text .ending ≡ e = f .left .ending ∙ ap (λ (r : Reading). r .ending) q in
-    (rw (ends, put-end p), put-done p)
-
--- a stretch that began at a place, on a buffer, has come to another
+-- a stretch that began at a place, with an output as it was then, has come to another place
 pub record Reached (text : List ℕ) (from : ℕ) (cells₀ cells : List ℕ) (at g0 g2 n : ℕ) : Type 0 where
   pub past : from ≤ at
   pub so : Filling jp2 text at (state g0 g2 plain) n cells₀ cells
@@ -71,11 +61,14 @@ module _ {text cells₀ cells : List ℕ} {from at g0 g2 n : ℕ} (r : Reached t
     pub reached-cell : Reached text from cells₀ (set cells n v) next g0 left (n + 1)
     reached-cell = record { past = omega (arith, r .past, s .past); so = filling-one (r .so) one }
 
-  -- a fault, or the end of the text
+  -- a fault, or the end of the text: every cell is written, and the answer is the whole text's
   pub reached-over :
       {e : Ending} → readAt text at g0 g2 ≡ record { cells = []; ending = e } →
       (closing e n ≡ verdictOf (reading jp2 text)) × (cells ≡ filled (Cells text) cells₀)
-  reached-over q = filling-over (r .so) q
+  reached-over {e} q =
+      let p = put-as (ap (λ (r : Reading). r .cells) q) (r .so .put) in
+      let ends : reading jp2 text .ending ≡ e = r .so .left .ending ∙ ap (λ (r : Reading). r .ending) q in
+      (rw (ends, put-end p), put-done p)
 
   pub reached-end :
       {v : Verdict} → length text ≤ at → v ≡ closing (endsIn at (state g0 0 plain)) n →
@@ -114,6 +107,7 @@ module _ {text cells₀ cells : List ℕ} {from at g0 g2 n : ℕ} (r : Reached t
       ∙ ap (λ (l : List ℕ). Cells text ++ l)
       (rw z at (sym (drop-drop k n cells) ∙ ap (drop k) kept ∙ drop-drop k n cells₀))
 
+-- the order, of the definition; that `read` keeps to it is its promise
 pub as-main-reader : AsMainReader
 unfolding plainInto
 as-main-reader =

@@ -137,7 +137,7 @@ fn ends(g0: u16, at: usize, n: usize) -> Answer
     Answer::Refused(Refusal::NotAscii, at)
 }
 
-// single-byte-char, or an escape
+// single-byte-char, or an escape: "Bytes 33 to 126 carry the G0 number; 0 to 32 and 127 always carry 6."
 fn single_item(text: &[u8], at: usize, g0: u16, g2: u16) -> Item
     requires { ⌜ at < length (now text) ⌝ }
     requires { ⌜ single g0 ≡ true ⌝ }
