@@ -15,8 +15,7 @@ use crate::library::{self, Functions};
 use crate::parts::Part;
 use crate::settings::Settings;
 
-/// A part for each format, for the plain reader, for the tally and for the page, and one for all on a small stack, aside
-/// until the readers take less of it.
+/// A part for each format, for the plain reader, for the tally and for the page, and one for all on a small stack.
 pub fn parts(settings: Settings) -> Vec<Part> {
     vec![
         of_format(formats::utf7, &library::UTF7, settings),
@@ -27,7 +26,7 @@ pub fn parts(settings: Settings) -> Vec<Part> {
         }),
         Part::new("memory-jp2-tally", move |report| lists::tally(report, &formats::jp2(), settings)),
         Part::new("memory-page", move |report| page::run(report, settings)),
-        Part::aside("stack", move |report| stack::run(report, settings.seed)),
+        Part::new("stack", move |report| stack::run(report, settings.seed)),
     ]
 }
 

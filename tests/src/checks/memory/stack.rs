@@ -13,7 +13,7 @@ use crate::formats::{self, Format};
 use crate::library::page as library_page;
 use crate::library::page_file::{self, READ};
 use crate::library::steps::Cursor;
-use crate::library::{self, Function, Functions, JP2_TALLY};
+use crate::library::{self, Function, Functions, JP2_PLAIN_READ, JP2_TALLY};
 use crate::report::Report;
 use crate::rng::Rng;
 use crate::second::page::State;
@@ -39,6 +39,7 @@ pub fn run(report: &mut Report, seed: u64) {
     called.extend(of_format(report, &formats::utf7(), &library::UTF7, seed));
     called.extend(of_format(report, &formats::jp2(), &library::JP2, seed));
     called.extend(of_format(report, &formats::mailbox(), &library::MAILBOX, seed));
+    called.push(list_call(report, &JP2_PLAIN_READ, texts(formats::jp2().source, seed), 1));
     called.push(tally(report, formats::jp2().source, seed));
     called.extend(of_page(report, seed));
     called.push(of_files(report, seed));
