@@ -185,25 +185,35 @@ last-done {s} from {at} {end} {n} {u} {out} {out'} {xs} {ys} l few v e q y d h =
       count = λ _. rw q;
     }
 
--- three letters, by their values
+pub one-made :
+    {s : List ℕ} {from a b c u : ℕ} → a ≡ valueOf slash (getD s from 0) → b ≡ valueOf slash (getD s (from + 1) 0) → c ≡ valueOf slash (getD s (from + 2) 0) →
+    (a < 64) × (b < 64) × (c < 64) × (getD s (from + 3) 0 ≡ 45) × (c % 4 ≡ 0) → u ≡ (a * 64 + b) * 16 + c / 4 → One s from u
+unfolding setB
+one-made e f g o q =
+    record {
+      first = rw (← e) (lt-ltb _ 64 (o .0));
+      second = rw (← f) (lt-ltb _ 64 (o .1));
+      third = rw (← g) (lt-ltb _ 64 (o .2));
+      ends = rw (← g) (o .4);
+      over = o .3;
+      so = rw (← e, ← f, ← g) q;
+    }
+
+-- three letters and '-'
 dash-letter : setB slash 45 ≡ false
 unfolding setB valueOf
 dash-letter = refl
 
-module _ {s : List ℕ} {from : ℕ} {xs : List ℕ} (h : from + 32 ≤ length s) (v : Values s from xs) (o : One xs (getD s (from + 3) 0)) where
+module _ {s : List ℕ} {from unit : ℕ} (o : One s from unit) where
   pub one-run : Run s from (from + 3)
-  unfolding setB
-  one-run =
-      let z : from + 0 ≡ from = omega arith in
-      let a : valueOf slash (getD s from 0) < 64 = rw (rw z at (v .so 0 (lit< tt))) at (o .first) in
-      let b : valueOf slash (getD s (from + 1) 0) < 64 = rw (v .so 1 (lit< tt)) at (o .second) in
-      let c : valueOf slash (getD s (from + 2) 0) < 64 = rw (v .so 2 (lit< tt)) at (o .third) in
-      three-run s from (omega arith) (lt-ltb _ 64 a) (lt-ltb _ 64 b) (lt-ltb _ 64 c) (rw (o .over) dash-letter) (rw (v .so 2 (lit< tt)) at (o .ends))
+  one-run = three-run s from (some-at s (from + 3) (omega (arith, o .over))) (o .first) (o .second) (o .third) (rw (o .over) dash-letter) (o .ends)
 
-  pub one-units : unitsIn s from (from + 3) ≡ ((getD xs 0 0 * 64 + getD xs 1 0) * 16 + getD xs 2 0 / 4) ∷ []
+  pub one-units : unitsIn s from (from + 3) ≡ unit ∷ []
   one-units =
-      let x : Known s from (from + 3) (λ k. getD xs k 0) = record { so = λ k l. v .so k (omega arith) } in
-      one-unit (one-run .letters) x (omega arith) (omega arith)
+      let z : from + 0 ≡ from = omega arith in
+      let x : Known s from (from + 3) (λ k. valueOf slash (getD s (from + k) 0)) = record { so = λ k l. refl } in
+      let e = one-unit (one-run .letters) x (omega arith) (omega arith) in
+      rw (o .so) (rw z at e)
 
   pub one-past : past s (from + 3) ≡ from + 4
   one-past = rw (o .over) (omega arith)
@@ -373,13 +383,10 @@ module _ {s : List ℕ} {at n : ℕ} {a : List ℕ} (f : Filled s at outside n a
         let e = slice-padded p (at + 1) to (d .letters .within) (r .letters .within) in
         rw (q, e, p .same to) (filled-stride f (run-stride sign-here d) (rw e at l))
 
-    pub filled-one :
-        {xs : List ℕ} → n < length a → at + 1 + 32 ≤ length room → Values room (at + 1) xs → One xs (getD room (at + 1 + 3) 0) →
-        Filled s (at + 5) outside (n + 1) (set a n ((getD xs 0 0 * 64 + getD xs 1 0) * 16 + getD xs 2 0 / 4))
-    filled-one {xs} g h v o =
-        let q : past room (at + 1 + 3) ≡ at + 5 = one-past h v o ∙ omega arith in
-        let f : Filled s (past room (at + 1 + 3)) outside (n + 1) (set a n ((getD xs 0 0 * 64 + getD xs 1 0) * 16 + getD xs 2 0 / 4)) =
-        filled-run (one-run h v o) (rw (one-units h v o) (laid-one n _ a g)) (rw (one-units h v o)) in
+    pub filled-one : {unit : ℕ} → n < length a → One room (at + 1) unit → Filled s (at + 5) outside (n + 1) (set a n unit)
+    filled-one {unit} g o =
+        let q : past room (at + 1 + 3) ≡ at + 5 = one-past o ∙ omega arith in
+        let f : Filled s (past room (at + 1 + 3)) outside (n + 1) (set a n unit) = filled-run (one-run o) (rw (one-units o) (laid-one n unit a g)) (rw (one-units o)) in
         rw q at f
 
 pub filled-start : (s a : List ℕ) → Filled s 0 outside 0 a

@@ -62,13 +62,14 @@ past s to = cond (eqb (getD s to 0) 45) (to + 1) to
 pub record Values (s : List ℕ) (at : ℕ) (xs : List ℕ) : Type 0 where
   pub so : (k : ℕ) → k < 32 → getD xs k 0 ≡ valueOf slash (getD s (at + k) 0)
 
--- three letters that may end a run, and '-'
-pub record One (xs : List ℕ) (b : ℕ) : Type 0 where
-  pub first : getD xs 0 0 < 64
-  pub second : getD xs 1 0 < 64
-  pub third : getD xs 2 0 < 64
-  pub over : b ≡ 45
-  pub ends : getD xs 2 0 % 4 ≡ 0
+-- three letters that may end a run, and '-': one unit
+pub record One (s : List ℕ) (from unit : ℕ) : Type 0 where
+  pub first : setB slash (getD s from 0) ≡ true
+  pub second : setB slash (getD s (from + 1) 0) ≡ true
+  pub third : setB slash (getD s (from + 2) 0) ≡ true
+  pub ends : valueOf slash (getD s (from + 2) 0) % 4 ≡ 0
+  pub over : getD s (from + 3) 0 ≡ 45
+  pub so : unit ≡ (valueOf slash (getD s from 0) * 64 + valueOf slash (getD s (from + 1) 0)) * 16 + valueOf slash (getD s (from + 2) 0) / 4
 
 -- the units that eight values hold, and those of so many eights
 abbrev pub firstOf : (ℕ → ℕ) → ℕ

@@ -1,4 +1,4 @@
-// Whole texts, a stretch or a run at a time: the loops of this file go over what texts are made of, and stop at anything else and 73 bytes
+// Whole texts, a stretch or a run at a time: the loops of this file go over what texts are made of, and stop at anything else and 37 bytes
 // before the end. A text is lent with zeros behind it, which are no byte of any set, so that they reach its end. The loop that goes byte by
 // byte, which names every fault, reads on from there. Loops have a fixed length and tests of bytes are eager, so that they compile to no
 // branch; a block is written whole, and what lies behind its cells is written over by the next ones.
@@ -99,12 +99,11 @@ fn letters_in(x: [u8; 32]) -> usize
     m as usize
 }
 
-// Three letters and '-' are a run of one unit. One that another byte ends is read as longer runs are: so the next place is a number of bytes
-// further on that is known, and no load is waited for.
-fn is_one(x: [u8; 32], over: u8) -> bool
-    ensures { λ r. ⌜ (r ≡ true → One x over) ⌝ }
+// Three values of letters that may end a run, and '-'.
+fn is_one(a: u8, b: u8, c: u8, over: u8) -> bool
+    ensures { λ r. ⌜ (r ≡ true → (a < 64) × (b < 64) × (c < 64) × (over ≡ 45) × (c % 4 ≡ 0)) ⌝ }
 {
-    (x[0] < 64) & (x[1] < 64) & (x[2] < 64) & (over == b'-') & (x[2] % 4 == 0)
+    (a < 64) & (b < 64) & (c < 64) & (over == b'-') & (c % 4 == 0)
 }
 
 fn wide(x: u8) -> u32
@@ -140,6 +139,21 @@ fn third(f: u32, g: u32, h: u32) -> u32
     ensures { λ r. ⌜ r ≡ (f % 16 * 64 + g) * 64 + h ⌝ }
 {
     (f % 16 * 64 + g) * 64 + h
+}
+
+// The unit of a run of three letters and '-', or 65,536 where there is none. A run of one unit that another byte ends is read as longer runs are:
+// so the next place is a number of bytes further on that is known, and no load is waited for.
+fn one_at(text: &[u8], from: usize) -> u32
+    requires { ⌜ from + 4 ≤ length (now text) ⌝ }
+    ensures { λ r. ⌜ (r < 65536 → One (now (text .entry)) from r) ⌝ }
+{
+    let a = value(text[from]);
+    let b = value(text[from + 1]);
+    let c = value(text[from + 2]);
+    if is_one(a, b, c, text[from + 3]) {
+        return first(wide(a), wide(b), wide(c));
+    }
+    65536
 }
 
 // The units of eight values go to the output from n on, those of the letters among them first.
@@ -334,7 +348,7 @@ pub fn fill(text: &[u8], out: &mut [u32]) -> Reached
 {
     let mut at: usize = 0;
     let mut n: usize = 0;
-    while at + 73 <= text.len() {
+    while at + 37 <= text.len() {
         if out.len() < n + 33 {
             return Reached { at, n };
         }
@@ -350,9 +364,9 @@ pub fn fill(text: &[u8], out: &mut [u32]) -> Reached
                 return Reached { at, n };
             }
             let from = at + 1;
-            let x = values(text, from);
-            if is_one(x, text[from + 3]) {
-                out[n] = first(wide(x[0]), wide(x[1]), wide(x[2]));
+            let one = one_at(text, from);
+            if one < 65536 {
+                out[n] = one;
                 n += 1;
                 at += 5;
             } else {
@@ -463,7 +477,7 @@ pub fn judge(text: &[u8]) -> Reached
 {
     let mut at: usize = 0;
     let mut n: usize = 0;
-    while at + 73 <= text.len() {
+    while at + 37 <= text.len() {
         let k = direct_ahead(text, at);
         if k == 32 {
             at += 32;
@@ -475,7 +489,7 @@ pub fn judge(text: &[u8]) -> Reached
                 return Reached { at, n };
             }
             let from = at + 1;
-            if is_one(values(text, from), text[from + 3]) {
+            if one_at(text, from) < 65536 {
                 n += 1;
                 at += 5;
             } else {

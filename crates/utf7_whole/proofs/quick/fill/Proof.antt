@@ -70,7 +70,7 @@ same : (c : W) → length (c .before .before .widen .last .1 .1 .1 .0) ≡ lengt
 same c = c .before .before .widen .ensures .same ∙ top c .before .loop .inv .1
 
 -- many bytes follow, and there is room
-near : (c : W) → let l = top c .before in l .loop .at + c .before .before .before .before .direct-ahead .result + 41 ≤ length (l .before .before .before .args .text .now)
+near : (c : W) → let l = top c .before in l .loop .at + c .before .before .before .before .direct-ahead .result + 5 ≤ length (l .before .before .before .args .text .now)
 near c = omega (arith, c .before .before .before .before .direct-ahead .ensures .0, top c .loop-test .taken)
 
 room : (c : W) → top c .before .loop .n + c .before .before .before .before .direct-ahead .result < length (c .before .before .widen .last .1 .1 .1 .0)
@@ -101,66 +101,33 @@ returns-2 c = direct (c .before .before .before)
 add-from : tie.Need-add-from Inv-loop μ-loop
 add-from c = search needs
 
-values-requires : tie.Need-values-requires Inv-loop μ-loop
-values-requires c κs = omega (arith, near (c .before .before .before))
-
-add-is-one : tie.Need-add-is-one Inv-loop μ-loop
-add-is-one c = omega (arith, near (c .before .before .before .before))
-
-shared-slice-read-is-one : tie.Need-shared-slice-read-is-one Inv-loop μ-loop
-shared-slice-read-is-one c = omega (arith, near (c .before .before .before .before .before))
-
-is-one-requires : tie.Need-is-one-requires Inv-loop μ-loop
-is-one-requires c κs = search needs
-
-array-read-wide : tie.Need-array-read-wide Inv-loop μ-loop
-array-read-wide c = search needs
-
-wide-requires : tie.Need-wide-requires Inv-loop μ-loop
-wide-requires c κs = search needs
-
-array-read-wide-2 : tie.Need-array-read-wide-2 Inv-loop μ-loop
-array-read-wide-2 c = search needs
-
-wide-requires-2 : tie.Need-wide-requires-2 Inv-loop μ-loop
-wide-requires-2 c κs = search needs
-
-array-read-wide-3 : tie.Need-array-read-wide-3 Inv-loop μ-loop
-array-read-wide-3 c = search needs
-
-wide-requires-3 : tie.Need-wide-requires-3 Inv-loop μ-loop
-wide-requires-3 c κs = search needs
-
-first-requires : tie.Need-first-requires Inv-loop μ-loop
-first-requires c κs = let o = c .before .before .before .before .is-one .ensures (c .before .before .before .if4 .taken) in
-    (rw (c .before .before .wide .ensures) (o .first), rw (c .before .wide2 .ensures) (o .second), rw (c .wide3 .ensures) (o .third))
+one-at-requires : tie.Need-one-at-requires Inv-loop μ-loop
+one-at-requires c κs = omega (arith, near (c .before .before .before))
 
 -- the sign, from behind the values of what follows it
-abbrev here : tie.After-is-one Inv-loop μ-loop → W
-here c = c .before .before .before .before .before .before
+abbrev here : tie.After-one-at Inv-loop μ-loop → W
+here c = c .before .before .before .before
 
 mul-out : tie.Need-mul-out Inv-loop μ-loop
-mul-out c = omega (arith, room (here (c .before .before .before .before .before)))
+mul-out c = omega (arith, room (here (c .before)))
 
 slice-write-out : tie.Need-slice-write-out Inv-loop μ-loop
-slice-write-out c = room (here (c .before .before .before .before .before))
+slice-write-out c = room (here (c .before))
 
 add-n-3 : tie.Need-add-n-3 Inv-loop μ-loop
-add-n-3 c = omega (arith, room (here (c .before .before .before .before .before)))
+add-n-3 c = omega (arith, room (here (c .before)))
 
 add-at-3 : tie.Need-add-at-3 Inv-loop μ-loop
-add-at-3 c = omega (arith, near (here (c .before .before .before .before .before)))
+add-at-3 c = omega (arith, near (here (c .before)))
 
 loop-less-2 : tie.Need-loop-less-2 Inv-loop μ-loop
-loop-less-2 c = omega (arith, near (here (c .before .before .before .before .before)))
+loop-less-2 c = omega (arith, near (here (c .before)))
 
 loop-again-2 : tie.Need-loop-again-2 Inv-loop μ-loop
 loop-again-2 c =
-    let o = c .before .before .before .before .before in
+    let o = c .before in
     let w = here o in (
-      λ s p.
-          rw (c .first .ensures, c .before .before .before .wide .ensures, c .before .before .wide2 .ensures, c .before .wide3 .ensures)
-          (filled-one (direct w s p) p (o .before .before .before .if3 .left) (room w) (omega (arith, near w)) (o .before .before .values .ensures) (o .is-one .ensures (c .before .before .before .before .if4 .taken))),
+      λ s p. filled-one (direct w s p) p (o .before .if3 .left) (room w) (o .one-at .ensures (c .if4 .taken)),
       simp length-set (same w),
       simp length-set (omega (arith, room w)),
     )
@@ -186,7 +153,7 @@ loop-less-3 c = omega (arith, near (here (c .before .before .before)))
 loop-again-3 : tie.Need-loop-again-3 Inv-loop μ-loop
 loop-again-3 c = let o = c .before .before .before in
     let w = here o in
-    (λ s p. filled-sign (direct w s p) p (o .before .before .before .if3 .left) (room w) (c .if5 .taken), simp length-set (same w), simp length-set (omega (arith, room w)))
+    (λ s p. filled-sign (direct w s p) p (o .before .if3 .left) (room w) (c .if5 .taken), simp length-set (same w), simp length-set (omega (arith, room w)))
 
 put-run-requires : tie.Need-put-run-requires Inv-loop μ-loop
 put-run-requires c κs = let w = here (c .before .before .before .before) in (omega (arith, near w), omega (arith, room w))
@@ -214,7 +181,7 @@ loop-again-4 c = let r = c .before .before .before .before in
     let w = here o in
     let z = c .before .if6 .left in
     let e = r .put-run .ensures in (
-      λ s p. rw (c .past-run .ensures) (filled-run (direct w s p) p (o .before .before .before .if3 .left) (e .run z) (e .laid z) (e .count z)),
+      λ s p. rw (c .past-run .ensures) (filled-run (direct w s p) p (o .before .if3 .left) (e .run z) (e .laid z) (e .count z)),
       e .kept .same ∙ same w,
       omega (arith, e .count z, laid-room (e .laid z) (omega (arith, room w))),
     )
@@ -248,17 +215,7 @@ fill-spec =
     same-length-2
     returns-2
     add-from
-    values-requires
-    add-is-one
-    shared-slice-read-is-one
-    is-one-requires
-    array-read-wide
-    wide-requires
-    array-read-wide-2
-    wide-requires-2
-    array-read-wide-3
-    wide-requires-3
-    first-requires
+    one-at-requires
     mul-out
     slice-write-out
     add-n-3

@@ -33,7 +33,7 @@ D = tie.After-direct-ahead Inv-loop μ-loop
 direct : (c : D) → let l = c .before .before in Left utf7 (l .before .before .args .text .now) (l .loop .at + c .direct-ahead .result) outside (l .loop .n + c .direct-ahead .result)
 direct c = left-direct (c .before .before .loop .inv) _ (c .direct-ahead .ensures .1)
 
-near : (c : D) → let l = c .before .before in l .loop .at + c .direct-ahead .result + 41 ≤ length (l .before .before .args .text .now)
+near : (c : D) → let l = c .before .before in l .loop .at + c .direct-ahead .result + 5 ≤ length (l .before .before .args .text .now)
 near c = omega (arith, c .direct-ahead .ensures .0, c .before .loop-test .taken)
 
 add-at : tie.Need-add-at Inv-loop μ-loop
@@ -63,21 +63,12 @@ returns c = direct (c .before .before .before)
 add-from : tie.Need-add-from Inv-loop μ-loop
 add-from c = omega (arith, near (c .before .before .before))
 
-values-requires : tie.Need-values-requires Inv-loop μ-loop
-values-requires c κs = omega (arith, near (c .before .before .before))
-
-add-is-one : tie.Need-add-is-one Inv-loop μ-loop
-add-is-one c = omega (arith, near (c .before .before .before .before))
-
-shared-slice-read-is-one : tie.Need-shared-slice-read-is-one Inv-loop μ-loop
-shared-slice-read-is-one c = omega (arith, near (c .before .before .before .before .before))
-
-is-one-requires : tie.Need-is-one-requires Inv-loop μ-loop
-is-one-requires c κs = search needs
+one-at-requires : tie.Need-one-at-requires Inv-loop μ-loop
+one-at-requires c κs = omega (arith, near (c .before .before .before))
 
 -- the sign, from behind the values of what follows it
-abbrev here : tie.After-is-one Inv-loop μ-loop → D
-here c = c .before .before .before .before .before .before
+abbrev here : tie.After-one-at Inv-loop μ-loop → D
+here c = c .before .before .before .before
 
 add-n-3 : tie.Need-add-n-3 Inv-loop μ-loop
 add-n-3 c = let d = here (c .before) in omega (arith, near d, direct d .few)
@@ -92,7 +83,7 @@ loop-again-2 : tie.Need-loop-again-2 Inv-loop μ-loop
 loop-again-2 c =
     let o = c .before in
     let d = here o in
-    left-one (direct d) (o .before .before .before .if2 .left) (omega (arith, near d)) (o .before .before .values .ensures) (o .is-one .ensures (c .if3 .taken))
+    left-one (direct d) (o .before .if2 .left) (o .one-at .ensures (c .if3 .taken))
 
 shared-slice-read-if4 : tie.Need-shared-slice-read-if4 Inv-loop μ-loop
 shared-slice-read-if4 c = omega (arith, near (here (c .before .before)))
@@ -107,7 +98,7 @@ loop-less-3 : tie.Need-loop-less-3 Inv-loop μ-loop
 loop-less-3 c = omega (arith, near (here (c .before .before .before)))
 
 loop-again-3 : tie.Need-loop-again-3 Inv-loop μ-loop
-loop-again-3 c = let o = c .before .before .before in left-sign (direct (here o)) (o .before .before .before .if2 .left) (c .if4 .taken)
+loop-again-3 c = let o = c .before .before .before in left-sign (direct (here o)) (o .before .if2 .left) (c .if4 .taken)
 
 judge-run-requires : tie.Need-judge-run-requires Inv-loop μ-loop
 judge-run-requires c κs = omega (arith, near (here (c .before .before .before)))
@@ -116,7 +107,7 @@ returns-2 : tie.Need-returns-2 Inv-loop μ-loop
 returns-2 c = direct (here (c .before .before .before .before .before))
 
 -- from behind a run
-abbrev opened : tie.Else5 Inv-loop μ-loop → tie.After-is-one Inv-loop μ-loop
+abbrev opened : tie.Else5 Inv-loop μ-loop → tie.After-one-at Inv-loop μ-loop
 opened c = c .before .before .before .before .before
 
 run :
@@ -126,7 +117,7 @@ run :
     let at = l .loop .at + d .direct-ahead .result in
     let end = c .before .judge-run .result in
     Left utf7 (l .before .before .args .text .now) (past (l .before .before .args .text .now) end) outside (l .loop .n + d .direct-ahead .result + (end - (at + 1)) * 6 / 16)
-run c = left-run (direct (here (opened c))) (opened c .before .before .before .if2 .left) (c .before .judge-run .ensures (c .if5 .left))
+run c = left-run (direct (here (opened c))) (opened c .before .if2 .left) (c .before .judge-run .ensures (c .if5 .left))
 
 sub-units : tie.Need-sub-units Inv-loop μ-loop
 sub-units c = omega (arith, c .before .judge-run .ensures (c .if5 .left) .some)
@@ -169,10 +160,7 @@ judge-spec =
     shared-slice-read-if2
     returns
     add-from
-    values-requires
-    add-is-one
-    shared-slice-read-is-one
-    is-one-requires
+    one-at-requires
     add-n-3
     add-at-3
     loop-less-2
