@@ -126,7 +126,7 @@ fn through(text: &[u8], cells: &mut [u32], out: &mut [u32]) -> Answer
     }
 }
 
-// Reads a text into an output. The buffers are on the stack, 32 KiB at most, whatever the limit; a short text clears a
+// Reads a text into an output. The buffers are on the stack, 48 KiB at most, whatever the limit; a short text clears a
 // small one only.
 pub fn read(text: &[u8], out: &mut [u32]) -> Answer
     ensures { λ r. ⌜ leaves r (now (out .exit)) ≡ readInto jp2 (now (text .entry)) (now (out .entry)) ⌝ }
@@ -146,7 +146,7 @@ pub fn read(text: &[u8], out: &mut [u32]) -> Answer
         let mut cells = [0u32; 4096];
         return through(text, &mut cells, out);
     }
-    let mut cells = [0u32; 8192];
+    let mut cells = [0u32; 12288];
     through(text, &mut cells, out)
 }
 
