@@ -9,10 +9,12 @@ use lib.Dec.{eqb, leb, ltb}
 use Rattle.jp2.specs.Table.{rowAt, sent, begins}
 use Rattle.answer.specs.Inner.{Laid}
 use Rattle.reading.specs.Reading.{readFrom}
+use Rattle.reading.specs.Inner.{Left}
 use Rattle.reading.specs.Matching.{gave, readsAs}
 use Rattle.jp2.specs.Rule.{State, state, plain, graphic, jp2}
 use Rattle.jp2.specs.Writable.{ascii}
 use Rattle.jp2.specs.declared.Designation.{Designation}
+use Rattle.jp2_whole.specs.declared.quick.Reached.{Reached}
 
 -- a row as one number: its set's number, where it goes, and its length
 abbrev pub codeOf : Designation → ℕ
@@ -91,6 +93,14 @@ pub record Laying (text : List ℕ) (at g0 g2 n : ℕ) (out : List ℕ) (to g0' 
   pub kept : drop n' out' ≡ drop n' out
   pub count : n' ≡ n + length cells
   pub fits : n' ≤ length out'
+
+-- where a reader stands after n cells: what is left of the reading is that of what is left of the text
+abbrev pub Stands : List ℕ → Reached → Type 0
+Stands text r = Left jp2 text (r .at) (state (r .g0) (r .g2) plain) (r .n)
+
+-- the cells that lie between are put
+abbrev pub Puts : List ℕ → Reached → List ℕ → Reached → List ℕ → Type 0
+Puts text from out r out' = Laying text (from .at) (from .g0) (from .g2) (from .n) out (r .at) (r .g0) (r .g2) (r .n) out'
 
 -- the first elements of a buffer stand in a list from a place on
 abbrev pub Same : List ℕ → List ℕ → ℕ → ℕ → Type 0

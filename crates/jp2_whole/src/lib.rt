@@ -12,10 +12,11 @@ ghost use lib.ListN.{length, take};
 ghost use Rattle.answer.specs.Answer.{inNumbers, limit};
 ghost use Rattle.answer.specs.Output.{leaves, filled};
 ghost use Rattle.reading.specs.Reading.{verdictOf, reading, readInto};
-ghost use Rattle.reading.specs.Inner.{Left, Filling};
+ghost use Rattle.reading.specs.Inner.{Filling};
 ghost use Rattle.reading.specs.Matching.{readsAs};
 ghost use Rattle.jp2.specs.Rule.{state, plain, jp2};
 ghost use Rattle.jp2_read.specs.Cursor.{stateOf};
+ghost use Rattle.jp2_whole.specs.Quick.{Stands};
 
 // The state where a loop over tokens stopped.
 fn standing(r: quick::Reached) -> State
@@ -71,7 +72,7 @@ fn copy(cells: &[u32], n: usize, out: &mut [u32])
 
 // The answer of a text that has room enough, on from a place, with nothing written.
 fn measure(text: &[u8], from: quick::Reached) -> Answer
-    requires { ⌜ Left jp2 (now text) (from .at) (state (from .g0) (from .g2) plain) (from .n) ⌝ }
+    requires { ⌜ Stands (now text) from ⌝ }
     ensures { λ r. ⌜ inNumbers r ≡ verdictOf (reading jp2 (now (text .entry))) ⌝ }
 {
     let reached = quick::judge(text, from);

@@ -8,11 +8,10 @@ ghost use Prim.Native.Nat.{_<_, _≤_, _+_, _-_, _*_, _/_, _%_};
 ghost use lib.ListN.{length, getD, take, drop};
 ghost use lib.Dec.{eqb, leb, ltb};
 ghost use Rattle.answer.specs.Inner.{Laid};
-ghost use Rattle.reading.specs.Inner.{Left};
 ghost use Rattle.jp2.specs.Rule.{graphic, plain, state, cellOf, jp2};
 ghost use Rattle.jp2.specs.Writable.{ascii};
 ghost use Rattle.jp2_whole.specs.Quick.{codeOf, Sends, Found, RowAt, Shift, Pair, Spanned, Plains, Stretch, Pairs};
-ghost use Rattle.jp2_whole.specs.Quick.{Goes, Room, Laying, Same, Matches};
+ghost use Rattle.jp2_whole.specs.Quick.{Goes, Room, Stands, Puts, Same, Matches};
 
 // Where a loop stopped: between cells, after n of them.
 pub struct Reached {
@@ -354,7 +353,7 @@ fn after_row(text: &[u8], from: Reached) -> Reached
 fn put_single(text: &[u8], from: Reached, to: usize, out: &mut [u32]) -> Reached
     requires { ⌜ Room (now text) (from .at) (from .n) to (now out) ⌝ }
     requires { ⌜ ((eqb (from .g0) 6 || eqb (from .g0) 14) ≡ true) × (ascii (getD (now text) (from .at) 0) ≡ true) ⌝ }
-    ensures { λ r. ⌜ Laying (now (text .entry)) (from .at) (from .g0) (from .g2) (from .n) (now (out .entry)) (r .at) (r .g0) (r .g2) (r .n) (now (out .exit)) ⌝ }
+    ensures { λ r. ⌜ Puts (now (text .entry)) from (now (out .entry)) r (now (out .exit)) ⌝ }
     ensures { λ r. ⌜ r .n + (to - r .at) ≤ length (now (out .exit)) ⌝ }
 {
     let at = from.at;
@@ -375,7 +374,7 @@ fn put_single(text: &[u8], from: Reached, to: usize, out: &mut [u32]) -> Reached
 // Puts the cells of a token; where there is none the reader stays.
 fn put_token(text: &[u8], from: Reached, to: usize, out: &mut [u32]) -> Reached
     requires { ⌜ Room (now text) (from .at) (from .n) to (now out) ⌝ }
-    ensures { λ r. ⌜ Laying (now (text .entry)) (from .at) (from .g0) (from .g2) (from .n) (now (out .entry)) (r .at) (r .g0) (r .g2) (r .n) (now (out .exit)) ⌝ }
+    ensures { λ r. ⌜ Puts (now (text .entry)) from (now (out .entry)) r (now (out .exit)) ⌝ }
     ensures { λ r. ⌜ r .n + (to - r .at) ≤ length (now (out .exit)) ⌝ }
 {
     let at = from.at;
@@ -417,7 +416,7 @@ fn put_token(text: &[u8], from: Reached, to: usize, out: &mut [u32]) -> Reached
 // stretch is looked for only after some bytes.
 fn fill(text: &[u8], from: Reached, out: &mut [u32]) -> Reached
     requires { ⌜ (from .at ≤ length (now text)) × (from .n ≤ length (now out)) ⌝ }
-    ensures { λ r. ⌜ Laying (now (text .entry)) (from .at) (from .g0) (from .g2) (from .n) (now (out .entry)) (r .at) (r .g0) (r .g2) (r .n) (now (out .exit)) ⌝ }
+    ensures { λ r. ⌜ Puts (now (text .entry)) from (now (out .entry)) r (now (out .exit)) ⌝ }
 {
     let mut at = from.at;
     let mut n = from.n;
@@ -449,7 +448,7 @@ fn fill(text: &[u8], from: Reached, out: &mut [u32]) -> Reached
 // The same, as long as it has room.
 pub fn fill_on(text: &[u8], from: Reached, out: &mut [u32]) -> Reached
     requires { ⌜ (from .at ≤ length (now text)) × (from .n ≤ length (now out)) ⌝ }
-    ensures { λ r. ⌜ Laying (now (text .entry)) (from .at) (from .g0) (from .g2) (from .n) (now (out .entry)) (r .at) (r .g0) (r .g2) (r .n) (now (out .exit)) ⌝ }
+    ensures { λ r. ⌜ Puts (now (text .entry)) from (now (out .entry)) r (now (out .exit)) ⌝ }
 {
     let mut at = from.at;
     let mut n = from.n;
@@ -470,9 +469,9 @@ pub fn fill_on(text: &[u8], from: Reached, out: &mut [u32]) -> Reached
 
 // Counts the cell of a byte of a set of single bytes, and those of a stretch behind it.
 fn judge_single(text: &[u8], from: Reached) -> Reached
-    requires { ⌜ Left jp2 (now text) (from .at) (state (from .g0) (from .g2) plain) (from .n) × (from .at < length (now text)) ⌝ }
+    requires { ⌜ Stands (now text) from × (from .at < length (now text)) ⌝ }
     requires { ⌜ ((eqb (from .g0) 6 || eqb (from .g0) 14) ≡ true) × (ascii (getD (now text) (from .at) 0) ≡ true) ⌝ }
-    ensures { λ r. ⌜ Left jp2 (now (text .entry)) (r .at) (state (r .g0) (r .g2) plain) (r .n) ⌝ }
+    ensures { λ r. ⌜ Stands (now (text .entry)) r ⌝ }
 {
     let at = from.at;
     let g0 = from.g0;
@@ -488,8 +487,8 @@ fn judge_single(text: &[u8], from: Reached) -> Reached
 
 // Counts the cells of a token; where there is none the reader stays.
 fn judge_token(text: &[u8], from: Reached) -> Reached
-    requires { ⌜ Left jp2 (now text) (from .at) (state (from .g0) (from .g2) plain) (from .n) × (from .at < length (now text)) ⌝ }
-    ensures { λ r. ⌜ Left jp2 (now (text .entry)) (r .at) (state (r .g0) (r .g2) plain) (r .n) ⌝ }
+    requires { ⌜ Stands (now text) from × (from .at < length (now text)) ⌝ }
+    ensures { λ r. ⌜ Stands (now (text .entry)) r ⌝ }
 {
     let at = from.at;
     let n = from.n;
@@ -527,8 +526,8 @@ fn judge_token(text: &[u8], from: Reached) -> Reached
 
 // Counts the cells of a text from a place on.
 pub fn judge(text: &[u8], from: Reached) -> Reached
-    requires { ⌜ Left jp2 (now text) (from .at) (state (from .g0) (from .g2) plain) (from .n) ⌝ }
-    ensures { λ r. ⌜ Left jp2 (now (text .entry)) (r .at) (state (r .g0) (r .g2) plain) (r .n) ⌝ }
+    requires { ⌜ Stands (now text) from ⌝ }
+    ensures { λ r. ⌜ Stands (now (text .entry)) r ⌝ }
 {
     let mut at = from.at;
     let mut n = from.n;
