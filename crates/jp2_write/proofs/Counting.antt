@@ -18,7 +18,7 @@ use Rattle.jp2.specs.Writing.{Force, force, designating, spell, forceAfter, wri
 use Rattle.jp2.proofs.Sets.{differs, codes-shift}
 use Rattle.jp2.proofs.Search.{Passed, passed-on}
 use Rattle.jp2.proofs.Table.{rows, row-size, row-most}
-use Rattle.jp2_write.specs.Pieces.{designationOf, bodySize, baseOf, shiftedOf, lowByte, afterCr, g2After, Plain, Stretch, Ready, Run}
+use Rattle.jp2_write.specs.Pieces.{designationOf, bodySize, baseOf, shiftedOf, oneOf, lowByte, afterCr, g2After, Plain, Stretch, Ready, Run}
 use Rattle.jp2_write.proofs.Cells.{base-length, code-is, codeAt, setAt, todo}
 use Rattle.jp2_write.proofs.Turns.{Turn, turn-base, turn-shift, turnsLeft, cell-less}
 
@@ -163,8 +163,25 @@ ready-base : {v g0 g2 k : ℕ} → Ready v g0 g2 k → shiftSet g0 ≡ false
 unfolding shiftSet
 ready-base r = rw (r .ascii)
 
+base-six : (n c : ℕ) → n ≡ 6 → baseOf n c ≡ c ∷ []
+unfolding baseOf pairSet
+base-six n c e = rw e
+
+pub ready-turn : {cells : List ℕ} {i g0 g2 k : ℕ} → i < length cells → Ready (getD cells i 0) g0 g2 k → Turn cells i g0 g2 (oneOf (codeAt cells i) k) (i + 1) g0 g2
+unfolding oneOf
+ready-turn {cells} {i} {g0} {g2} {k} h r =
+    ⊎-elim
+    (λ (q : (setAt cells i ≡ 6) × (k ≡ 1)).
+    let t : Turn cells i g0 g2 (baseOf (setAt cells i) (codeAt cells i)) (i + 1) g0 (g2After cells i g2) = turn-base g0 g2 h (q .0 ∙ sym (r .ascii)) (ready-base r) in
+    rw (q .1) (rw (g2-kept cells i g2 (r .least), base-six (setAt cells i) (codeAt cells i) (q .0)) at t))
+    (λ (q : (setAt cells i ≡ g2) × (k ≡ 3)). rw (q .1) (turn-shift g0 g2 h (q .0) (rw (q .0) (r .shift)) (ready-base r)))
+    (r .stands)
+
 pub ready-most : {v g0 g2 k : ℕ} → Ready v g0 g2 k → k ≤ 3
 ready-most {v} {g2 = g2} {k} r = ⊎-elim (λ (q : (setOf v ≡ 6) × (k ≡ 1)). omega (arith, q .1)) (λ (q : (setOf v ≡ g2) × (k ≡ 3)). omega (arith, q .1)) (r .stands)
+
+pub ready-some : {v g0 g2 k : ℕ} → Ready v g0 g2 k → 0 < k
+ready-some {v} {g2 = g2} {k} r = ⊎-elim (λ (q : (setOf v ≡ 6) × (k ≡ 1)). omega (arith, q .1)) (λ (q : (setOf v ≡ g2) × (k ≡ 3)). omega (arith, q .1)) (r .stands)
 
 pub run-on : {cells : List ℕ} {g0 g2 from i n k : ℕ} → Run cells g0 g2 from i n → i < length cells → Ready (getD cells i 0) g0 g2 k → Run cells g0 g2 from (i + 1) (n + k)
 run-on {cells} {g0} {g2} {from} {i} {n} {k} p h r =

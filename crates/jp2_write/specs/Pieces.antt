@@ -23,6 +23,10 @@ baseOf n c = cond (pairSet n) (c / 256 ∷ c % 256 ∷ []) (c ∷ [])
 abbrev pub shiftedOf : ℕ → List ℕ
 shiftedOf c = 27 ∷ 78 ∷ c ∷ []
 
+-- of a cell that is ready, by how many they are
+unfoldable pub oneOf : ℕ → ℕ → List ℕ
+oneOf c size = cond (eqb size 3) (shiftedOf c) (c ∷ [])
+
 -- how many these are where the set is in force; 0 where it is not
 unfoldable pub bodySize : ℕ → ℕ → ℕ → ℕ
 bodySize n g0 g2 = cond (shiftSet n) (cond (eqb n g2) 3 0) (cond (eqb n g0) (cond (pairSet n) 2 1) 0)

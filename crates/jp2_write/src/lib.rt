@@ -5,14 +5,15 @@ ghost use mathlib.Core.Path.{_≡_};
 ghost use mathlib.Core.Bool.{true, false, cond};
 ghost use mathlib.Core.List.{map};
 ghost use Prim.Native.Nat.{_<_, _≤_};
-ghost use lib.ListN.{length};
+ghost use lib.ListN.{length, getD};
 ghost use Rattle.answer.specs.Answer.{limit};
+ghost use Rattle.answer.specs.Inner.{Put};
 ghost use Rattle.answer.specs.Lists.{Each};
 ghost use Rattle.answer.specs.Output.{leaves, filled};
 ghost use Rattle.jp2.specs.Table.{rowOfNumber};
 ghost use Rattle.jp2.specs.Writable.{shiftSet, codes, writable};
 ghost use Rattle.jp2.specs.Writing.{designating, writing, writeInto};
-ghost use Rattle.jp2_write.specs.Pieces.{designationOf, bodySize, baseOf, shiftedOf, lowByte, g2After, Stretch, Ready, Run, Surveyed, Puts};
+ghost use Rattle.jp2_write.specs.Pieces.{designationOf, bodySize, baseOf, shiftedOf, oneOf, lowByte, g2After, todo, Stretch, Ready, Run, Surveyed, Puts};
 
 const LF: u32 = 6 * 65536 + 10;
 
@@ -138,6 +139,16 @@ fn ready(v: u32, g0: u16, g2: u16) -> usize
     pick(127 < c, 0, above)
 }
 
+// The bytes of the cell at an index, if it is ready; 0 for any other, and past the end.
+fn ready_at(cells: &[u32], i: usize, g0: u16, g2: u16) -> usize
+    ensures { λ r. ⌜ (0 < r → (i < length (now (cells .entry))) × Ready (getD (now (cells .entry)) i 0) g0 g2 r) ⌝ }
+{
+    if i < cells.len() {
+        return ready(cells[i], g0, g2);
+    }
+    0
+}
+
 // The bytes of the cells from an index on that are ready.
 fn survey_ready(cells: &[u32], from: usize, g0: u16, g2: u16) -> Reached
     requires { ⌜ (from ≤ length (now cells)) × (length (now cells) ≤ limit) ⌝ }
@@ -251,14 +262,43 @@ fn put_base(out: &mut [u8], n: u16, c: u32) -> usize
 }
 
 // A cell of G2 whose set is in force: ESC N and its code.
-fn put_shifted(out: &mut [u8], n: u16, c: u32) -> usize
-    requires { ⌜ (codes n c ≡ true) × (shiftSet n ≡ true) × (3 ≤ length (now out)) ⌝ }
+fn put_shifted(out: &mut [u8], c: u32) -> usize
+    requires { ⌜ (c < 256) × (3 ≤ length (now out)) ⌝ }
     ensures { λ r. ⌜ Puts (shiftedOf c) (now (out .entry)) (now (out .exit)) r ⌝ }
 {
     out[0] = 27;
     out[1] = 78;
     out[2] = c as u8;
     3
+}
+
+// A cell that is ready, by its bytes.
+fn put_one(out: &mut [u8], c: u32, size: usize) -> usize
+    requires { ⌜ (c < 256) × (length (oneOf c size) ≤ length (now out)) ⌝ }
+    ensures { λ r. ⌜ Puts (oneOf c size) (now (out .entry)) (now (out .exit)) r ⌝ }
+{
+    if size == 3 {
+        return put_shifted(&mut *out, c);
+    }
+    out[0] = c as u8;
+    1
+}
+
+// Cells that are ready go to the front of the output, from one of so many bytes on.
+fn put_ready(out: &mut [u8], cells: &[u32], from: usize, g0: u16, g2: u16, first: usize) -> Reached
+    requires { ⌜ (from < length (now cells)) × Ready (getD (now cells) from 0) g0 g2 first × (length (todo (now cells) from g0 g2) ≤ length (now out)) ⌝ }
+    ensures { λ r. ⌜ (from < r .i) × (r .i ≤ length (now (cells .entry)))
+        × Put (todo (now (cells .entry)) from g0 g2) (now (out .entry)) (now (out .exit)) (r .count) (todo (now (cells .entry)) (r .i) g0 g2) ⌝ }
+{
+    let mut i = from;
+    let mut at: usize = 0;
+    let mut size = first;
+    while 0 < size {
+        at += put_one(&mut out[at..], cells[i] % 65536, size);
+        i += 1;
+        size = ready_at(cells, i, g0, g2);
+    }
+    Reached { i, count: at }
 }
 
 // The writing of cells goes to the front of the output.
@@ -277,6 +317,13 @@ fn write_all(cells: &[u32], out: &mut [u8])
             i = j;
         } else {
             let v = cells[i];
+            let size = ready(v, g0, g2);
+            if 0 < size {
+                let run = put_ready(&mut out[at..], cells, i, g0, g2, size);
+                at += run.count;
+                i = run.i;
+                continue;
+            }
             let n = (v / 65536) as u16;
             if n == g0 {
                 at += put_base(&mut out[at..], n, v % 65536);
@@ -284,7 +331,7 @@ fn write_all(cells: &[u32], out: &mut [u8])
                 i += 1;
             } else {
                 if n == g2 {
-                    at += put_shifted(&mut out[at..], n, v % 65536);
+                    at += put_shifted(&mut out[at..], v % 65536);
                     i += 1;
                 } else {
                     at += designate(&mut out[at..], n);

@@ -13,10 +13,10 @@ use Rattle.jp2.specs.Writable.{shiftSet, codes, writable}
 use Rattle.jp2.specs.Writing.{writing}
 use Rattle.jp2.proofs.Sets.{Writable}
 use Rattle.jp2.proofs.Rows.{row-found}
-use Rattle.jp2_write.specs.Pieces.{designationOf, baseOf, shiftedOf, lowByte, g2After}
-use Rattle.jp2_write.proofs.Cells.{some-set, ascii-row, setAt, codeAt}
+use Rattle.jp2_write.specs.Pieces.{designationOf, baseOf, shiftedOf, lowByte, g2After, todo}
+use Rattle.jp2_write.proofs.Cells.{small-shift, some-set, ascii-row, setAt, codeAt}
 use Rattle.jp2_write.proofs.Turns.{Turn, turnsLeft, turn-stretch, turn-base, turn-shift, turn-g2, turn-g0, last-none, last-some}
-use Rattle.jp2_write.proofs.Putting.{held-after, Written, written-in, written-room, written-on}
+use Rattle.jp2_write.proofs.Putting.{held-after, Written, written-in, written-room, written-on, run-turn, run-puts}
 use Rattle.jp2_write.proofs.write_all.Statement.{statement}
 use Rattle.jp2_write.proofs.write_all.Tie as tie
 
@@ -26,23 +26,29 @@ Inv-loop cells out₀ g0₀ g2₀ at₀ i₀ out g0 g2 at i = Written cells out�
 abbrev μ-loop : tie.MeasureT-loop
 μ-loop cells out₀ g0₀ g2₀ at₀ i₀ out g0 g2 at i = turnsLeft cells i g0 g2
 
--- the cell in hand
-abbrev at-loop : tie.After-shared-slice-known2 Inv-loop μ-loop → tie.At-loop Inv-loop μ-loop
-at-loop k = k .before .before .before .before
+-- the cell in hand, and where it is not ready
+abbrev of-cell : tie.After-shared-slice-known2 Inv-loop μ-loop → tie.At-loop Inv-loop μ-loop
+of-cell k = k .before .before .before .before
+
+abbrev at-loop : tie.Else2 Inv-loop μ-loop → tie.At-loop Inv-loop μ-loop
+at-loop e = of-cell (e .before .before)
 
 abbrev cellsOf : tie.At-loop Inv-loop μ-loop → List ℕ
 cellsOf l = l .before .before .before .args .cells .now
 
-in-list : (k : tie.After-shared-slice-known2 Inv-loop μ-loop) → at-loop k .loop .i < length (cellsOf (at-loop k))
-in-list k = k .before .before .before .loop-test .taken
+in-cells : (k : tie.After-shared-slice-known2 Inv-loop μ-loop) → of-cell k .loop .i < length (cellsOf (of-cell k))
+in-cells k = k .before .before .before .loop-test .taken
+
+in-list : (e : tie.Else2 Inv-loop μ-loop) → at-loop e .loop .i < length (cellsOf (at-loop e))
+in-list e = in-cells (e .before .before)
 
 coded :
-    (k : tie.After-shared-slice-known2 Inv-loop μ-loop) → let l = at-loop k in
+    (k : tie.Else2 Inv-loop μ-loop) → let l = at-loop k in
     codes (setAt (cellsOf l) (l .loop .i)) (codeAt (cellsOf l) (l .loop .i)) ≡ true
 unfolding writable
 coded k = let l = at-loop k in each-at Writable (cellsOf l) (l .loop .i) (l .before .before .before .pre .0) (in-list k)
 
-known : (k : tie.After-shared-slice-known2 Inv-loop μ-loop) → rowOfNumber (setAt (cellsOf (at-loop k)) (at-loop k .loop .i)) < 9
+known : (k : tie.Else2 Inv-loop μ-loop) → rowOfNumber (setAt (cellsOf (at-loop k)) (at-loop k .loop .i)) < 9
 known k = row-found _ _ (coded k)
 
 -- the five turns
@@ -53,20 +59,20 @@ stretched :
 stretched c = turn-stretch _ (c .before .stretch-end .ensures) (c .if1 .taken) (c .before .before .before .loop .inv .base)
 
 based :
-    (c : tie.Then2 Inv-loop μ-loop) → let l = at-loop (c .before) in
+    (c : tie.Then3 Inv-loop μ-loop) → let l = at-loop (c .before) in
     let cells = cellsOf l in
     Turn cells (l .loop .i) (l .loop .g0) (l .loop .g2) (baseOf (setAt cells (l .loop .i)) (codeAt cells (l .loop .i))) (l .loop .i + 1) (l .loop .g0) (g2After cells (l .loop .i) (l .loop .g2))
-based c = turn-base _ _ (in-list (c .before)) (c .if2 .taken) (at-loop (c .before) .loop .inv .base)
+based c = turn-base _ _ (in-list (c .before)) (c .if3 .taken) (at-loop (c .before) .loop .inv .base)
 
 -- the set in G2 is one of G2
-is-shift : (c : tie.Then3 Inv-loop μ-loop) → let l = at-loop (c .before .before) in shiftSet (setAt (cellsOf l) (l .loop .i)) ≡ true
+is-shift : (c : tie.Then4 Inv-loop μ-loop) → let l = at-loop (c .before .before) in shiftSet (setAt (cellsOf l) (l .loop .i)) ≡ true
 is-shift c =
     let k = c .before .before in
     let some = some-set _ _ (coded k) in
-    rw (c .if3 .taken) (at-loop k .loop .inv .held (rw (c .if3 .taken) at some))
+    rw (c .if4 .taken) (at-loop k .loop .inv .held (rw (c .if4 .taken) at some))
 
 shifted :
-    (c : tie.Then3 Inv-loop μ-loop) → let l = at-loop (c .before .before) in
+    (c : tie.Then4 Inv-loop μ-loop) → let l = at-loop (c .before .before) in
     Turn
     (cellsOf l)
     (l .loop .i)
@@ -78,10 +84,10 @@ shifted :
     (l .loop .g2)
 shifted c =
     let k = c .before .before in
-    turn-shift _ _ (in-list k) (c .if3 .taken) (is-shift c) (at-loop k .loop .inv .base)
+    turn-shift _ _ (in-list k) (c .if4 .taken) (is-shift c) (at-loop k .loop .inv .base)
 
 -- a set that is not in force, for G2 or for G0
-module _ (e : tie.Else3 Inv-loop μ-loop) where
+module _ (e : tie.Else4 Inv-loop μ-loop) where
   abbrev was : tie.At-loop Inv-loop μ-loop
   was = at-loop (e .before .before)
 
@@ -92,10 +98,10 @@ module _ (e : tie.Else3 Inv-loop μ-loop) where
   To g0 g2 = Turn (cellsOf was) (was .loop .i) (was .loop .g0) (was .loop .g2) (designationOf set) (was .loop .i) g0 g2
 
   to-g2 : shiftSet set ≡ true → To (was .loop .g0) set
-  to-g2 s = turn-g2 _ _ (in-list (e .before .before)) (e .if3 .left) s (was .loop .inv .base)
+  to-g2 s = turn-g2 _ _ (in-list (e .before .before)) (e .if4 .left) s (was .loop .inv .base)
 
   to-g0 : shiftSet set ≡ false → To set (was .loop .g2)
-  to-g0 s = turn-g0 _ _ (in-list (e .before .before)) (e .before .if2 .left) s
+  to-g0 s = turn-g0 _ _ (in-list (e .before .before)) (e .before .if3 .left) s
 
   either-room :
       (t : Bool) → shiftSet set ≡ t →
@@ -136,7 +142,7 @@ shift-put c =
     written-on v (shifted t) (v .held) (c .put-shifted .ensures)
 
 module _ (c : tie.After-designate Inv-loop μ-loop) where
-  abbrev waited : tie.Else3 Inv-loop μ-loop
+  abbrev waited : tie.Else4 Inv-loop μ-loop
   waited = c .before .before
 
   g2-put :
@@ -203,8 +209,64 @@ mul-v c = search needs
 shared-slice-read-v : tie.Need-shared-slice-read-v Inv-loop μ-loop
 shared-slice-read-v c = search needs
 
+ready-requires : tie.Need-ready-requires Inv-loop μ-loop
+ready-requires c κs = search needs
+
+sub-put-ready : tie.Need-sub-put-ready Inv-loop μ-loop
+sub-put-ready c = search needs
+
+part-put-ready-start : tie.Need-part-put-ready-start Inv-loop μ-loop
+part-put-ready-start c = search needs
+
+part-put-ready-end : tie.Need-part-put-ready-end Inv-loop μ-loop
+part-put-ready-end c = search needs
+
+put-ready-requires : tie.Need-put-ready-requires Inv-loop μ-loop
+put-ready-requires c κs =
+    let t = c .before in
+    let k = t .before .before in
+    let l = of-cell k in
+    let left = todo (cellsOf l) (l .loop .i) (l .loop .g0) (l .loop .g2) in
+    (in-cells k, t .before .ready .ensures (t .if2 .taken), put-lent-room left [] (put-as (sym (append-nil left)) (l .loop .inv .put)))
+
+-- a run of ready cells
+ran :
+    (c : tie.After-put-ready Inv-loop μ-loop) → let l = of-cell (c .before .before .before .before) in
+    Turn
+    (cellsOf l)
+    (l .loop .i)
+    (l .loop .g0)
+    (l .loop .g2)
+    (take (c .put-ready .result .count) (todo (cellsOf l) (l .loop .i) (l .loop .g0) (l .loop .g2)))
+    (c .put-ready .result .i)
+    (l .loop .g0)
+    (l .loop .g2)
+ran c =
+    let l = of-cell (c .before .before .before .before) in
+    let r = c .put-ready .ensures in
+    run-turn (cellsOf l) (l .loop .i) _ _ _ (r .2) (r .0) (r .1) (l .loop .inv .base)
+
+run-put :
+    (c : tie.After-put-ready Inv-loop μ-loop) → let l = of-cell (c .before .before .before .before) in
+    Put-on l (c .put-ready .last .0) (c .put-ready .result .count) (c .put-ready .result .i) (l .loop .g0) (l .loop .g2)
+run-put c =
+    let l = of-cell (c .before .before .before .before) in
+    let v = l .loop .inv in
+    written-on v (ran c) (v .held) (run-puts (cellsOf l) (l .loop .i) (c .put-ready .result .i) (l .loop .g0) (l .loop .g2) (c .put-ready .ensures .2))
+
+add-at-2 : tie.Need-add-at-2 Inv-loop μ-loop
+add-at-2 c =
+    let p = c .before .before .before in
+    omega (arith, written-in (run-put p), of-cell (p .before .before .before .before) .before .before .before .good)
+
+loop-less-2 : tie.Need-loop-less-2 Inv-loop μ-loop
+loop-less-2 c = ran (c .before .before .before) .less
+
+loop-again-2 : tie.Need-loop-again-2 Inv-loop μ-loop
+loop-again-2 c = run-put (c .before .before .before)
+
 cast-n : tie.Need-cast-n Inv-loop μ-loop
-cast-n c = omega (arith, c .shared-slice-known2 .given (at-loop c .loop .i))
+cast-n c = omega (arith, c .before .before .shared-slice-known2 .given (at-loop c .loop .i))
 
 sub-put-base : tie.Need-sub-put-base Inv-loop μ-loop
 sub-put-base c = search needs
@@ -219,10 +281,10 @@ put-base-requires : tie.Need-put-base-requires Inv-loop μ-loop
 put-base-requires c κs =
     let t = c .before in
     let l = at-loop (t .before) in
-    (coded (t .before), rw (t .if2 .taken) (l .loop .inv .base), written-room (l .loop .inv) (based t))
+    (coded (t .before), rw (t .if3 .taken) (l .loop .inv .base), written-room (l .loop .inv) (based t))
 
-add-at-2 : tie.Need-add-at-2 Inv-loop μ-loop
-add-at-2 c =
+add-at-3 : tie.Need-add-at-3 Inv-loop μ-loop
+add-at-3 c =
     let p = c .before .before in
     omega (arith, written-in (base-put p), at-loop (p .before .before .before) .before .before .before .good)
 
@@ -234,11 +296,11 @@ add-i c =
     let k = c .before .before .before .before .before .before in
     omega (arith, in-list k, at-loop k .before .before .before .good)
 
-loop-less-2 : tie.Need-loop-less-2 Inv-loop μ-loop
-loop-less-2 c = rw (c .g2-after .ensures) (based (c .before .before .before .before .before) .less)
+loop-less-3 : tie.Need-loop-less-3 Inv-loop μ-loop
+loop-less-3 c = rw (c .g2-after .ensures) (based (c .before .before .before .before .before) .less)
 
-loop-again-2 : tie.Need-loop-again-2 Inv-loop μ-loop
-loop-again-2 c = rw (c .g2-after .ensures) (base-put (c .before .before .before))
+loop-again-3 : tie.Need-loop-again-3 Inv-loop μ-loop
+loop-again-3 c = rw (c .g2-after .ensures) (base-put (c .before .before .before))
 
 sub-put-shifted : tie.Need-sub-put-shifted Inv-loop μ-loop
 sub-put-shifted c = search needs
@@ -253,10 +315,10 @@ put-shifted-requires : tie.Need-put-shifted-requires Inv-loop μ-loop
 put-shifted-requires c κs =
     let t = c .before in
     let k = t .before .before in
-    (coded k, is-shift t, written-room (at-loop k .loop .inv) (shifted t))
+    (omega (arith, small-shift _ _ (coded k) (is-shift t)), written-room (at-loop k .loop .inv) (shifted t))
 
-add-at-3 : tie.Need-add-at-3 Inv-loop μ-loop
-add-at-3 c =
+add-at-4 : tie.Need-add-at-4 Inv-loop μ-loop
+add-at-4 c =
     let p = c .before .before in
     omega (arith, written-in (shift-put p), at-loop (p .before .before .before .before) .before .before .before .good)
 
@@ -265,11 +327,11 @@ add-i-2 c =
     let k = c .before .before .before .before .before .before in
     omega (arith, in-list k, at-loop k .before .before .before .good)
 
-loop-less-3 : tie.Need-loop-less-3 Inv-loop μ-loop
-loop-less-3 c = shifted (c .before .before .before .before) .less
+loop-less-4 : tie.Need-loop-less-4 Inv-loop μ-loop
+loop-less-4 c = shifted (c .before .before .before .before) .less
 
-loop-again-3 : tie.Need-loop-again-3 Inv-loop μ-loop
-loop-again-3 c = shift-put (c .before .before)
+loop-again-4 : tie.Need-loop-again-4 Inv-loop μ-loop
+loop-again-4 c = shift-put (c .before .before)
 
 sub-designate : tie.Need-sub-designate Inv-loop μ-loop
 sub-designate c = search needs
@@ -285,43 +347,43 @@ designate-requires c κs =
     let e = c .before in
     (known (e .before .before), either-room e (shiftSet (set e)) refl)
 
-add-at-4 : tie.Need-add-at-4 Inv-loop μ-loop
-add-at-4 c =
+add-at-5 : tie.Need-add-at-5 Inv-loop μ-loop
+add-at-5 c =
     let d = c .before .before in
     omega (arith, either-in d (shiftSet (set (waited d))) refl, was (waited d) .before .before .before .good)
 
 cast-is-shift-set : tie.Need-cast-is-shift-set Inv-loop μ-loop
 cast-is-shift-set c =
     let k = c .before .before .before .before .before .before in
-    omega (arith, k .shared-slice-known2 .given (at-loop k .loop .i))
+    omega (arith, k .before .before .shared-slice-known2 .given (at-loop k .loop .i))
 
 is-shift-set-requires : tie.Need-is-shift-set-requires Inv-loop μ-loop
 is-shift-set-requires c κs = search needs
 
-shifts : (c : tie.Then4 Inv-loop μ-loop) → shiftSet (set (waited (c .before .before .before .before))) ≡ true
-shifts c = sym (c .before .is-shift-set .ensures) ∙ c .if4 .taken
+shifts : (c : tie.Then5 Inv-loop μ-loop) → shiftSet (set (waited (c .before .before .before .before))) ≡ true
+shifts c = sym (c .before .is-shift-set .ensures) ∙ c .if5 .taken
 
-stays : (c : tie.Else4 Inv-loop μ-loop) → shiftSet (set (waited (c .before .before .before .before))) ≡ false
-stays c = sym (c .before .is-shift-set .ensures) ∙ c .if4 .left
-
-loop-less-4 : tie.Need-loop-less-4 Inv-loop μ-loop
-loop-less-4 c = to-g2 (waited (c .before .before .before .before)) (shifts c) .less
-
-loop-again-4 : tie.Need-loop-again-4 Inv-loop μ-loop
-loop-again-4 c = g2-put (c .before .before .before .before) (shifts c)
+stays : (c : tie.Else5 Inv-loop μ-loop) → shiftSet (set (waited (c .before .before .before .before))) ≡ false
+stays c = sym (c .before .is-shift-set .ensures) ∙ c .if5 .left
 
 loop-less-5 : tie.Need-loop-less-5 Inv-loop μ-loop
-loop-less-5 c = to-g0 (waited (c .before .before .before .before)) (stays c) .less
+loop-less-5 c = to-g2 (waited (c .before .before .before .before)) (shifts c) .less
 
 loop-again-5 : tie.Need-loop-again-5 Inv-loop μ-loop
-loop-again-5 c = g0-put (c .before .before .before .before) (stays c)
+loop-again-5 c = g2-put (c .before .before .before .before) (shifts c)
+
+loop-less-6 : tie.Need-loop-less-6 Inv-loop μ-loop
+loop-less-6 c = to-g0 (waited (c .before .before .before .before)) (stays c) .less
+
+loop-again-6 : tie.Need-loop-again-6 Inv-loop μ-loop
+loop-again-6 c = g0-put (c .before .before .before .before) (stays c)
 
 -- the return to ASCII
 return-left :
-    (c : tie.Then5 Inv-loop μ-loop) → let l = c .before .before in
+    (c : tie.Then6 Inv-loop μ-loop) → let l = c .before .before in
     Put (writing (cellsOf l)) (l .before .before .before .args .out .now) (l .loop .out) (l .loop .at) (designationOf 6 ++ [])
 return-left c =
-    put-as (last-some _ _ _ _ (c .before .loop-test .left) (c .if5 .taken) ∙ sym (append-nil (designationOf 6))) (c .before .before .loop .inv .put)
+    put-as (last-some _ _ _ _ (c .before .loop-test .left) (c .if6 .taken) ∙ sym (append-nil (designationOf 6))) (c .before .before .loop .inv .put)
 
 returned :
     (c : tie.After-designate2 Inv-loop μ-loop) → let l = c .before .before .before .before in
@@ -352,7 +414,7 @@ same-length-2 : tie.Need-same-length-2 Inv-loop μ-loop
 same-length-2 c = c .before .before .loop .inv .put .same
 
 returns-2 : tie.Need-returns-2 Inv-loop μ-loop
-returns-2 c = put-done (put-as (last-none _ _ _ _ (c .before .loop-test .left) (c .if5 .left)) (c .before .before .loop .inv .put))
+returns-2 c = put-done (put-as (last-none _ _ _ _ (c .before .loop-test .left) (c .if6 .left)) (c .before .before .loop .inv .put))
 
 pub write-all-spec : {M : Type 1} → statement M
 write-all-spec =
@@ -375,35 +437,43 @@ write-all-spec =
     loop-again
     mul-v
     shared-slice-read-v
+    ready-requires
+    sub-put-ready
+    part-put-ready-start
+    part-put-ready-end
+    put-ready-requires
+    add-at-2
+    loop-less-2
+    loop-again-2
     cast-n
     sub-put-base
     part-put-base-start
     part-put-base-end
     put-base-requires
-    add-at-2
+    add-at-3
     g2-after-requires
     add-i
-    loop-less-2
-    loop-again-2
+    loop-less-3
+    loop-again-3
     sub-put-shifted
     part-put-shifted-start
     part-put-shifted-end
     put-shifted-requires
-    add-at-3
+    add-at-4
     add-i-2
-    loop-less-3
-    loop-again-3
+    loop-less-4
+    loop-again-4
     sub-designate
     part-designate-start
     part-designate-end
     designate-requires
-    add-at-4
+    add-at-5
     cast-is-shift-set
     is-shift-set-requires
-    loop-less-4
-    loop-again-4
     loop-less-5
     loop-again-5
+    loop-less-6
+    loop-again-6
     sub-designate-2
     part-designate-start-2
     part-designate-end-2
