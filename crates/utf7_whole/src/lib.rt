@@ -145,8 +145,45 @@ fn straight(text: &[u8], out: &mut [u32]) -> Answer
     }
 }
 
-// Reads a text into an output. A short text is read by way of a buffer on the stack, the smallest that has a place for every byte and 80 more, so
-// that whole blocks reach its end; a longer one takes none.
+// A text of at most so many bytes, by way of a room and a buffer on the stack that have places for 80 more, so that whole blocks reach its end.
+// Each size is a function, so that LLVM lays their buffers over each other.
+fn through_64(text: &[u8], out: &mut [u32]) -> Answer
+    requires { ⌜ length (now text) ≤ 64 ⌝ }
+    ensures { λ r. ⌜ leaves r (now (out .exit)) ≡ readInto utf7 (now (text .entry)) (now (out .entry)) ⌝ }
+{
+    let mut room = [0u8; 144];
+    let mut cells = [0u32; 144];
+    through(text, &mut room, &mut cells, out)
+}
+
+fn through_256(text: &[u8], out: &mut [u32]) -> Answer
+    requires { ⌜ length (now text) ≤ 256 ⌝ }
+    ensures { λ r. ⌜ leaves r (now (out .exit)) ≡ readInto utf7 (now (text .entry)) (now (out .entry)) ⌝ }
+{
+    let mut room = [0u8; 336];
+    let mut cells = [0u32; 336];
+    through(text, &mut room, &mut cells, out)
+}
+
+fn through_1024(text: &[u8], out: &mut [u32]) -> Answer
+    requires { ⌜ length (now text) ≤ 1024 ⌝ }
+    ensures { λ r. ⌜ leaves r (now (out .exit)) ≡ readInto utf7 (now (text .entry)) (now (out .entry)) ⌝ }
+{
+    let mut room = [0u8; 1104];
+    let mut cells = [0u32; 1104];
+    through(text, &mut room, &mut cells, out)
+}
+
+fn through_4096(text: &[u8], out: &mut [u32]) -> Answer
+    requires { ⌜ length (now text) ≤ 4096 ⌝ }
+    ensures { λ r. ⌜ leaves r (now (out .exit)) ≡ readInto utf7 (now (text .entry)) (now (out .entry)) ⌝ }
+{
+    let mut room = [0u8; 4176];
+    let mut cells = [0u32; 4176];
+    through(text, &mut room, &mut cells, out)
+}
+
+// Reads a text into an output. A short text is read by way of a buffer on the stack, of the smallest size that takes it; a longer one takes none.
 pub fn read(text: &[u8], out: &mut [u32]) -> Answer
     ensures { λ r. ⌜ leaves r (now (out .exit)) ≡ readInto utf7 (now (text .entry)) (now (out .entry)) ⌝ }
 {
@@ -154,24 +191,16 @@ pub fn read(text: &[u8], out: &mut [u32]) -> Answer
         return answer::too_long();
     }
     if text.len() <= 64 {
-        let mut room = [0u8; 144];
-        let mut cells = [0u32; 144];
-        return through(text, &mut room, &mut cells, out);
+        return through_64(text, out);
     }
     if text.len() <= 256 {
-        let mut room = [0u8; 336];
-        let mut cells = [0u32; 336];
-        return through(text, &mut room, &mut cells, out);
+        return through_256(text, out);
     }
     if text.len() <= 1024 {
-        let mut room = [0u8; 1104];
-        let mut cells = [0u32; 1104];
-        return through(text, &mut room, &mut cells, out);
+        return through_1024(text, out);
     }
     if text.len() <= 4096 {
-        let mut room = [0u8; 4176];
-        let mut cells = [0u32; 4176];
-        return through(text, &mut room, &mut cells, out);
+        return through_4096(text, out);
     }
     straight(text, out)
 }

@@ -1,6 +1,5 @@
 use Prim.Native.Nat.{_≤_}
 use mathlib.Core.Path.{sym, _∙_}
-use native.Mathlib.Omega.{arith}
 use denote.Ref.{now}
 use lib.ListN.{length}
 use borrow.Author.Tests.{ltb-false}
@@ -8,7 +7,6 @@ use borrow.Author.Needs.{needs}
 use Rattle.answer.specs.Answer.{limit}
 use Rattle.reading.proofs.Filling.{into-long}
 use Rattle.utf7.proofs.Kept.{utf7-kept}
-use Rattle.utf7_whole.proofs.Buffers.{zero-at}
 use Rattle.utf7_whole.proofs.read.Statement.{statement}
 use Rattle.utf7_whole.proofs.read.Tie as tie
 
@@ -24,14 +22,8 @@ returns c = into-long utf7-kept _ _ (c .too-long .result) (sym (c .before .befor
 within : (c : tie.Else1) → length (now (c .before .before .before .before .args .text)) ≤ limit
 within c = ltb-false limit _ (sym (c .before .over-limit .ensures) ∙ c .if1 .left)
 
-slice-aggregate-through : tie.Need-slice-aggregate-through
-slice-aggregate-through c = search needs
-
-slice-aggregate-through-2 : tie.Need-slice-aggregate-through-2
-slice-aggregate-through-2 c = search needs
-
-through-requires : tie.Need-through-requires
-through-requires c κs = let t = c .before .before .before in (within (t .before), (omega (arith, t .if2 .taken), (zero-at 144, omega (arith, t .if2 .taken))))
+through-64-requires : tie.Need-through-64-requires
+through-64-requires c κs = search needs
 
 same-length : tie.Need-same-length
 same-length c = search needs
@@ -39,14 +31,8 @@ same-length c = search needs
 returns-2 : tie.Need-returns-2
 returns-2 c = search needs
 
-slice-aggregate-through-3 : tie.Need-slice-aggregate-through-3
-slice-aggregate-through-3 c = search needs
-
-slice-aggregate-through-4 : tie.Need-slice-aggregate-through-4
-slice-aggregate-through-4 c = search needs
-
-through-requires-2 : tie.Need-through-requires-2
-through-requires-2 c κs = let t = c .before .before .before in (within (t .before .before), (omega (arith, t .if3 .taken), (zero-at 336, omega (arith, t .if3 .taken))))
+through-256-requires : tie.Need-through-256-requires
+through-256-requires c κs = search needs
 
 same-length-2 : tie.Need-same-length-2
 same-length-2 c = search needs
@@ -54,14 +40,8 @@ same-length-2 c = search needs
 returns-3 : tie.Need-returns-3
 returns-3 c = search needs
 
-slice-aggregate-through-5 : tie.Need-slice-aggregate-through-5
-slice-aggregate-through-5 c = search needs
-
-slice-aggregate-through-6 : tie.Need-slice-aggregate-through-6
-slice-aggregate-through-6 c = search needs
-
-through-requires-3 : tie.Need-through-requires-3
-through-requires-3 c κs = let t = c .before .before .before in (within (t .before .before .before), (omega (arith, t .if4 .taken), (zero-at 1104, omega (arith, t .if4 .taken))))
+through-1024-requires : tie.Need-through-1024-requires
+through-1024-requires c κs = search needs
 
 same-length-3 : tie.Need-same-length-3
 same-length-3 c = search needs
@@ -69,14 +49,8 @@ same-length-3 c = search needs
 returns-4 : tie.Need-returns-4
 returns-4 c = search needs
 
-slice-aggregate-through-7 : tie.Need-slice-aggregate-through-7
-slice-aggregate-through-7 c = search needs
-
-slice-aggregate-through-8 : tie.Need-slice-aggregate-through-8
-slice-aggregate-through-8 c = search needs
-
-through-requires-4 : tie.Need-through-requires-4
-through-requires-4 c κs = let t = c .before .before .before in (within (t .before .before .before .before), (omega (arith, t .if5 .taken), (zero-at 4176, omega (arith, t .if5 .taken))))
+through-4096-requires : tie.Need-through-4096-requires
+through-4096-requires c κs = search needs
 
 same-length-4 : tie.Need-same-length-4
 same-length-4 c = search needs
@@ -100,24 +74,16 @@ read-spec =
     over-limit-requires
     too-long-requires
     returns
-    slice-aggregate-through
-    slice-aggregate-through-2
-    through-requires
+    through-64-requires
     same-length
     returns-2
-    slice-aggregate-through-3
-    slice-aggregate-through-4
-    through-requires-2
+    through-256-requires
     same-length-2
     returns-3
-    slice-aggregate-through-5
-    slice-aggregate-through-6
-    through-requires-3
+    through-1024-requires
     same-length-3
     returns-4
-    slice-aggregate-through-7
-    slice-aggregate-through-8
-    through-requires-4
+    through-4096-requires
     same-length-4
     returns-5
     straight-requires
