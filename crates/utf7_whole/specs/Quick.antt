@@ -69,7 +69,9 @@ pub record One (s : List ℕ) (from unit : ℕ) : Type 0 where
   pub third : setB slash (getD s (from + 2) 0) ≡ true
   pub ends : valueOf slash (getD s (from + 2) 0) % 4 ≡ 0
   pub over : getD s (from + 3) 0 ≡ 45
-  pub so : unit ≡ (valueOf slash (getD s from 0) * 64 + valueOf slash (getD s (from + 1) 0)) * 16 + valueOf slash (getD s (from + 2) 0) / 4
+  pub so :
+      unit
+      ≡ (valueOf slash (getD s from 0) * 64 + valueOf slash (getD s (from + 1) 0)) * 16 + valueOf slash (getD s (from + 2) 0) / 4
 
 -- the units that eight values hold, and those of so many eights
 abbrev pub firstOf : (ℕ → ℕ) → ℕ
@@ -92,7 +94,7 @@ unitsOf (suc m) x = threeOf x ++ unitsOf m (λ k. x (8 + k))
 abbrev pub lows : List ℕ → ℕ → ℕ
 lows xs k = getD xs k 0 % 64
 
--- so many letters may end, the last of which has the value v: by how many stand behind the last eight, and by the last
+-- so many letters may end, the last of which has the value v: by how many stand behind the last eight, and by it
 abbrev pub closes : ℕ → ℕ → Bool
 closes letters v =
     cond (eqb (letters % 8) 0) true
@@ -117,7 +119,7 @@ pub record Last (s : List ℕ) (from at n : ℕ) (out out' : List ℕ) (end m : 
   pub laid : (end ≡ from → ⊥) → Laid (unitsIn s at end) n out out'
   pub count : (end ≡ from → ⊥) → m ≡ n + (end - at) * 6 / 16
 
--- the first n cells of a text are those of a list: whether the text reads as the list is whether its rest does as the list's
+-- the first n cells of a text are those of a list: whether it reads as the list is whether its rest does as the list's
 pub record Agrees (s cells : List ℕ) (at n : ℕ) : Type 0 where
   pub within : at ≤ length s
   pub few : n ≤ at

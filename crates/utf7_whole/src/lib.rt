@@ -28,8 +28,8 @@ fn pad(text: &[u8], room: &mut [u8])
     }
 }
 
-// Reads a text, which is lent with zeros behind it too, into a buffer that has a place for every cell. The cells stand in front; what lies
-// behind them is free, and what was read before a fault is left.
+// Reads a text, which is lent with zeros behind it too, into a buffer that has a place for every cell. The cells stand
+// in front; what lies behind them is free, and what was read before a fault is left.
 fn decode(text: &[u8], room: &[u8], out: &mut [u32]) -> Answer
     requires { ⌜ length (reading utf7 (now text) .cells) ≤ length (now out) ⌝ }
     requires { ⌜ Padded (now text) (now room) ⌝ }
@@ -73,8 +73,8 @@ fn copy(cells: &[u32], n: usize, out: &mut [u32])
     }
 }
 
-// Reads a text by way of a room of zeros and a buffer that have a place for every byte. The whole text is judged before a cell is written to the
-// output: a second pass costs more than a copy.
+// Reads a text by way of a room of zeros and a buffer that have a place for every byte. The whole text is judged before
+// a cell is written to the output: a second pass costs more than a copy.
 fn through(text: &[u8], room: &mut [u8], cells: &mut [u32], out: &mut [u32]) -> Answer
     requires { ⌜ length (now text) ≤ limit ⌝ }
     requires { ⌜ length (now text) ≤ length (now room) ⌝ }
@@ -145,8 +145,8 @@ fn straight(text: &[u8], out: &mut [u32]) -> Answer
     }
 }
 
-// A text of at most so many bytes, by way of a room and a buffer on the stack that have places for 80 more, so that whole blocks reach its end.
-// Each size is a function, so that LLVM lays their buffers over each other.
+// A text of at most so many bytes, by way of a room and a buffer on the stack that have places for 80 more, so that
+// whole blocks reach its end. Each size is a function, so that LLVM lays their buffers over each other.
 fn through_64(text: &[u8], out: &mut [u32]) -> Answer
     requires { ⌜ length (now text) ≤ 64 ⌝ }
     ensures { λ r. ⌜ leaves r (now (out .exit)) ≡ readInto utf7 (now (text .entry)) (now (out .entry)) ⌝ }
@@ -183,7 +183,8 @@ fn through_4096(text: &[u8], out: &mut [u32]) -> Answer
     through(text, &mut room, &mut cells, out)
 }
 
-// Reads a text into an output. A short text is read by way of a buffer on the stack, of the smallest size that takes it; a longer one takes none.
+// Reads a text into an output. A short text is read by way of a buffer on the stack, of the smallest size that takes
+// it; a longer one takes none.
 pub fn read(text: &[u8], out: &mut [u32]) -> Answer
     ensures { λ r. ⌜ leaves r (now (out .exit)) ≡ readInto utf7 (now (text .entry)) (now (out .entry)) ⌝ }
 {

@@ -1,7 +1,8 @@
-// Whole texts, a stretch or a run at a time: the loops of this file go over what texts are made of, and stop at anything else and 37 bytes
-// before the end. A text is lent with zeros behind it, which are no byte of any set, so that they reach its end. The loop that goes byte by
-// byte, which names every fault, reads on from there. Loops have a fixed length and tests of bytes are eager, so that they compile to no
-// branch; a block is written whole, and what lies behind its cells is written over by the next ones.
+// Whole texts, a stretch or a run at a time: the loops of this file go over what texts are made of, and stop at
+// anything else and 37 bytes before the end. A text is lent with zeros behind it, which are no byte of any set, so that
+// they reach its end. The loop that goes byte by byte, which names every fault, reads on from there. Loops have a fixed
+// length and tests of bytes are eager, so that they compile to no branch; a block is written whole, and what lies
+// behind its cells is written over by the next ones.
 ghost use mathlib.Core.Path.{_≡_};
 ghost use mathlib.Core.Bool.{true, cond, _&&_};
 ghost use mathlib.Core.List.{List};
@@ -15,7 +16,8 @@ ghost use Rattle.reading.specs.Inner.{Left};
 ghost use Rattle.reading.specs.Matching.{sameCells};
 ghost use Rattle.utf7.specs.Sets.{direct};
 ghost use Rattle.utf7.specs.Rule.{outside, utf7};
-ghost use Rattle.utf7_whole.specs.Quick.{Padded, Filled, Span, Ahead, Letters, Run, Values, One, Went, Last, Compared, threeOf, unitsOf, lows, closes, stops, past};
+ghost use Rattle.utf7_whole.specs.Quick.{Padded, Filled, Span, Ahead, Letters, Run, Values, One, Went};
+ghost use Rattle.utf7_whole.specs.Quick.{Last, Compared, threeOf, unitsOf, lows, closes, stops, past};
 
 // Where a loop stopped: outside a run, after n cells.
 pub struct Reached {
@@ -141,8 +143,9 @@ fn third(f: u32, g: u32, h: u32) -> u32
     (f % 16 * 64 + g) * 64 + h
 }
 
-// The unit of a run of three letters and '-', or 65,536 where there is none. A run of one unit that another byte ends is read as longer runs are:
-// so the next place is a number of bytes further on that is known, and no load is waited for.
+// The unit of a run of three letters and '-', or 65,536 where there is none. A run of one unit that another byte ends
+// is read as longer runs are: so the next place is a number of bytes further on that is known, and no load is waited
+// for.
 fn one_at(text: &[u8], from: usize) -> u32
     requires { ⌜ from + 4 ≤ length (now text) ⌝ }
     ensures { λ r. ⌜ (r < 65536 → One (now (text .entry)) from r) ⌝ }
@@ -257,8 +260,8 @@ fn lay(y: [u32; 12], u: usize, out: &mut [u32], n: usize)
     }
 }
 
-// The units of the last letters of a run, which follow eights, go to the output from n on: where they end, and the place behind their units. Where
-// they are 32 or more, may not end so or have no room: the place where the run began.
+// The units of the last letters of a run, which follow eights, go to the output from n on: where they end, and the
+// place behind their units. Where they are 32 or more, may not end so or have no room: the place where the run began.
 fn put_last(text: &[u8], from: usize, at: usize, out: &mut [u32], n: usize) -> Reached
     requires { ⌜ (at ≤ length (now text)) × (n ≤ length (now out)) ⌝ }
     ensures { λ r. ⌜ Last (now (text .entry)) from at n (now (out .entry)) (now (out .exit)) (r .at) (r .n) ⌝ }
@@ -280,8 +283,8 @@ fn put_last(text: &[u8], from: usize, at: usize, out: &mut [u32], n: usize) -> R
     Reached { at: from, n }
 }
 
-// The units of a run go to the output from its start on: where its letters end, and the place behind its units. Where the run may not end so,
-// or the output has no room: the place where it began.
+// The units of a run go to the output from its start on: where its letters end, and the place behind its units. Where
+// the run may not end so, or the output has no room: the place where it began.
 fn put_run(text: &[u8], from: usize, out: &mut [u32], start: usize) -> Reached
     requires { ⌜ (from ≤ length (now text)) × (start ≤ length (now out)) ⌝ }
     ensures { λ r. ⌜ Went (now (text .entry)) from start (now (out .entry)) (now (out .exit)) (r .at) (r .n) ⌝ }
@@ -471,7 +474,8 @@ fn judge_run(text: &[u8], from: usize) -> usize
     judge_end(text, from, letters_end(text, at))
 }
 
-// How many cells a text has up to a place near its end, or before anything that is not of the usual kinds. Nothing is written.
+// How many cells a text has up to a place near its end, or before anything that is not of the usual kinds. Nothing is
+// written.
 pub fn judge(text: &[u8]) -> Reached
     ensures { λ r. ⌜ Left utf7 (now (text .entry)) (r .at) outside (r .n) ⌝ }
 {
@@ -517,7 +521,8 @@ pub struct Found {
     pub same: bool,
 }
 
-// The first n cells of a buffer are those of a list from a place on. Each is compared, so that it compiles to no branch.
+// The first n cells of a buffer are those of a list from a place on. Each is compared, so that it compiles to no
+// branch.
 fn is_same(cells: &[u32], n: usize, list: &[u32], from: usize) -> bool
     requires { ⌜ (n ≤ length (now cells)) × (from + n ≤ length (now list)) ⌝ }
     ensures { λ r. ⌜ r ≡ sameCells (take n (now (cells .entry))) (take n (drop from (now (list .entry)))) ⌝ }
