@@ -1,16 +1,16 @@
 -- Designations, found by one search of the table, and the step past them. Assumes nothing.
-use Prim.Native.Nat.{ℕ, _+_, _*_, _/_, _%_, _<_, _≤_}
+use Prim.Native.Nat.{ℕ, zero, suc, _+_, _*_, _/_, _%_, _<_, _≤_}
 use mathlib.Core.Path.{_≡_, refl, sym, ap, _∙_}
 use mathlib.Core.Bool.{Bool, true, false, cond, _&&_, false≢true}
 use mathlib.Core.List.{List, [], _∷_, _++_}
-use mathlib.Core.Logic.{⊎-elim}
+use mathlib.Core.Logic.{_⊎_, ⊎-elim, inl, inr}
 use native.Mathlib.Omega.{arith}
 use native.Mathlib.Numerals.{add-one}
 use lib.ListN.{length, getD, drop}
 use lib.Seq.{drop-cons, drop-drop, drop-at}
-use lib.Dec.{leb, eqb}
-use borrow.Author.Tests.{eqb-true, eq-eqb, leb-true}
-use Rattle.answer.proofs.Below.{both, allBelow, below}
+use lib.Dec.{leb, eqb, lit<}
+use borrow.Author.Tests.{eqb-true, eqb-false, eq-eqb, ne-eqb, le-leb, leb-true, lt-leb}
+use Rattle.answer.proofs.Below.{both, cond-case, allBelow, below}
 use Rattle.reading.specs.Stepping.{nextFrom}
 use Rattle.reading.proofs.Walk.{Walk, stay, gives, goes}
 use Rattle.jp2.specs.Table.{designations, noRow, rowAt, sent, begins}
@@ -19,14 +19,24 @@ use Rattle.jp2.specs.Spans.{spanIn}
 use Rattle.jp2.specs.declared.Designation.{Designation}
 use Rattle.jp2.proofs.Search.{at-any}
 use Rattle.jp2.proofs.Table.{rows, row-walk, table-rule, row-size}
-use Rattle.jp2_read.specs.Escapes.{codeOf, Sends, Designates, EscapeAt}
+use Rattle.jp2_read.specs.Escapes.{codeOf, codeAmong, codeAt, fourAt, toG2, g0After, g2After, sends}
 use Rattle.jp2_read.specs.Passing.{stepFrom, Passes}
 
 -- the state between cells
 abbrev pub at-rest : ℕ → ℕ → State
 at-rest g0 g2 = state g0 g2 plain
 
--- a designation: ESC and three bytes that start with what a row sends
+-- ESC and these bytes start with what a row sends
+pub record Designates (a b c r : ℕ) : Type 0 where
+  pub row : ℕ
+  pub known : row < 9
+  pub code : r ≡ codeOf (rowAt row)
+  pub bytes : begins (sent (rowAt row)) (27 ∷ a ∷ b ∷ c ∷ []) ≡ true
+
+-- a row stands at a place
+abbrev pub Stands : List ℕ → ℕ → ℕ → Type 0
+Stands s at r = (getD s at 0 ≡ 27) × ((at + 4 ≤ length s) × Designates (getD s (at + 1) 0) (getD s (at + 2) 0) (getD s (at + 3) 0) r)
+
 begins-front : (l m r : List ℕ) → begins l m ≡ true → m ++ r ≡ l ++ drop (length l) (m ++ r)
 unfolding begins
 begins-front [] m r e = refl
@@ -66,9 +76,6 @@ four-bytes s at h =
     ∙ ap (λ (z : List ℕ). getD s (at + 2) 0 ∷ z) (one (at + 3) (at + 4) (omega arith) (omega arith))))
 
 -- the sets after a row, by its code
-abbrev pub toG2 : ℕ → Bool
-toG2 r = eqb (r / 8 % 8) 2
-
 after-row : (t : Bool) (g0 g2 n : ℕ) → cond t (at-rest g0 n) (at-rest n g2) ≡ at-rest (cond t g0 n) (cond t n g2)
 after-row true g0 g2 n = refl
 after-row false g0 g2 n = refl
@@ -96,64 +103,136 @@ next-walk size stay z rest at at' handed e =
 next-walk size (gives q w) z rest at at' handed e = absurd (omega (arith, ap length z))
 next-walk size (goes q w) z rest at at' handed e = rw q (next-walk size w z rest (at + 1) at' handed (omega arith))
 
-pub designation-passes :
-    {s : List ℕ} {at r : ℕ} (g0 g2 : ℕ) → getD s at 0 ≡ 27 → (at + 4 ≤ length s) × Designates (getD s (at + 1) 0) (getD s (at + 2) 0) (getD s (at + 3) 0) r →
-    Passes s at (at-rest g0 g2) (at + r % 8) (at-rest (cond (toG2 r) g0 (r / 64 % 65536)) (cond (toG2 r) (r / 64 % 65536) g2))
-unfolding stepFrom
-designation-passes {s} {at} {r} g0 g2 e h =
-    let d = h .1 in
+-- its length
+pub row-says : {a b c r : ℕ} (d : Designates a b c r) → r % 8 ≡ length (sent (rowAt (d .row)))
+row-says d = rw (d .code) (code-says (d .row) (d .known) .0)
+
+-- a row's bytes, where it stands, and the rest of the text; the sets after it are the table's
+pub row-bytes : (s : List ℕ) (at r : ℕ) (d : Stands s at r) → drop at s ≡ sent (rowAt (d .1 .1 .row)) ++ drop (r % 8) (fourAt s at ++ drop (at + 4) s)
+row-bytes s at r d =
+    let w = d .1 .1 in
+    rw (w .code, code-says (w .row) (w .known) .0, four-bytes s at (d .1 .0), d .0) (begins-front (sent (rowAt (w .row))) _ (drop (at + 4) s) (w .bytes))
+
+pub row-sets :
+    {a b c r : ℕ} (g0 g2 : ℕ) (d : Designates a b c r) →
+    at-rest (g0After g0 r) (g2After g2 r) ≡ cond (eqb (rowAt (d .row) .to) 2) (at-rest g0 (rowAt (d .row) .number)) (at-rest (rowAt (d .row) .number) g2)
+row-sets {a} {b} {c} {r} g0 g2 d =
     let q = code-says (d .row) (d .known) in
+    rw (← after-row (toG2 r) g0 g2 (r / 64 % 65536), d .code, small-number (d .row) (d .known), q .1 .0, q .1 .1)
+
+pub designation-passes :
+    {s : List ℕ} {at r : ℕ} (g0 g2 : ℕ) → Stands s at r → Passes s at (at-rest g0 g2) (at + r % 8) (at-rest (g0After g0 r) (g2After g2 r))
+unfolding stepFrom
+designation-passes {s} {at} {r} g0 g2 h =
+    let d = h .1 .1 in
     let bs = sent (rowAt (d .row)) in
-    let rest = drop (length bs) ((27 ∷ getD s (at + 1) 0 ∷ getD s (at + 2) 0 ∷ getD s (at + 3) 0 ∷ []) ++ drop (at + 4) s) in
-    let f : drop at s ≡ bs ++ rest = rw e at (four-bytes s at (h .0)) ∙ begins-front bs _ (drop (at + 4) s) (d .bytes) in
+    let f = row-bytes s at r h in
     let l = code-length d in
-    let to : at + length bs ≡ at + r % 8 = rw (d .code, q .0) in
-    let g : drop (at + length bs) s ≡ rest = sym (drop-drop (length bs) at s) ∙ ap (drop (length bs)) f ∙ drop-at bs rest (length bs) refl in
+    let z = sym (row-says d) in
+    let g = sym (drop-drop (r % 8) at s) ∙ ap (drop (r % 8)) f ∙ drop-at bs (drop (r % 8) (fourAt s at ++ drop (at + 4) s)) (r % 8) z in
     record {
       ordered = omega arith;
-      within = omega (arith, h .0, l .1);
+      within = omega (arith, h .1 .0, l .1);
       so = λ handed.
-          rw (← after-row (toG2 r) g0 g2 (r / 64 % 65536), d .code, small-number (d .row) (d .known), q .0, q .1 .0, q .1 .1, f, g)
-          (next-walk (length s) (row-walk g0 g2 (d .row) (d .known) false) refl rest at (at + length bs) handed refl);
+          rw (row-sets g0 g2 d, f, g)
+          (next-walk (length s) (row-walk g0 g2 (d .row) (d .known) false) refl _ at (at + r % 8) handed (rw z));
     }
 
 -- a row of the whole table
 pub row-of : {t : List Designation} {i : ℕ} (e : Designation) → t ≡ designations → i < 9 → getD t i e ≡ rowAt i
 row-of {t} {i} e q h = rw q (at-any designations i e noRow (rw rows h))
 
--- the search: a row that passes stands there
-abbrev shape : ℕ → ℕ → Bool
-shape c i =
-    leb (getD (rowAt i .escape) 1 0) 255
-    && (leb (getD (rowAt i .escape) 2 0) 255
-    && (cond (eqb (rowAt i .length) 3) (begins (sent (rowAt i)) (27 ∷ getD (rowAt i .escape) 1 0 ∷ getD (rowAt i .escape) 2 0 ∷ c ∷ [])) true
-    && begins (sent (rowAt i)) (27 ∷ getD (rowAt i .escape) 1 0 ∷ getD (rowAt i .escape) 2 0 ∷ getD (rowAt i .escape) 3 0 ∷ [])))
+-- the search: two bytes in one number
+joined-same : (x y a b : ℕ) → y < 256 → b < 256 → eqb (x * 256 + y) (a * 256 + b) ≡ (eqb x a && eqb y b)
+joined-same x y a b h k = go-by (eqb x a) (eqb y b) refl refl
+  where
+    go-by : (t u : Bool) → eqb x a ≡ t → eqb y b ≡ u → eqb (x * 256 + y) (a * 256 + b) ≡ (eqb x a && eqb y b)
+    go-by true true e f = rw (e, f) (eq-eqb (x * 256 + y) (a * 256 + b) (omega (arith, eqb-true x a e, eqb-true y b f)))
+    go-by true false e f = rw (e, f) (ne-eqb (x * 256 + y) (a * 256 + b) (λ q. eqb-false y b f (omega arith)))
+    go-by false u e f = rw e (ne-eqb (x * 256 + y) (a * 256 + b) (λ q. eqb-false x a e (omega arith)))
 
-shaped : (c i : ℕ) → i < 9 → shape c i ≡ true
-unfolding allBelow designations begins
-shaped c i h = below (shape c) 9 refl i h
+-- an escape of three bytes, and one of four
+sends-three :
+    (x y z a b c : ℕ) → y < 256 → b < 256 → (y ≡ 40 → ⊥) →
+    (eqb (x * 256 + y) (a * 256 + b) && cond (eqb b 40) (eqb z c) true) ≡ cond (eqb x a) (cond (eqb y b) true false) false
+sends-three x y z a b c h k n = rw (joined-same x y a b h k) (go-by (eqb x a) (eqb y b) refl)
+  where
+    go-by : (t u : Bool) → eqb y b ≡ u → ((t && u) && cond (eqb b 40) (eqb z c) true) ≡ cond t (cond u true false) false
+    go-by true true e = rw (← eqb-true y b e, ne-eqb y 40 n)
+    go-by true false e = refl
+    go-by false u e = refl
 
-pub row-sent : {a b c i : ℕ} → i < 9 → a < 256 → b < 256 → Sends (rowAt i) (a * 256 + b) c → begins (sent (rowAt i)) (27 ∷ a ∷ b ∷ c ∷ []) ≡ true
-row-sent {a} {b} {c} {i} h ha hb w =
-    let e1 = getD (rowAt i .escape) 1 0 in
-    let e2 = getD (rowAt i .escape) 2 0 in
-    let p = both (leb e1 255) _ (shaped c i h) in
-    let q = both (leb e2 255) _ (p .1) in
-    let t = both (cond (eqb (rowAt i .length) 3) (begins (sent (rowAt i)) (27 ∷ e1 ∷ e2 ∷ c ∷ [])) true) _ (q .1) in
-    let k1 : e1 ≤ 255 = leb-true e1 255 (p .0) in
-    let k2 : e2 ≤ 255 = leb-true e2 255 (q .0) in
-    let x : e1 ≡ a = omega (arith, w .pair) in
-    let y : e2 ≡ b = omega (arith, w .pair) in
-    rw (← x, ← y)
-    (⊎-elim
-    (λ (z : rowAt i .length ≡ 3). rw (eq-eqb (rowAt i .length) 3 z) at (t .0))
-    (λ (z : getD (rowAt i .escape) 3 0 ≡ c). rw z at (t .1))
-    (w .last))
+sends-four :
+    (x z a b c : ℕ) → b < 256 →
+    (eqb (x * 256 + 40) (a * 256 + b) && cond (eqb b 40) (eqb z c) false) ≡ cond (eqb x a) (cond (eqb 40 b) (cond (eqb z c) true false) false) false
+sends-four x z a b c k = rw (joined-same x 40 a b (lit< tt) k) (go-by (eqb x a) (eqb 40 b) (eqb z c) refl)
+  where
+    go-by : (t u v : Bool) → eqb 40 b ≡ u → ((t && u) && cond (eqb b 40) v false) ≡ cond t (cond u (cond v true false) false) false
+    go-by true true true e = rw (← eqb-true 40 b e)
+    go-by true true false e = rw (← eqb-true 40 b e)
+    go-by true false v e = refl
+    go-by false u v e = refl
 
-pub row-stands :
-    (s : List ℕ) (at : ℕ) {r : ℕ} → EscapeAt s at r → (r ≡ 0 → ⊥) →
-    (getD s at 0 ≡ 27) × ((at + 4 ≤ length s) × Designates (getD s (at + 1) 0) (getD s (at + 2) 0) (getD s (at + 3) 0) r)
-row-stands s at w h = ⊎-elim (λ e. absurd (h e)) (λ d. (d .0, ⊎-elim (λ e. absurd (h e)) (λ k. k) (d .1))) w
+sends-row : (a b c i : ℕ) → i < 9 → b < 256 → sends (rowAt i) (a * 256 + b) c (eqb b 40) ≡ begins (sent (rowAt i)) (27 ∷ a ∷ b ∷ c ∷ [])
+unfolding designations begins
+sends-row a b c zero h k = sends-three 40 66 0 a b c (lit< tt) k (λ e. absurd (omega arith))
+sends-row a b c (suc zero) h k = sends-three 40 74 0 a b c (lit< tt) k (λ e. absurd (omega arith))
+sends-row a b c (suc (suc zero)) h k = sends-three 36 64 0 a b c (lit< tt) k (λ e. absurd (omega arith))
+sends-row a b c (suc (suc (suc zero))) h k = sends-three 36 66 0 a b c (lit< tt) k (λ e. absurd (omega arith))
+sends-row a b c (suc (suc (suc (suc zero)))) h k = sends-three 36 65 0 a b c (lit< tt) k (λ e. absurd (omega arith))
+sends-row a b c (suc (suc (suc (suc (suc zero))))) h k = sends-four 36 67 a b c k
+sends-row a b c (suc (suc (suc (suc (suc (suc zero)))))) h k = sends-four 36 68 a b c k
+sends-row a b c (suc (suc (suc (suc (suc (suc (suc zero))))))) h k = sends-three 46 65 0 a b c (lit< tt) k (λ e. absurd (omega arith))
+sends-row a b c (suc (suc (suc (suc (suc (suc (suc (suc zero)))))))) h k = sends-three 46 70 0 a b c (lit< tt) k (λ e. absurd (omega arith))
+sends-row a b c (suc (suc (suc (suc (suc (suc (suc (suc (suc i))))))))) h k = absurd (omega arith)
+
+-- one row more
+pub found-more :
+    (a b c : ℕ) {i r r' v : ℕ} {t : Bool} → i < 9 → b < 256 → v ≡ codeOf (rowAt i) → t ≡ sends (rowAt i) (a * 256 + b) c (eqb b 40) →
+    r ≡ codeAmong i (27 ∷ a ∷ b ∷ c ∷ []) → r' ≡ cond t v r → r' ≡ codeAmong (i + 1) (27 ∷ a ∷ b ∷ c ∷ [])
+unfolding codeAmong
+found-more a b c {i} h k g f e q = rw (add-one i, q, f, g, e, sends-row a b c i h k)
+
+-- where nothing is found
+pub code-short : (s : List ℕ) (at : ℕ) → length s < at + 4 → codeAt s at ≡ 0
+code-short s at h = rw (lt-leb (at + 4) (length s) h)
+
+no-escape : (x : ℕ) (l : List ℕ) → eqb 27 x ≡ false → codeAmong 9 (x ∷ l) ≡ 0
+unfolding codeAmong designations begins
+no-escape x l e = rw e
+
+cond-none : (t : Bool) {x : ℕ} → x ≡ 0 → cond t x 0 ≡ 0
+cond-none true e = e
+cond-none false e = refl
+
+pub code-other : (s : List ℕ) (at : ℕ) → (getD s at 0 ≡ 27 → ⊥) → codeAt s at ≡ 0
+code-other s at h = cond-none (leb (at + 4) (length s)) (no-escape (getD s at 0) _ (ne-eqb 27 _ (λ e. h (sym e))))
+
+pub code-here :
+    (s : List ℕ) (at : ℕ) → at + 4 ≤ length s → getD s at 0 ≡ 27 →
+    codeAt s at ≡ codeAmong 9 (27 ∷ getD s (at + 1) 0 ∷ getD s (at + 2) 0 ∷ getD s (at + 3) 0 ∷ [])
+code-here s at h e = rw (le-leb (at + 4) (length s) h, e)
+
+-- what is found stands there
+among : (a b c i : ℕ) → i ≤ 9 → (codeAmong i (27 ∷ a ∷ b ∷ c ∷ []) ≡ 0) ⊎ Designates a b c (codeAmong i (27 ∷ a ∷ b ∷ c ∷ []))
+unfolding codeAmong
+among a b c zero h = inl refl
+among a b c (suc i) h =
+    cond-case (λ r. (r ≡ 0) ⊎ Designates a b c r) (begins (sent (rowAt i)) (27 ∷ a ∷ b ∷ c ∷ []))
+    (λ e. inr (record { row = i; known = omega arith; code = refl; bytes = e }))
+    (λ e. among a b c i (omega arith))
+
+pub row-stands : (s : List ℕ) (at : ℕ) {r : ℕ} → r ≡ codeAt s at → (r ≡ 0 → ⊥) → Stands s at r
+row-stands s at {r} w h = go-by (leb (at + 4) (length s)) (eqb (getD s at 0) 27) refl refl
+  where
+    go-by : (t u : Bool) → leb (at + 4) (length s) ≡ t → eqb (getD s at 0) 27 ≡ u → Stands s at r
+    go-by false u e f = absurd (h (w ∙ rw e))
+    go-by true false e f = absurd (h (w ∙ code-other s at (eqb-false _ _ f)))
+    go-by true true e f =
+        let k = leb-true (at + 4) (length s) e in
+        let z = eqb-true (getD s at 0) 27 f in
+        let q = w ∙ code-here s at k z in
+        (z, (k, ⊎-elim (λ n. absurd (h (q ∙ n))) (λ d. rw q d) (among _ _ _ 9 (omega arith))))
 
 pub passes-stay : {s : List ℕ} {at : ℕ} {st : State} → at ≤ length s → Passes s at st at st
 passes-stay h = record { ordered = omega arith; within = h; so = λ handed. refl }

@@ -1,10 +1,9 @@
--- A designation that a search of the table finds in a text.
-use Prim.Native.Nat.{ℕ, _+_, _*_, _<_, _≤_}
-use mathlib.Core.Path.{_≡_}
-use mathlib.Core.Bool.{true}
+-- A designation that stands in a text, by one search of the table.
+use Prim.Native.Nat.{ℕ, zero, suc, _+_, _*_, _/_, _%_}
+use mathlib.Core.Bool.{Bool, cond, _&&_}
 use mathlib.Core.List.{List, [], _∷_}
-use mathlib.Core.Logic.{_⊎_}
 use lib.ListN.{length, getD}
+use lib.Dec.{eqb, leb}
 use Rattle.jp2.specs.Table.{rowAt, sent, begins}
 use Rattle.jp2.specs.declared.Designation.{Designation}
 
@@ -12,26 +11,30 @@ use Rattle.jp2.specs.declared.Designation.{Designation}
 abbrev pub codeOf : Designation → ℕ
 codeOf d = (d .number * 8 + d .to) * 8 + d .length
 
--- a row's escape goes on with two bytes, in one number, and then ends or has c
-pub record Sends (d : Designation) (two c : ℕ) : Type 0 where
-  pub pair : getD (d .escape) 1 0 * 256 + getD (d .escape) 2 0 ≡ two
-  pub last : (d .length ≡ 3) ⊎ (getD (d .escape) 3 0 ≡ c)
+-- the row among the first n that is sent where bytes start; 0 where there is none
+unfoldable pub codeAmong : ℕ → List ℕ → ℕ
+codeAmong zero bytes = 0
+codeAmong (suc n) bytes = cond (begins (sent (rowAt n)) bytes) (codeOf (rowAt n)) (codeAmong n bytes)
 
--- ESC and these bytes start with what a row sends
-pub record Designates (a b c r : ℕ) : Type 0 where
-  pub row : ℕ
-  pub known : row < 9
-  pub code : r ≡ codeOf (rowAt row)
-  pub bytes : begins (sent (rowAt row)) (27 ∷ a ∷ b ∷ c ∷ []) ≡ true
+-- the four bytes from a place on
+abbrev pub fourAt : List ℕ → ℕ → List ℕ
+fourAt text at = getD text at 0 ∷ getD text (at + 1) 0 ∷ getD text (at + 2) 0 ∷ getD text (at + 3) 0 ∷ []
 
-abbrev pub Found : ℕ → ℕ → ℕ → ℕ → Type 0
-Found a b c r = (r ≡ 0) ⊎ Designates a b c r
+-- the designation at a place with four bytes from there on; else 0
+abbrev pub codeAt : List ℕ → ℕ → ℕ
+codeAt text at = cond (leb (at + 4) (length text)) (codeAmong 9 (fourAt text at)) 0
 
--- a row stands at a place, or nothing is said
-abbrev pub RowAt : List ℕ → ℕ → ℕ → Type 0
-RowAt text at r =
-    (r ≡ 0) ⊎ ((at + 4 ≤ length text) × Designates (getD text (at + 1) 0) (getD text (at + 2) 0) (getD text (at + 3) 0) r)
+-- G0 and G2 after a designation
+abbrev pub toG2 : ℕ → Bool
+toG2 r = eqb (r / 8 % 8) 2
 
--- with its ESC
-abbrev pub EscapeAt : List ℕ → ℕ → ℕ → Type 0
-EscapeAt text at r = (r ≡ 0) ⊎ ((getD text at 0 ≡ 27) × RowAt text at r)
+abbrev pub g0After : ℕ → ℕ → ℕ
+g0After g0 r = cond (toG2 r) g0 (r / 64 % 65536)
+
+abbrev pub g2After : ℕ → ℕ → ℕ
+g2After g2 r = cond (toG2 r) (r / 64 % 65536) g2
+
+-- a row's escape goes on with two bytes, in one number, and then with c, or has just three
+abbrev pub sends : Designation → ℕ → ℕ → Bool → Bool
+sends d two c long =
+    eqb (getD (d .escape) 1 0 * 256 + getD (d .escape) 2 0) two && cond long (eqb (getD (d .escape) 3 0) c) (eqb (d .length) 3)

@@ -1,20 +1,11 @@
-// Whole designations between cells, each by one search of the table.
+// The designation that stands at a place of a text, by one search of the table: one number, or 0.
 use jp2::Designation;
 ghost use mathlib.Core.Path.{_≡_};
-ghost use mathlib.Core.Bool.{true, cond, _&&_};
-ghost use Prim.Native.Nat.{_<_, _≤_, _+_, _*_, _/_, _%_};
-ghost use lib.ListN.{length, getD};
+ghost use mathlib.Core.Bool.{cond, _&&_};
+ghost use mathlib.Core.List.{[], _∷_};
+ghost use Prim.Native.Nat.{_≤_, _+_, _*_};
 ghost use lib.Dec.{eqb};
-ghost use Rattle.jp2.specs.Rule.{plain, state};
-ghost use Rattle.jp2_read.specs.Escapes.{codeOf, Sends, Found, RowAt, EscapeAt};
-ghost use Rattle.jp2_read.specs.Passing.{Passes};
-
-// Where the designations end, and the sets in G0 and G2 there.
-pub struct Passed {
-    pub at: usize,
-    pub g0: u16,
-    pub g2: u16,
-}
+ghost use Rattle.jp2_read.specs.Escapes.{codeOf, codeAmong, codeAt, g0After, g2After, sends};
 
 // Two bytes in one number, so that they are compared at once.
 fn joined(a: u8, b: u8) -> u32
@@ -35,7 +26,7 @@ fn both(s: bool, t: bool) -> bool
 // What a row sends after ESC starts with two bytes, and then goes on with c, or has just three bytes. Every test is made, for a choice without a
 // branch.
 fn is_sent(d: Designation, two: u32, c: u8, long: bool) -> bool
-    ensures { λ r. ⌜ (r ≡ true → Sends d two c) ⌝ }
+    ensures { λ r. ⌜ r ≡ sends d two c long ⌝ }
 {
     let escape = d.escape;
     let front = joined(escape[1], escape[2]);
@@ -62,9 +53,11 @@ fn chosen(t: bool, a: u32, b: u32) -> u32
     b
 }
 
-// The row of the table that is sent as ESC and these three bytes, or the first two of them; or 0.
+// The row of the table that is sent as ESC and these three bytes, or the first two of them; or 0. Where ( is the second
+// it has four bytes, so that a length is known before the row is.
 fn found(a: u8, b: u8, c: u8, long: bool) -> u32
-    ensures { λ r. ⌜ Found a b c r ⌝ }
+    requires { ⌜ long ≡ eqb b 40 ⌝ }
+    ensures { λ r. ⌜ r ≡ codeAmong 9 (27 ∷ a ∷ b ∷ c ∷ []) ⌝ }
 {
     let two = joined(a, b);
     let table = jp2::all_rows();
@@ -77,40 +70,9 @@ fn found(a: u8, b: u8, c: u8, long: bool) -> u32
     r
 }
 
-// The row that stands at ESC, or 0. Where ( is the third byte it has four, so that a length is known before the row is.
-fn row_at(text: &[u8], at: usize) -> u32
-    requires { ⌜ at < length (now text) ⌝ }
-    ensures { λ r. ⌜ RowAt (now (text .entry)) at r ⌝ }
-{
-    if text.len() < at + 4 {
-        return 0;
-    }
-    let y = text[at + 2];
-    found(text[at + 1], y, text[at + 3], y == 40)
-}
-
-// G0 and G2 after a row, by its number.
-fn g0_after(g0: u16, d: u32) -> u16
-    ensures { λ r. ⌜ r ≡ cond (eqb (d / 8 % 8) 2) g0 (d / 64 % 65536) ⌝ }
-{
-    if d / 8 % 8 == 2 {
-        return g0;
-    }
-    (d / 64 % 65536) as u16
-}
-
-fn g2_after(g2: u16, d: u32) -> u16
-    ensures { λ r. ⌜ r ≡ cond (eqb (d / 8 % 8) 2) (d / 64 % 65536) g2 ⌝ }
-{
-    if d / 8 % 8 == 2 {
-        return (d / 64 % 65536) as u16;
-    }
-    g2
-}
-
-// The row of the designation at a place, or 0.
-fn row_next(text: &[u8], at: usize) -> u32
-    ensures { λ r. ⌜ EscapeAt (now (text .entry)) at r ⌝ }
+// The designation at a place, or 0. Before the last three bytes there is none to be found.
+pub fn row_at(text: &[u8], at: usize) -> u32
+    ensures { λ r. ⌜ r ≡ codeAt (now (text .entry)) at ⌝ }
 {
     if text.len() <= at {
         return 0;
@@ -118,23 +80,28 @@ fn row_next(text: &[u8], at: usize) -> u32
     if text[at] != 27 {
         return 0;
     }
-    row_at(text, at)
+    if text.len() < at + 4 {
+        return 0;
+    }
+    let y = text[at + 2];
+    found(text[at + 1], y, text[at + 3], y == 40)
 }
 
-// Over the designations that come next.
-pub fn pass(text: &[u8], from: usize, first: u16, second: u16) -> Passed
-    requires { ⌜ from ≤ length (now text) ⌝ }
-    ensures { λ r. ⌜ Passes (now (text .entry)) from (state first second plain) (r .at) (state (r .g0) (r .g2) plain) ⌝ }
+// G0 and G2 after it.
+pub fn g0_after(g0: u16, d: u32) -> u16
+    ensures { λ r. ⌜ r ≡ g0After g0 d ⌝ }
 {
-    let mut at = from;
-    let mut g0 = first;
-    let mut g2 = second;
-    let mut row = row_next(text, at);
-    while row != 0 {
-        g0 = g0_after(g0, row);
-        g2 = g2_after(g2, row);
-        at += (row % 8) as usize;
-        row = row_next(text, at);
+    if d / 8 % 8 == 2 {
+        return g0;
     }
-    Passed { at, g0, g2 }
+    (d / 64 % 65536) as u16
+}
+
+pub fn g2_after(g2: u16, d: u32) -> u16
+    ensures { λ r. ⌜ r ≡ g2After g2 d ⌝ }
+{
+    if d / 8 % 8 == 2 {
+        return (d / 64 % 65536) as u16;
+    }
+    g2
 }

@@ -1,5 +1,6 @@
 // Reading ISO-2022-JP-2: a byte and a cell at a time.
-mod escapes;
+pub mod escapes;
+mod past;
 
 use answer::Answer;
 use answer::Refusal;
@@ -521,15 +522,15 @@ fn handed_on(t: Told, at: usize, handed: usize, g0: u16, g2: u16) -> Stepped
 }
 
 // Over the designations that come next, where the reader stands between cells.
-fn passed(text: &[u8], from: usize, st: State) -> escapes::Passed
+fn passed(text: &[u8], from: usize, st: State) -> past::Passed
     requires { ⌜ from ≤ length (now text) ⌝ }
     ensures { λ r. ⌜ Passes (now (text .entry)) from (stateOf st) (r .at) (state (r .g0) (r .g2) (phaseOf (st .phase))) ⌝ }
 {
     let phase = st.phase;
     if let Phase::Plain = phase {
-        return escapes::pass(text, from, st.g0, st.g2);
+        return past::pass(text, from, st.g0, st.g2);
     }
-    escapes::Passed {
+    past::Passed {
         at: from,
         g0: st.g0,
         g2: st.g2,

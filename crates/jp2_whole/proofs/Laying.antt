@@ -19,7 +19,7 @@ use Rattle.reading.proofs.Matches.{Matching}
 use Rattle.reading.proofs.Strides.{Stride, stride-stay, stride-on, left-stride}
 use Rattle.jp2.specs.Rule.{State, jp2}
 use Rattle.jp2_whole.specs.Quick.{Goes, Laying, Same, Matches}
-use Rattle.jp2_whole.proofs.Tokens.{at-rest}
+use Rattle.jp2_read.proofs.Designating.{at-rest}
 
 pub goes-of : {s : List ℕ} {at to : ℕ} {st st' : State} {cs : List ℕ} → Stride jp2 s at st to cs st' → Goes s at st to cs st'
 goes-of a = record { within = a .within; few = a .few; same = a .same }

@@ -1,16 +1,16 @@
 // Whole texts, a token at a time: the loops of this file go over what accepted texts are made of, and stop at anything
 // else. The loops that go byte by byte, which name every fault, read on from there.
-use jp2::Designation;
+use jp2_read::escapes;
 ghost use mathlib.Core.Path.{_≡_};
 ghost use mathlib.Core.Bool.{true, cond, _&&_, _||_, not};
-ghost use mathlib.Core.List.{List, [], map};
-ghost use Prim.Native.Nat.{_<_, _≤_, _+_, _-_, _*_, _/_, _%_};
+ghost use mathlib.Core.List.{[], map};
+ghost use Prim.Native.Nat.{_<_, _≤_, _+_, _-_, _*_};
 ghost use lib.ListN.{length, getD, take, drop};
 ghost use lib.Dec.{eqb, leb, ltb};
 ghost use Rattle.answer.specs.Inner.{Laid};
 ghost use Rattle.jp2.specs.Rule.{graphic, plain, state, cellOf, jp2};
 ghost use Rattle.jp2.specs.Writable.{ascii};
-ghost use Rattle.jp2_whole.specs.Quick.{codeOf, Sends, Found, RowAt, Shift, Pair, Spanned, Plains, Stretch, Pairs};
+ghost use Rattle.jp2_whole.specs.Quick.{Shift, Pair, Spanned, Plains, Stretch, Pairs};
 ghost use Rattle.jp2_whole.specs.Quick.{Goes, Room, Stands, Puts, Same, Matches};
 
 // Where a loop stopped: between cells, after n of them.
@@ -21,13 +21,6 @@ pub struct Reached {
     pub g2: u16,
 }
 
-// Two bytes in one number, so that they are compared at once.
-fn joined(a: u8, b: u8) -> u32
-    ensures { λ r. ⌜ r ≡ a * 256 + b ⌝ }
-{
-    (a as u32) * 256 + (b as u32)
-}
-
 fn both(s: bool, t: bool) -> bool
     ensures { λ r. ⌜ r ≡ (s && t) ⌝ }
 {
@@ -35,82 +28,6 @@ fn both(s: bool, t: bool) -> bool
         return t;
     }
     false
-}
-
-// What a row sends after ESC starts with two bytes, and then goes on with c, or has just three bytes. Every test is
-// made, for a choice without a branch.
-fn is_sent(d: Designation, two: u32, c: u8, long: bool) -> bool
-    ensures { λ r. ⌜ (r ≡ true → Sends d two c) ⌝ }
-{
-    let escape = d.escape;
-    let front = joined(escape[1], escape[2]);
-    if long {
-        return both(front == two, escape[3] == c);
-    }
-    both(front == two, d.length == 3)
-}
-
-// A row in one number, so that the search takes one choice a row: the set's number, where it goes, and the length.
-fn code(d: Designation) -> u32
-    requires { ⌜ d .length ≤ 4 ⌝ }
-    ensures { λ r. ⌜ r ≡ codeOf d ⌝ }
-{
-    ((d.number as u32) * 8 + (d.to as u32)) * 8 + (d.length as u32)
-}
-
-fn chosen(t: bool, a: u32, b: u32) -> u32
-    ensures { λ r. ⌜ r ≡ cond t a b ⌝ }
-{
-    if t {
-        return a;
-    }
-    b
-}
-
-// The row of the table that is sent as ESC and these three bytes, or the first two of them; or 0.
-fn found(a: u8, b: u8, c: u8, long: bool) -> u32
-    ensures { λ r. ⌜ Found a b c r ⌝ }
-{
-    let two = joined(a, b);
-    let table = jp2::all_rows();
-    let mut r: u32 = 0;
-    for i in 0..9 {
-        let d = table[i];
-        let v = code(d);
-        r = chosen(is_sent(d, two, c, long), v, r);
-    }
-    r
-}
-
-// The row that stands at ESC, or 0. Those that have ( as their third byte have four.
-fn row_at(text: &[u8], at: usize) -> u32
-    requires { ⌜ at < length (now text) ⌝ }
-    ensures { λ r. ⌜ RowAt (now (text .entry)) at r ⌝ }
-{
-    if text.len() < at + 4 {
-        return 0;
-    }
-    let y = text[at + 2];
-    found(text[at + 1], y, text[at + 3], y == 40)
-}
-
-// G0 and G2 after a row, by its number.
-fn g0_after(g0: u16, d: u32) -> u16
-    ensures { λ r. ⌜ r ≡ cond (eqb (d / 8 % 8) 2) g0 (d / 64 % 65536) ⌝ }
-{
-    if d / 8 % 8 == 2 {
-        return g0;
-    }
-    (d / 64 % 65536) as u16
-}
-
-fn g2_after(g2: u16, d: u32) -> u16
-    ensures { λ r. ⌜ r ≡ cond (eqb (d / 8 % 8) 2) (d / 64 % 65536) g2 ⌝ }
-{
-    if d / 8 % 8 == 2 {
-        return (d / 64 % 65536) as u16;
-    }
-    g2
 }
 
 // A set of single bytes.
@@ -337,15 +254,15 @@ fn after_row(text: &[u8], from: Reached) -> Reached
     ensures { λ r. ⌜ Goes (now (text .entry)) (from .at) (state (from .g0) (from .g2) plain) (r .at) [] (state (r .g0) (r .g2) plain) ⌝ }
     ensures { λ r. ⌜ r .n ≡ from .n ⌝ }
 {
-    let d = row_at(text, from.at);
+    let d = escapes::row_at(text, from.at);
     if d == 0 {
         return from;
     }
     Reached {
         at: from.at + (d % 8) as usize,
         n: from.n,
-        g0: g0_after(from.g0, d),
-        g2: g2_after(from.g2, d),
+        g0: escapes::g0_after(from.g0, d),
+        g2: escapes::g2_after(from.g2, d),
     }
 }
 

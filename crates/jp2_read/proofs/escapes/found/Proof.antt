@@ -1,17 +1,17 @@
 use Prim.Native.Nat.{_+_, _-_, _*_, _≤_}
 use mathlib.Core.Path.{_≡_, refl, ap, _∙_}
-use mathlib.Core.Logic.{inl, inr}
+use mathlib.Core.List.{[], _∷_}
 use native.Mathlib.Omega.{arith}
+use lib.Dec.{eqb}
 use borrow.Author.Needs.{needs}
-use Rattle.answer.proofs.Below.{cond-case}
 use Rattle.jp2.proofs.Table.{row-most}
-use Rattle.jp2_read.specs.Escapes.{codeOf, Found}
-use Rattle.jp2_read.proofs.Designating.{row-of, row-sent}
+use Rattle.jp2_read.specs.Escapes.{codeOf, codeAmong}
+use Rattle.jp2_read.proofs.Designating.{row-of, found-more}
 use Rattle.jp2_read.proofs.escapes.found.Statement.{statement}
 use Rattle.jp2_read.proofs.escapes.found.Tie as tie
 
 abbrev Inv-loop : tie.InvT-loop
-Inv-loop a b c long two table r₀ i₀ r i = (i ≤ 9) × ((two ≡ a * 256 + b) × Found a b c r)
+Inv-loop a b c long two table r₀ i₀ r i = (i ≤ 9) × ((two ≡ a * 256 + b) × ((long ≡ eqb b 40) × (r ≡ codeAmong i (27 ∷ a ∷ b ∷ c ∷ []))))
 
 abbrev μ-loop : tie.MeasureT-loop
 μ-loop a b c long two table r₀ i₀ r i = 9 - i
@@ -20,7 +20,8 @@ joined-requires : tie.Need-joined-requires Inv-loop μ-loop
 joined-requires c κs = search needs
 
 loop-holds : tie.Need-loop-holds Inv-loop μ-loop
-loop-holds c = (omega arith, (c .before .joined .ensures, inl refl))
+unfolding codeAmong
+loop-holds c = (omega arith, (c .before .joined .ensures, (c .before .before .pre, refl)))
 
 all-rows-requires : tie.Need-all-rows-requires Inv-loop μ-loop
 all-rows-requires c κs = search needs
@@ -50,25 +51,25 @@ loop-again : tie.Need-loop-again Inv-loop μ-loop
 loop-again c =
     let l = c .before .before .before .before in
     let j = l .before .before .before .before in
-    let r = row-of _ (l .before .before .all-rows .ensures) (l .loop-test .taken) in
+    let inv = l .before .loop .inv in
+    let k = l .loop-test .taken in
+    let r = row-of _ (l .before .before .all-rows .ensures) k in
     let a = j .args in (
       omega arith,
       (
-        l .before .loop .inv .1 .0,
-        rw (c .chosen .ensures)
-            (cond-case (Found (a .a) (a .b) (a .c)) (c .before .is-sent .result)
-            (λ e. inr (record {
-              row = l .before .loop .i;
-              known = l .loop-test .taken;
-              code = c .before .before .code .ensures ∙ ap codeOf r;
-              bytes = row-sent (l .loop-test .taken) (j .fits .a .fits) (j .fits .b .fits) (rw (r, l .before .loop .inv .1 .0) at (c .before .is-sent .ensures e));
-            }))
-            (λ e. l .before .loop .inv .1 .1)),
+        inv .1 .0,
+        (
+          inv .1 .1 .0,
+          found-more (a .a) (a .b) (a .c) k (j .fits .b .fits) (c .before .before .code .ensures ∙ ap codeOf r)
+              (rw (r, inv .1 .0, inv .1 .1 .0) at (c .before .is-sent .ensures)) (inv .1 .1 .1) (c .chosen .ensures),
+        ),
       ),
     )
 
 returns : tie.Need-returns Inv-loop μ-loop
-returns c = c .before .loop .inv .1 .1
+returns c =
+    let n : c .before .loop .i ≡ 9 = omega (arith, c .before .loop .inv .0, c .loop-test .left) in
+    rw n at (c .before .loop .inv .1 .1 .1)
 
 pub found-spec : {M : Type 1} → statement M
 found-spec =

@@ -1,8 +1,4 @@
-use mathlib.Core.Path.{sym, _∙_}
-use mathlib.Core.Logic.{inl, inr}
 use borrow.Author.Needs.{needs}
-use borrow.Author.Tests.{eqb-true}
-use Rattle.answer.proofs.Below as below
 use Rattle.jp2_read.proofs.escapes.is_sent.Statement.{statement}
 use Rattle.jp2_read.proofs.escapes.is_sent.Tie as tie
 
@@ -22,19 +18,13 @@ both-requires : tie.Need-both-requires
 both-requires c κs = search needs
 
 returns : tie.Need-returns
-returns c =
-    λ e.
-    let w = below.both _ _ (sym (c .both .ensures) ∙ e) in
-    record { pair = sym (c .before .before .joined .ensures) ∙ eqb-true _ _ (w .0); last = inr (eqb-true _ _ (w .1)) }
+returns c = rw (c .before .if1 .taken, ← c .before .before .joined .ensures) (c .both .ensures)
 
 both-requires-2 : tie.Need-both-requires-2
 both-requires-2 c κs = search needs
 
 returns-2 : tie.Need-returns-2
-returns-2 c =
-    λ e.
-    let w = below.both _ _ (sym (c .both2 .ensures) ∙ e) in
-    record { pair = sym (c .before .before .before .joined .ensures) ∙ eqb-true _ _ (w .0); last = inl (eqb-true _ _ (w .1)) }
+returns-2 c = rw (c .before .before .if1 .left, ← c .before .before .before .joined .ensures) (c .both2 .ensures)
 
 pub is-sent-spec : {M : Type 1} → statement M
 is-sent-spec =

@@ -1,14 +1,30 @@
-use mathlib.Core.Path.{refl}
-use mathlib.Core.Logic.{⊎-elim, inl, inr}
+use native.Mathlib.Omega.{arith}
+use mathlib.Core.Path.{sym, refl, _∙_}
 use borrow.Author.Needs.{needs}
+use Rattle.jp2_read.proofs.Designating.{code-short, code-other, code-here}
 use Rattle.jp2_read.proofs.escapes.row_at.Statement.{statement}
 use Rattle.jp2_read.proofs.escapes.row_at.Tie as tie
 
-add-if1 : tie.Need-add-if1
-add-if1 c = search needs
-
 returns : tie.Need-returns
-returns c = inl refl
+returns c =
+    let a = c .before .before .args in
+    sym (code-short (a .text .now) (a .at) (omega (arith, c .if1 .taken)))
+
+shared-slice-read-if2 : tie.Need-shared-slice-read-if2
+shared-slice-read-if2 c = search needs
+
+returns-2 : tie.Need-returns-2
+returns-2 c =
+    let a = c .before .before .before .before .args in
+    sym (code-other (a .text .now) (a .at) (c .if2 .taken))
+
+add-if3 : tie.Need-add-if3
+add-if3 c = search needs
+
+returns-3 : tie.Need-returns-3
+returns-3 c =
+    let a = c .before .before .before .before .before .args in
+    sym (code-short (a .text .now) (a .at) (c .if3 .taken))
 
 add-y : tie.Need-add-y
 add-y c = search needs
@@ -29,17 +45,23 @@ shared-slice-read-found-2 : tie.Need-shared-slice-read-found-2
 shared-slice-read-found-2 c = search needs
 
 found-requires : tie.Need-found-requires
-found-requires c κs = search needs
+found-requires c κs = refl
 
-returns-2 : tie.Need-returns-2
-returns-2 c = ⊎-elim (λ e. inl e) (λ d. inr (c .before .before .before .before .if1 .left, d)) (c .found .ensures)
+returns-4 : tie.Need-returns-4
+returns-4 c =
+    let e = c .before .before .before .before in
+    let a = e .before .before .before .before .before .args in
+    c .found .ensures ∙ sym (code-here (a .text .now) (a .at) (e .if3 .left) (e .before .if2 .left))
 
 pub row-at-spec : {M : Type 1} → statement M
 row-at-spec =
     tie.close
     (tie.spec
-    add-if1
     returns
+    shared-slice-read-if2
+    returns-2
+    add-if3
+    returns-3
     add-y
     shared-slice-read-y
     add-found
@@ -47,4 +69,4 @@ row-at-spec =
     add-found-2
     shared-slice-read-found-2
     found-requires
-    returns-2)
+    returns-4)
