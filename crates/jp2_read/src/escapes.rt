@@ -23,8 +23,8 @@ fn both(s: bool, t: bool) -> bool
     false
 }
 
-// What a row sends after ESC starts with two bytes, and then goes on with c, or has just three bytes. Every test is made, for a choice without a
-// branch.
+// What a row sends after ESC starts with two bytes, and then goes on with c, or has just three bytes. Every test is
+// made, for a choice without a branch.
 fn is_sent(d: Designation, two: u32, c: u8, long: bool) -> bool
     ensures { λ r. ⌜ r ≡ sends d two c long ⌝ }
 {
@@ -70,7 +70,7 @@ fn found(a: u8, b: u8, c: u8, long: bool) -> u32
     r
 }
 
-// The designation at a place, or 0. Before the last three bytes there is none to be found.
+// The designation at a place, or 0; 0 too where fewer than four bytes are left.
 pub fn row_at(text: &[u8], at: usize) -> u32
     ensures { λ r. ⌜ r ≡ codeAt (now (text .entry)) at ⌝ }
 {
