@@ -98,7 +98,7 @@ typedef struct {
 /* ---- UTF-7 ---- */
 
 /*
- * Reads a text to cells. A text of n bytes has at most n cells. The call needs some UTF7KIB KiB of
+ * Reads a text to cells. A text of n bytes has at most n cells. The call needs some 22 KiB of
  * stack.
  * Accepted: the count of cells, which are in `cells`.
  * Refused: 16 (text); 1, 2, 3, 4; 9 (cells).
@@ -121,7 +121,7 @@ qalithonda_numbers qalithonda_utf7_body_write(const uint32_t *cells, size_t cell
 /* ---- JP-2 ---- */
 
 /*
- * Reads a text to cells. A text of n bytes has at most n cells. The call needs some JP2KIB KiB of
+ * Reads a text to cells. A text of n bytes has at most n cells. The call needs some 50 KiB of
  * stack.
  * Accepted: the count of cells, which are in `cells`.
  * Refused: 16 (text); 1, 3, 5, 6, 7, 8; 9 (cells).
@@ -333,7 +333,7 @@ typedef struct {
 
 /*
  * Open a page on the bytes of a letter as they arrived. Keep these bytes for `save`.
- * Opening UTF-7 needs some UTF7KIB KiB of stack, opening JP-2 some JP2KIB KiB.
+ * Opening UTF-7 needs some 22 KiB of stack, opening JP-2 some 50 KiB.
  * Accepted: the count of cells.
  * Refused: 16 (arrived, text, history); the faults of reading: 1, 2, 3, 4 in UTF-7, and
  * 1, 3, 5, 6, 7, 8 in JP-2; 9 (text).
