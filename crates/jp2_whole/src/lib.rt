@@ -127,6 +127,39 @@ fn through(text: &[u8], cells: &mut [u32], out: &mut [u32]) -> Answer
     }
 }
 
+// Each size is a function, so that LLVM lays their buffers over each other.
+fn through_256(text: &[u8], out: &mut [u32]) -> Answer
+    requires { ⌜ length (now text) ≤ limit ⌝ }
+    ensures { λ r. ⌜ leaves r (now (out .exit)) ≡ readInto jp2 (now (text .entry)) (now (out .entry)) ⌝ }
+{
+    let mut cells = [0u32; 256];
+    through(text, &mut cells, out)
+}
+
+fn through_1024(text: &[u8], out: &mut [u32]) -> Answer
+    requires { ⌜ length (now text) ≤ limit ⌝ }
+    ensures { λ r. ⌜ leaves r (now (out .exit)) ≡ readInto jp2 (now (text .entry)) (now (out .entry)) ⌝ }
+{
+    let mut cells = [0u32; 1024];
+    through(text, &mut cells, out)
+}
+
+fn through_4096(text: &[u8], out: &mut [u32]) -> Answer
+    requires { ⌜ length (now text) ≤ limit ⌝ }
+    ensures { λ r. ⌜ leaves r (now (out .exit)) ≡ readInto jp2 (now (text .entry)) (now (out .entry)) ⌝ }
+{
+    let mut cells = [0u32; 4096];
+    through(text, &mut cells, out)
+}
+
+fn through_12288(text: &[u8], out: &mut [u32]) -> Answer
+    requires { ⌜ length (now text) ≤ limit ⌝ }
+    ensures { λ r. ⌜ leaves r (now (out .exit)) ≡ readInto jp2 (now (text .entry)) (now (out .entry)) ⌝ }
+{
+    let mut cells = [0u32; 12288];
+    through(text, &mut cells, out)
+}
+
 // Reads a text into an output. The buffers are on the stack, 48 KiB at most, whatever the limit; a short text clears a
 // small one only.
 pub fn read(text: &[u8], out: &mut [u32]) -> Answer
@@ -136,19 +169,15 @@ pub fn read(text: &[u8], out: &mut [u32]) -> Answer
         return answer::too_long();
     }
     if text.len() <= 256 {
-        let mut cells = [0u32; 256];
-        return through(text, &mut cells, out);
+        return through_256(text, out);
     }
     if text.len() <= 1024 {
-        let mut cells = [0u32; 1024];
-        return through(text, &mut cells, out);
+        return through_1024(text, out);
     }
     if text.len() <= 4096 {
-        let mut cells = [0u32; 4096];
-        return through(text, &mut cells, out);
+        return through_4096(text, out);
     }
-    let mut cells = [0u32; 12288];
-    through(text, &mut cells, out)
+    through_12288(text, out)
 }
 
 // The text is accepted and reads as the cells. Nothing is lent to be written.

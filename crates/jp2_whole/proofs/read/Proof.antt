@@ -1,8 +1,7 @@
-use mathlib.Core.Path.{_≡_, sym, _∙_}
-use mathlib.Core.Bool.{false}
+use Prim.Native.Nat.{_≤_}
+use mathlib.Core.Path.{sym, _∙_}
 use denote.Ref.{now}
 use lib.ListN.{length}
-use lib.Dec.{ltb}
 use borrow.Author.Needs.{needs}
 use borrow.Author.Tests.{ltb-false}
 use Rattle.answer.specs.Answer.{limit}
@@ -20,14 +19,11 @@ too-long-requires c κs = search needs
 returns : tie.Need-returns
 returns c = into-long jp2-kept _ _ (c .too-long .result) (sym (c .before .before .over-limit .ensures) ∙ c .before .if1 .taken) (c .too-long .ensures)
 
-within : (c : tie.Else1) → ltb limit (length (now (c .before .before .before .before .args .text))) ≡ false
-within c = sym (c .before .over-limit .ensures) ∙ c .if1 .left
+within : (c : tie.Else1) → length (now (c .before .before .before .before .args .text)) ≤ limit
+within c = ltb-false limit _ (sym (c .before .over-limit .ensures) ∙ c .if1 .left)
 
-slice-aggregate-through : tie.Need-slice-aggregate-through
-slice-aggregate-through c = search needs
-
-through-requires : tie.Need-through-requires
-through-requires c κs = ltb-false limit _ (within (c .before .before .before))
+through-256-requires : tie.Need-through-256-requires
+through-256-requires c κs = within (c .before .before)
 
 same-length : tie.Need-same-length
 same-length c = search needs
@@ -35,11 +31,8 @@ same-length c = search needs
 returns-2 : tie.Need-returns-2
 returns-2 c = search needs
 
-slice-aggregate-through-2 : tie.Need-slice-aggregate-through-2
-slice-aggregate-through-2 c = search needs
-
-through-requires-2 : tie.Need-through-requires-2
-through-requires-2 c κs = ltb-false limit _ (within (c .before .before .before .before))
+through-1024-requires : tie.Need-through-1024-requires
+through-1024-requires c κs = within (c .before .before .before)
 
 same-length-2 : tie.Need-same-length-2
 same-length-2 c = search needs
@@ -47,11 +40,8 @@ same-length-2 c = search needs
 returns-3 : tie.Need-returns-3
 returns-3 c = search needs
 
-slice-aggregate-through-3 : tie.Need-slice-aggregate-through-3
-slice-aggregate-through-3 c = search needs
-
-through-requires-3 : tie.Need-through-requires-3
-through-requires-3 c κs = ltb-false limit _ (within (c .before .before .before .before .before))
+through-4096-requires : tie.Need-through-4096-requires
+through-4096-requires c κs = within (c .before .before .before .before)
 
 same-length-3 : tie.Need-same-length-3
 same-length-3 c = search needs
@@ -59,11 +49,8 @@ same-length-3 c = search needs
 returns-4 : tie.Need-returns-4
 returns-4 c = search needs
 
-slice-aggregate-through-4 : tie.Need-slice-aggregate-through-4
-slice-aggregate-through-4 c = search needs
-
-through-requires-4 : tie.Need-through-requires-4
-through-requires-4 c κs = ltb-false limit _ (within (c .before .before .before .before .before))
+through-12288-requires : tie.Need-through-12288-requires
+through-12288-requires c κs = within (c .before .before .before .before)
 
 same-length-4 : tie.Need-same-length-4
 same-length-4 c = search needs
@@ -78,19 +65,15 @@ read-spec =
     over-limit-requires
     too-long-requires
     returns
-    slice-aggregate-through
-    through-requires
+    through-256-requires
     same-length
     returns-2
-    slice-aggregate-through-2
-    through-requires-2
+    through-1024-requires
     same-length-2
     returns-3
-    slice-aggregate-through-3
-    through-requires-3
+    through-4096-requires
     same-length-3
     returns-4
-    slice-aggregate-through-4
-    through-requires-4
+    through-12288-requires
     same-length-4
     returns-5)
