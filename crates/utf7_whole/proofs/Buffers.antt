@@ -8,7 +8,7 @@ use native.Mathlib.Omega.{arith}
 use lib.ListN.{length, getD, take, drop, set, length-append, length-drop, length-take, replicate, List·getD-eq-default}
 use lib.Seq.{slice, length-slice, length-take-le, take-take, take-at, take-add, take-length, ext-getD, getD-set-other}
 use lib.Dec.{ltb, eqb, lit<}
-use borrow.Author.Tests.{eqb-true, ltb-true, ltb-false, lt-ltb, le-ltb}
+use borrow.Author.Tests.{eqb-true, ltb-true, ltb-false, lt-ltb, le-ltb, ne-eqb}
 use Rattle.answer.proofs.Laid.{Laid, laid-none, laid-one, laid-on, laid-front}
 use Rattle.bits.specs.Bits.{leftOver}
 use Rattle.base64.specs.Letters.{valueOf, setB, slash}
@@ -39,52 +39,52 @@ laid-room {cs} {a} {b} {n} l h =
     omega (arith, ap length (l .front), length-append (take n a) cs, length-take-le n a h, length-take (n + length cs) b)
 
 -- letters among 32 bytes, by their values
-ahead-letters : {s : List ℕ} {at m : ℕ} {xs : List ℕ} → Values s at xs → Ahead (λ k. ltb (getD xs k 0) 64) 32 m → Ahead (λ k. setB slash (getD s (at + k) 0)) 32 m
+ahead-letters : {last : ℕ} {s : List ℕ} {at m : ℕ} {xs : List ℕ} → Values last s at xs → Ahead (λ k. ltb (getD xs k 0) 64) 32 m → Ahead (λ k. setB last (getD s (at + k) 0)) 32 m
 unfolding setB
 ahead-letters v p = ahead-as p (λ j h. rw (v .so j h))
 
 -- a run on its way: its letters so far are eights, and their units are laid
-pub record Going (s : List ℕ) (from start : ℕ) (out₀ : List ℕ) (at n : ℕ) (out : List ℕ) : Type 0 where
-  pub letters : Span (setB slash) s from at
+pub record Going (last : ℕ) (s : List ℕ) (from start : ℕ) (out₀ : List ℕ) (at n : ℕ) (out : List ℕ) : Type 0 where
+  pub letters : Span (setB last) s from at
   pub eights : (at - from) % 8 ≡ 0
-  pub laid : Laid (unitsIn s from at) start out₀ out
+  pub laid : Laid (unitsIn last s from at) start out₀ out
   pub count : n ≡ start + (at - from) * 6 / 16
 
-pub going-start : (s : List ℕ) (from start : ℕ) (out : List ℕ) → from ≤ length s → Going s from start out from start out
-going-start s from start out h =
-    let p = span-stay {set = setB slash} {s = s} from h in
+pub going-start : {last : ℕ} (s : List ℕ) (from start : ℕ) (out : List ℕ) → from ≤ length s → Going last s from start out from start out
+going-start {last} s from start out h =
+    let p = span-stay {set = setB last} {s = s} from h in
     let z : from - from ≡ 0 = omega arith in
     record {
       letters = p;
       eights = rw z;
-      laid = rw (no-unit p (omega arith)) (laid-none start out);
+      laid = rw (no-unit last p (omega arith)) (laid-none start out);
       count = rw z (omega arith);
     }
 
 -- no run: the places before it are kept
-pub went-none : {s : List ℕ} {from start : ℕ} {out out' : List ℕ} (n : ℕ) → Laid [] start out out' → Went s from start out out' from n
+pub went-none : {last : ℕ} {s : List ℕ} {from start : ℕ} {out out' : List ℕ} (n : ℕ) → Laid [] start out out' → Went last s from start out out' from n
 went-none n l = record { kept = l; run = λ f. absurd (f refl); laid = λ f. absurd (f refl); count = λ f. absurd (f refl) }
 
-pub going-kept : {s : List ℕ} {from start : ℕ} {out₀ : List ℕ} {at n : ℕ} {out : List ℕ} → Going s from start out₀ at n out → start ≤ length out₀ → Laid [] start out₀ out
+pub going-kept : {last : ℕ} {s : List ℕ} {from start : ℕ} {out₀ : List ℕ} {at n : ℕ} {out : List ℕ} → Going last s from start out₀ at n out → start ≤ length out₀ → Laid [] start out₀ out
 going-kept g h = laid-front 0 (g .laid) h (omega arith)
 
 count-add : (n q m : ℕ) → n + 8 * q * 6 / 16 + m * 6 / 16 ≡ n + (8 * q + m) * 6 / 16
 count-add n q m = omega arith
 
 -- letters more, whose units are laid
-module _ {s : List ℕ} {from start : ℕ} {out₀ : List ℕ} {at n : ℕ} {out : List ℕ} (g : Going s from start out₀ at n out) (h : start ≤ length out₀) where
-  size-so-far : n ≡ start + length (unitsIn s from at)
-  size-so-far = rw (length-units s from at (g .letters .within)) (g .count)
+module _ {last : ℕ} {s : List ℕ} {from start : ℕ} {out₀ : List ℕ} {at n : ℕ} {out : List ℕ} (g : Going last s from start out₀ at n out) (h : start ≤ length out₀) where
+  size-so-far : n ≡ start + length (unitsIn last s from at)
+  size-so-far = rw (length-units last s from at (g .letters .within)) (g .count)
 
   pub going-none : {cs out' : List ℕ} → Laid cs n out out' → Laid [] start out₀ out'
   going-none l = laid-front 0 (laid-on (g .laid) size-so-far l) h (omega arith)
 
-  module _ (m : ℕ) {out' : List ℕ} (here : Span (setB slash) s at (at + m)) (q : Laid (unitsIn s at (at + m)) n out out') where
-    letters-on : Span (setB slash) s from (at + m)
+  module _ (m : ℕ) {out' : List ℕ} (here : Span (setB last) s at (at + m)) (q : Laid (unitsIn last s at (at + m)) n out out') where
+    letters-on : Span (setB last) s from (at + m)
     letters-on = span-on (g .letters) here
 
-    size-on : length (unitsIn s from (at + m)) ≡ (at + m - from) * 6 / 16
-    size-on = length-units s from (at + m) (letters-on .within)
+    size-on : length (unitsIn last s from (at + m)) ≡ (at + m - from) * 6 / 16
+    size-on = length-units last s from (at + m) (letters-on .within)
 
     count-on : n + m * 6 / 16 ≡ start + (at + m - from) * 6 / 16
     count-on =
@@ -93,14 +93,14 @@ module _ {s : List ℕ} {from start : ℕ} {out₀ : List ℕ} {at n : ℕ} {out
         let b : at + m - from ≡ 8 * q + m = omega (arith, g .letters .ordered, a) in
         rw (g .count, a, b) (count-add start q m)
 
-    laid-letters : Laid (unitsIn s from (at + m)) start out₀ out'
+    laid-letters : Laid (unitsIn last s from (at + m)) start out₀ out'
     laid-letters =
         let e : from + 8 * ((at - from) / 8) ≡ at = omega (arith, g .eights, g .letters .ordered) in
-        let u : unitsIn s from (at + m) ≡ unitsIn s from at ++ unitsIn s at (at + m) =
-        rw e at (units-split s from (at + m) ((at - from) / 8) letters-on (omega (arith, g .eights, g .letters .ordered))) in
+        let u : unitsIn last s from (at + m) ≡ unitsIn last s from at ++ unitsIn last s at (at + m) =
+        rw e at (units-split last s from (at + m) ((at - from) / 8) letters-on (omega (arith, g .eights, g .letters .ordered))) in
         rw u (laid-on (g .laid) size-so-far q)
 
-    pub going-more : m ≡ 32 → Going s from start out₀ (at + 32) (n + 12) out'
+    pub going-more : m ≡ 32 → Going last s from start out₀ (at + 32) (n + 12) out'
     going-more e =
         record {
           letters = rw e at letters-on;
@@ -110,73 +110,73 @@ module _ {s : List ℕ} {from start : ℕ} {out₀ : List ℕ} {at n : ℕ} {out
         }
 
     pub going-end :
-        setB slash (getD s (at + m) 0) ≡ false → closes m (valueOf slash (getD s (at + m - 1) 0)) ≡ true → Went s from start out₀ out' (at + m) (n + m * 6 / 16)
+        setB last (getD s (at + m) 0) ≡ false → closes m (valueOf last (getD s (at + m - 1) 0)) ≡ true → Went last s from start out₀ out' (at + m) (n + m * 6 / 16)
     going-end o e =
         let j : (at + m - from) % 8 ≡ m % 8 = omega (arith, g .eights, g .letters .ordered) in
         record {
           kept = going-none q;
           run = λ f.
               let r : from < at + m = omega (arith, letters-on .ordered, f) in
-              record { some = r; letters = letters-on; over = o; ends = ends-closed letters-on r (closed-by (at + m - from) m (valueOf slash (getD s (at + m - 1) 0)) (valueOf slash (getD s (at + m - 1) 0)) j (λ z. refl) e) };
+              record { some = r; letters = letters-on; over = o; ends = ends-closed last letters-on r (closed-by (at + m - from) m (valueOf last (getD s (at + m - 1) 0)) (valueOf last (getD s (at + m - 1) 0)) j (λ z. refl) e) };
           laid = λ f. laid-letters;
           count = λ f. rw size-on count-on;
         }
 
 -- 32 values, of which letters stand in front
-module _ {s : List ℕ} {at : ℕ} {xs : List ℕ} (v : Values s at xs) {m : ℕ} (few : m ≤ 32) where
-  pub closed-in : stops xs m ≡ true → closes m (valueOf slash (getD s (at + m - 1) 0)) ≡ true
+module _ {last : ℕ} {s : List ℕ} {at : ℕ} {xs : List ℕ} (v : Values last s at xs) {m : ℕ} (few : m ≤ 32) where
+  pub closed-in : stops xs m ≡ true → closes m (valueOf last (getD s (at + m - 1) 0)) ≡ true
   closed-in e =
-      closed-by m m (valueOf slash (getD s (at + m - 1) 0)) (getD xs (m - 1) 0) refl
+      closed-by m m (valueOf last (getD s (at + m - 1) 0)) (getD xs (m - 1) 0) refl
       (λ z.
       let q : at + (m - 1) ≡ at + m - 1 = omega arith in
       rw q at (v .so (m - 1) (omega arith)))
       e
 
-  pub units-in : Span (setB slash) s at (at + m) → take (m * 6 / 16) (unitsOf 4 (lows xs)) ≡ unitsIn s at (at + m)
+  pub units-in : Span (setB last) s at (at + m) → take (m * 6 / 16) (unitsOf 4 (lows xs)) ≡ unitsIn last s at (at + m)
   units-in here =
       let k : at + m ≤ at + 32 = omega arith in
-      let e : length (unitsIn s at (at + m)) ≡ m * 6 / 16 = length-units s at (at + m) (here .within) ∙ ap (λ (l : ℕ). l * 6 / 16) (omega arith) in
+      let e : length (unitsIn last s at (at + m)) ≡ m * 6 / 16 = length-units last s at (at + m) (here .within) ∙ ap (λ (l : ℕ). l * 6 / 16) (omega arith) in
       rw e at (units-front 4 here k (known here k v))
 
-  pub laid-in : {n : ℕ} {out out' : List ℕ} → Span (setB slash) s at (at + m) → n ≤ length out → Laid (unitsOf 4 (lows xs)) n out out' → Laid (unitsIn s at (at + m)) n out out'
+  pub laid-in : {n : ℕ} {out out' : List ℕ} → Span (setB last) s at (at + m) → n ≤ length out → Laid (unitsOf 4 (lows xs)) n out out' → Laid (unitsIn last s at (at + m)) n out out'
   laid-in here k l = rw (units-in here) at (laid-front (m * 6 / 16) l k (omega arith))
 
 -- 32 values more, and their units laid, of which those count that the letters in front hold
-module _ {s : List ℕ} {from start : ℕ} {out₀ : List ℕ} {at n : ℕ} {out : List ℕ} (g : Going s from start out₀ at n out) (h : start ≤ length out₀) (k : n ≤ length out) (w : at + 32 ≤ length s) where
-  module _ (xs : List ℕ) {out' : List ℕ} (l : Laid (unitsOf 4 (lows xs)) n out out') (v : Values s at xs) {m : ℕ} (p : Ahead (λ k. ltb (getD xs k 0) 64) 32 m) where
-    here-in : Span (setB slash) s at (at + m)
-    here-in = span-ahead (setB slash) (ahead-letters v p) w
+module _ {last : ℕ} {s : List ℕ} {from start : ℕ} {out₀ : List ℕ} {at n : ℕ} {out : List ℕ} (g : Going last s from start out₀ at n out) (h : start ≤ length out₀) (k : n ≤ length out) (w : at + 32 ≤ length s) where
+  module _ (xs : List ℕ) {out' : List ℕ} (l : Laid (unitsOf 4 (lows xs)) n out out') (v : Values last s at xs) {m : ℕ} (p : Ahead (λ k. ltb (getD xs k 0) 64) 32 m) where
+    here-in : Span (setB last) s at (at + m)
+    here-in = span-ahead (setB last) (ahead-letters v p) w
 
-    pub going-on : m ≡ 32 → Going s from start out₀ (at + 32) (n + 12) out'
+    pub going-on : m ≡ 32 → Going last s from start out₀ (at + 32) (n + 12) out'
     going-on e = going-more g h m here-in (laid-in v (p .upto) here-in k l) e
 
-    pub going-went : m < 32 → stops xs m ≡ true → Went s from start out₀ out' (at + m) (n + m * 6 / 16)
+    pub going-went : m < 32 → stops xs m ≡ true → Went last s from start out₀ out' (at + m) (n + m * 6 / 16)
     going-went z e = going-end g h m here-in (laid-in v (p .upto) here-in k l) (ahead-letters v p .over z) (closed-in v (p .upto) e)
 
 -- the last letters
 pub going-last :
-    {s : List ℕ} {from start : ℕ} {out₀ : List ℕ} {at n : ℕ} {out out' : List ℕ} {end m : ℕ} → Going s from start out₀ at n out → start ≤ length out₀ →
-    Last s from at n out out' end m → Went s from start out₀ out' end m
-going-last {s} {from} {start} {out₀} {at} {n} {out} {out'} {end} {m} g h l =
+    {last : ℕ} {s : List ℕ} {from start : ℕ} {out₀ : List ℕ} {at n : ℕ} {out out' : List ℕ} {end m : ℕ} → Going last s from start out₀ at n out → start ≤ length out₀ →
+    Last last s from at n out out' end m → Went last s from start out₀ out' end m
+going-last {last} {s} {from} {start} {out₀} {at} {n} {out} {out'} {end} {m} g h l =
     record { kept = going-none g h (l .kept); run = λ f. went f .run f; laid = λ f. went f .laid f; count = λ f. rw (l .count f) (went f .count f) }
   where
-    went : (end ≡ from → ⊥) → Went s from start out₀ out' end (n + (end - at) * 6 / 16)
+    went : (end ≡ from → ⊥) → Went last s from start out₀ out' end (n + (end - at) * 6 / 16)
     went f =
         let e : at + (end - at) ≡ end = omega (arith, l .letters f .letters .ordered) in
         rw e at (going-end g h (end - at) {out' = out'} (rw e (l .letters f .letters)) (rw e (l .laid f)) (rw e (l .letters f .over)) (rw e (l .closed f)))
 
-pub last-none : {s : List ℕ} {from : ℕ} (at n : ℕ) (out : List ℕ) (m : ℕ) → Last s from at n out out from m
+pub last-none : {last : ℕ} {s : List ℕ} {from : ℕ} (at n : ℕ) (out : List ℕ) (m : ℕ) → Last last s from at n out out from m
 last-none at n out m =
     record { kept = laid-none n out; letters = λ f. absurd (f refl); closed = λ f. absurd (f refl); laid = λ f. absurd (f refl); count = λ f. absurd (f refl) }
 
 pub last-done :
-    {s : List ℕ} (from : ℕ) {at end n u : ℕ} {out out' xs ys : List ℕ} → Letters s at end → end - at ≤ 31 → Values s at xs → stops xs (end - at) ≡ true → u ≡ (end - at) * 6 / 16 →
-    ys ≡ unitsOf 4 (lows xs) → Laid (take u ys) n out out' → n ≤ length out → Last s from at n out out' end (n + u)
-last-done {s} from {at} {end} {n} {u} {out} {out'} {xs} {ys} l few v e q y d h =
+    {last : ℕ} {s : List ℕ} (from : ℕ) {at end n u : ℕ} {out out' xs ys : List ℕ} → Letters last s at end → end - at ≤ 31 → Values last s at xs → stops xs (end - at) ≡ true → u ≡ (end - at) * 6 / 16 →
+    ys ≡ unitsOf 4 (lows xs) → Laid (take u ys) n out out' → n ≤ length out → Last last s from at n out out' end (n + u)
+last-done {last} {s} from {at} {end} {n} {u} {out} {out'} {xs} {ys} l few v e q y d h =
     let z : at + (end - at) ≡ end = omega (arith, l .letters .ordered) in
     let k : end - at ≤ 32 = omega arith in
-    let here : Span (setB slash) s at (at + (end - at)) = rw z (l .letters) in
-    let t : take u ys ≡ unitsIn s at end = rw (q, y, units-in v k here, z) in
+    let here : Span (setB last) s at (at + (end - at)) = rw z (l .letters) in
+    let t : take u ys ≡ unitsIn last s at end = rw (q, y, units-in v k here, z) in
     record {
       kept = laid-front 0 d h (omega arith);
       letters = λ _. l;
@@ -186,8 +186,8 @@ last-done {s} from {at} {end} {n} {u} {out} {out'} {xs} {ys} l few v e q y d h =
     }
 
 pub one-made :
-    {s : List ℕ} {from a b c u : ℕ} → a ≡ valueOf slash (getD s from 0) → b ≡ valueOf slash (getD s (from + 1) 0) → c ≡ valueOf slash (getD s (from + 2) 0) →
-    (a < 64) × (b < 64) × (c < 64) × (getD s (from + 3) 0 ≡ 45) × (c % 4 ≡ 0) → u ≡ (a * 64 + b) * 16 + c / 4 → One s from u
+    {last : ℕ} {s : List ℕ} {from a b c u : ℕ} → a ≡ valueOf last (getD s from 0) → b ≡ valueOf last (getD s (from + 1) 0) → c ≡ valueOf last (getD s (from + 2) 0) →
+    (a < 64) × (b < 64) × (c < 64) × (getD s (from + 3) 0 ≡ 45) × (c % 4 ≡ 0) → u ≡ (a * 64 + b) * 16 + c / 4 → One last s from u
 unfolding setB
 one-made e f g o q =
     record {
@@ -200,23 +200,23 @@ one-made e f g o q =
     }
 
 -- three letters and '-'
-dash-letter : setB slash 45 ≡ false
+pub slash-dash : setB slash 45 ≡ false
 unfolding setB valueOf
-dash-letter = refl
+slash-dash = refl
 
-module _ {s : List ℕ} {from unit : ℕ} (o : One s from unit) where
-  pub one-run : Run s from (from + 3)
-  one-run = three-run s from (some-at s (from + 3) (omega (arith, o .over))) (o .first) (o .second) (o .third) (rw (o .over) dash-letter) (o .ends)
+module _ {last : ℕ} (dash : setB last 45 ≡ false) {s : List ℕ} {from unit : ℕ} (o : One last s from unit) where
+  pub one-run : Run last s from (from + 3)
+  one-run = three-run s from (some-at s (from + 3) (omega (arith, o .over))) (o .first) (o .second) (o .third) (rw (o .over) dash) (o .ends)
 
-  pub one-units : unitsIn s from (from + 3) ≡ unit ∷ []
+  pub one-units : unitsIn last s from (from + 3) ≡ unit ∷ []
   one-units =
       let z : from + 0 ≡ from = omega arith in
-      let x : Known s from (from + 3) (λ k. valueOf slash (getD s (from + k) 0)) = record { so = λ k l. refl } in
+      let x : Known last s from (from + 3) (λ k. valueOf last (getD s (from + k) 0)) = record { so = λ k l. refl } in
       let e = one-unit (one-run .letters) x (omega arith) (omega arith) in
       rw (o .so) (rw z at e)
 
-  pub one-past : past s (from + 3) ≡ from + 4
-  one-past = rw (o .over) (omega arith)
+pub one-past : {last : ℕ} {s : List ℕ} {from unit : ℕ} → One last s from unit → past s (from + 3) ≡ from + 4
+one-past o = rw (o .over) (omega arith)
 
 -- slices side by side
 slice-join : (s : List ℕ) (from at to : ℕ) → from ≤ at → at ≤ to → to ≤ length s → slice from to s ≡ slice from at s ++ slice at to s
@@ -271,25 +271,29 @@ zero-direct : direct 0 ≡ false
 unfolding direct setD setO alphanumeric
 zero-direct = refl
 
-pub zero-letter : setB slash 0 ≡ false
+slash-zero : setB slash 0 ≡ false
 unfolding setB valueOf
-zero-letter = refl
+slash-zero = refl
 
 -- the values of the bytes up to the text's end, and 64
-zero-value : valueOf slash 0 ≡ 64
+zero-value : (last : ℕ) → 0 < last → valueOf last 0 ≡ 64
 unfolding valueOf
-zero-value = refl
+zero-value last h = rw (ne-eqb 0 last (omega arith))
+
+pub zero-letter : (last : ℕ) → 0 < last → setB last 0 ≡ false
+unfolding setB
+zero-letter last h = rw (zero-value last h)
 
 pub near-done :
-    {s : List ℕ} {at k : ℕ} (xs : List ℕ) → ((j : ℕ) → j < k → getD xs j 0 ≡ valueOf slash (getD s (at + j) 0)) → ((j : ℕ) → k ≤ j → j < 32 → getD xs j 0 ≡ 64) →
-    length s ≤ at + k → Values s at xs
-near-done {s} {at} {k} xs f g h = record { so = λ j l. by j l (ltb j k) refl }
+    {last : ℕ} {s : List ℕ} {at k : ℕ} (xs : List ℕ) → ((j : ℕ) → j < k → getD xs j 0 ≡ valueOf last (getD s (at + j) 0)) → ((j : ℕ) → k ≤ j → j < 32 → getD xs j 0 ≡ 64) →
+    length s ≤ at + k → 0 < last → Values last s at xs
+near-done {last} {s} {at} {k} xs f g h o = record { so = λ j l. by j l (ltb j k) refl }
   where
-    by : (j : ℕ) → j < 32 → (t : Bool) → ltb j k ≡ t → getD xs j 0 ≡ valueOf slash (getD s (at + j) 0)
+    by : (j : ℕ) → j < 32 → (t : Bool) → ltb j k ≡ t → getD xs j 0 ≡ valueOf last (getD s (at + j) 0)
     by j l true e = f j (ltb-true j k e)
     by j l false e =
         let z : getD s (at + j) 0 ≡ 0 = List·getD-eq-default s 0 (omega (arith, ltb-false j k e)) in
-        g j (ltb-false j k e) l ∙ rw (z, zero-value)
+        g j (ltb-false j k e) l ∙ rw (z, zero-value last o)
 
 module _ {s room : List ℕ} (p : Padded s room) where
   -- bytes of a set that has no 0
@@ -311,9 +315,9 @@ module _ {s room : List ℕ} (p : Padded s room) where
       let m : from + i < to = omega (arith, length-slice from to room k) in
       slice-at room from to i m ∙ p .same (from + i) ∙ sym (slice-at s from to i m))
 
-  run-padded : {from to : ℕ} → Run room from to → from ≤ length s → Run s from to
+  run-padded : {from to : ℕ} → Run slash room from to → from ≤ length s → Run slash s from to
   run-padded {from} {to} r h =
-      let q = span-padded (setB slash) zero-letter (r .letters) h in
+      let q = span-padded (setB slash) slash-zero (r .letters) h in
       record {
         some = r .some;
         letters = q;
@@ -375,7 +379,7 @@ module _ {s : List ℕ} {at n : ℕ} {a : List ℕ} (f : Filled s at outside n a
         filled-stride f (sign-stride (some-at s (at + 1) (omega arith)) sign-here e) (laid-one n 43 a h)
 
     pub filled-run :
-        {to m : ℕ} {b : List ℕ} → Run room (at + 1) to → Laid (unitsIn room (at + 1) to) n a b → m ≡ n + length (unitsIn room (at + 1) to) →
+        {to m : ℕ} {b : List ℕ} → Run slash room (at + 1) to → Laid (unitsIn slash room (at + 1) to) n a b → m ≡ n + length (unitsIn slash room (at + 1) to) →
         Filled s (past room to) outside m b
     filled-run {to} r l q =
         let h : at < length s = some-at s at (omega (arith, sign-here)) in
@@ -383,10 +387,10 @@ module _ {s : List ℕ} {at n : ℕ} {a : List ℕ} (f : Filled s at outside n a
         let e = slice-padded p (at + 1) to (d .letters .within) (r .letters .within) in
         rw (q, e, p .same to) (filled-stride f (run-stride sign-here d) (rw e at l))
 
-    pub filled-one : {unit : ℕ} → n < length a → One room (at + 1) unit → Filled s (at + 5) outside (n + 1) (set a n unit)
+    pub filled-one : {unit : ℕ} → n < length a → One slash room (at + 1) unit → Filled s (at + 5) outside (n + 1) (set a n unit)
     filled-one {unit} g o =
         let q : past room (at + 1 + 3) ≡ at + 5 = one-past o ∙ omega arith in
-        let f : Filled s (past room (at + 1 + 3)) outside (n + 1) (set a n unit) = filled-run (one-run o) (rw (one-units o) (laid-one n unit a g)) (rw (one-units o)) in
+        let f : Filled s (past room (at + 1 + 3)) outside (n + 1) (set a n unit) = filled-run (one-run slash-dash o) (rw (one-units slash-dash o) (laid-one n unit a g)) (rw (one-units slash-dash o)) in
         rw q at f
 
 pub filled-start : (s a : List ℕ) → Filled s 0 outside 0 a

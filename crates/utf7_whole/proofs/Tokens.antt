@@ -4,7 +4,7 @@ use mathlib.Core.Path.{_≡_, refl, sym, ap, _∙_}
 use mathlib.Core.Bool.{Bool, true, false, cond, _&&_, _||_, not, false≢true}
 use mathlib.Core.List.{List, [], _∷_, _++_, append-assoc, append-nil, map}
 use native.Mathlib.Omega.{arith}
-use native.Mathlib.Nat.{mod-eq-of-lt}
+use native.Mathlib.Nat.{mod-eq-of-lt, add-zero}
 use native.Mathlib.Numerals.{add-one}
 use lib.ListN.{length, getD, take, drop, set, length-append, length-map, take-append-drop, drop-of-length-le, List·getD-eq-default}
 use lib.Seq.{slice, slice-cons, length-slice, take-suc, getD-take, getD-drop, drop-cons, drop-append-add, drop-append-le, length-take-le, getD-set-same, getD-set-other}
@@ -12,7 +12,7 @@ use lib.Pow.{pow-pos}
 use lib.Dec.{leb, ltb, eqb, lit<}
 use borrow.Author.Tests.{ltb-true, ltb-false, eqb-true, eqb-false, leb-true, leb-false, lt-ltb, le-ltb}
 use Rattle.answer.specs.Lists.{Each}
-use Rattle.answer.proofs.Below.{cond-case, allBelow, below, same, same-eq}
+use Rattle.answer.proofs.Below.{cond-case}
 use Rattle.bits.specs.Bits.{bits, allZero, bitsOf, full, leftOver}
 use Rattle.bits.proofs.Bits.{length-bits, number-bits, bits-append, parted, bits-drop}
 use Rattle.bits.proofs.Groups.{length-bitsOf, length-groups, full-more, full-few}
@@ -28,19 +28,14 @@ use Rattle.utf7.proofs.Round.{whole-run, self-walk, close-run, piece-walk}
 use Rattle.utf7_whole.specs.Quick.{Span, Ahead, Run, Values, bitsIn, unitsIn, closes, past, firstOf, secondOf, thirdOf, threeOf, unitsOf, lows}
 use Rattle.utf7_read.proofs.Moves.{may-end}
 
--- the rule of the letters, one kind after another, by computing it
-abbrev pub worth : ℕ → ℕ
-worth b =
-    cond (leb 47 b && leb b 47) (b - 47 + 63)
-    (cond (leb 43 b && leb b 43) (b - 43 + 62)
-    (cond (leb 48 b && leb b 57) (b - 48 + 52) (cond (leb 97 b && leb b 122) (b - 97 + 26) (cond (leb 65 b && leb b 90) (b - 65 + 0) 64))))
-
-value-tests : allBelow (λ k. eqb (worth k) (valueOf slash k)) 256 ≡ true
-unfolding allBelow valueOf
-value-tests = refl
-
-pub value-test : (b : ℕ) → b < 256 → worth b ≡ valueOf slash b
-value-test b h = eqb-true _ _ (below (λ k. eqb (worth k) (valueOf slash k)) 256 value-tests b h)
+-- the rule of the letters, one kind before another, as the code puts it
+pub by-rule :
+    (last b : ℕ) →
+    cond (leb 65 b && leb b 90) (b - 65 + 0)
+    (cond (leb 97 b && leb b 122) (b - 97 + 26) (cond (leb 48 b && leb b 57) (b - 48 + 52) (cond (eqb b 43) 62 (cond (eqb b last) 63 64))))
+    ≡ valueOf last b
+unfolding valueOf
+by-rule last b = rw (add-zero (b - 65))
 
 -- how far a test holds in a block: nothing is looked at, and one place more
 module _ {test : ℕ → Bool} where
@@ -185,11 +180,11 @@ ended-at s to f o n m false l = rw (drop-of-length-le s (ltb-false to (length s)
 
 -- the bits that a run's letters leave over
 abbrev leftIn : List ℕ → ℕ → ℕ → List Bool
-leftIn s from to = leftOver 16 (bitsIn s from to)
+leftIn s from to = leftOver 16 (bitsIn slash s from to)
 
 -- a run: its letters, and what stands behind them
-module _ {s : List ℕ} {at to : ℕ} (sign : getD s at 0 ≡ 43) (r : Run s (at + 1) to) where
-  letters-stride : Stride utf7 s at outside to (unitsIn s (at + 1) to) (run (leftIn s (at + 1) to))
+module _ {s : List ℕ} {at to : ℕ} (sign : getD s at 0 ≡ 43) (r : Run slash s (at + 1) to) where
+  letters-stride : Stride utf7 s at outside to (unitsIn slash s (at + 1) to) (run (leftIn s (at + 1) to))
   letters-stride =
       let ls = slice (at + 1) to s in
       let w = r .letters .within in
@@ -199,24 +194,24 @@ module _ {s : List ℕ} {at to : ℕ} (sign : getD s at 0 ≡ 43) (r : Run s (at
       stride-to (stride-walk (drop to s) (whole-run ls (omega (arith, r .some)) (span-each (r .letters))) d (omega (arith, r .some, w)))
       (omega (arith, r .some))
 
-  ends-at : (t : Bool) → eqb (getD s to 0) 45 ≡ t → Stride utf7 s at outside (cond t (to + 1) to) (unitsIn s (at + 1) to) outside
+  ends-at : (t : Bool) → eqb (getD s to 0) 45 ≡ t → Stride utf7 s at outside (cond t (to + 1) to) (unitsIn slash s (at + 1) to) outside
   ends-at true e =
       let q = eqb-true (getD s to 0) 45 e in
       let c : byteDoes (run (leftIn s (at + 1) to)) (getD s to 0) ≡ go outside = rw q (close-run _ (r .ends)) in
       rw append-nil at (stride-on letters-stride (stride-go (some-at s to (omega arith)) c))
   ends-at false e = stride-as letters-stride (ended-at s to _ (r .over) e (r .ends) (ltb to (length s)) refl)
 
-  pub run-stride : Stride utf7 s at outside (past s to) (unitsIn s (at + 1) to) outside
+  pub run-stride : Stride utf7 s at outside (past s to) (unitsIn slash s (at + 1) to) outside
   run-stride = ends-at (eqb (getD s to 0) 45) refl
 
 pub past-on : (s : List ℕ) (to : ℕ) → to ≤ past s to
 past-on s to = cond-case (λ (k : ℕ). to ≤ k) (eqb (getD s to 0) 45) (λ _. omega arith) (λ _. omega arith)
 
 -- how many units letters hold
-pub length-units : (s : List ℕ) (from to : ℕ) → to ≤ length s → length (unitsIn s from to) ≡ (to - from) * 6 / 16
+pub length-units : (last : ℕ) (s : List ℕ) (from to : ℕ) → to ≤ length s → length (unitsIn last s from to) ≡ (to - from) * 6 / 16
 unfolding full
-length-units s from to h =
-    length-groups 16 _ (bitsIn s from to) ∙ simp (length-bitsOf, length-map, length-slice from to s h)
+length-units last s from to h =
+    length-groups 16 _ (bitsIn last s from to) ∙ simp (length-bitsOf, length-map, length-slice from to s h)
 
 -- bits behind bits, before others
 join : (m n x y : ℕ) (rest : List Bool) → x < 2 ^ m → y < 2 ^ n → bits m x ++ (bits n y ++ rest) ≡ bits (m + n) (x * 2 ^ n + y) ++ rest
@@ -258,83 +253,83 @@ module _ (f g h : ℕ) (rest : List Bool) (hg : g < 64) (hh : h < 64) where
       ∙ join 10 6 (f % 16 * 64 + g) h rest (omega arith) hh
 
 -- the value of a letter
-letter-low : (b : ℕ) → setB slash b ≡ true → valueOf slash b < 64
+letter-low : (last b : ℕ) → setB last b ≡ true → valueOf last b < 64
 unfolding setB
-letter-low b h = ltb-true (valueOf slash b) 64 h
+letter-low last b h = ltb-true (valueOf last b) 64 h
 
 -- the values of the letters from one place to another
-pub record Known (s : List ℕ) (at to : ℕ) (x : ℕ → ℕ) : Type 0 where
-  pub so : (k : ℕ) → at + k < to → x k ≡ valueOf slash (getD s (at + k) 0)
+pub record Known (last : ℕ) (s : List ℕ) (at to : ℕ) (x : ℕ → ℕ) : Type 0 where
+  pub so : (k : ℕ) → at + k < to → x k ≡ valueOf last (getD s (at + k) 0)
 
-pub known : {s : List ℕ} {at to : ℕ} {xs : List ℕ} → Span (setB slash) s at to → to ≤ at + 32 → Values s at xs → Known s at to (lows xs)
-known {s} {at} {to} {xs} p h v =
+pub known : {last : ℕ} {s : List ℕ} {at to : ℕ} {xs : List ℕ} → Span (setB last) s at to → to ≤ at + 32 → Values last s at xs → Known last s at to (lows xs)
+known {last} {s} {at} {to} {xs} p h v =
     record {
       so = λ k l.
           let e = v .so k (omega arith) in
-          let b : valueOf slash (getD s (at + k) 0) < 64 = letter-low _ (p .each (at + k) (omega arith) l) in
+          let b : valueOf last (getD s (at + k) 0) < 64 = letter-low last _ (p .each (at + k) (omega arith) l) in
           rw e (mod-eq-of-lt b);
     }
 
 -- letters from a place on, whose values are known
-module _ {s : List ℕ} {at to : ℕ} (p : Span (setB slash) s at to) {x : ℕ → ℕ} (v : Known s at to x) where
+module _ {last : ℕ} {s : List ℕ} {at to : ℕ} (p : Span (setB last) s at to) {x : ℕ → ℕ} (v : Known last s at to x) where
   value-low : (k : ℕ) → at + k < to → x k < 64
-  value-low k l = rw (v .so k l) (letter-low _ (p .each (at + k) (omega arith) l))
+  value-low k l = rw (v .so k l) (letter-low last _ (p .each (at + k) (omega arith) l))
 
-  bits-step : (k j : ℕ) → k + 1 ≡ j → at + k < to → bitsIn s (at + k) to ≡ bits 6 (x k) ++ bitsIn s (at + j) to
+  bits-step : (k j : ℕ) → k + 1 ≡ j → at + k < to → bitsIn last s (at + k) to ≡ bits 6 (x k) ++ bitsIn last s (at + j) to
   unfolding bitsOf
   bits-step k j e l =
       let q : suc (at + k) ≡ at + j = omega arith in
       let c : slice (at + k) to s ≡ getD s (at + k) 0 ∷ slice (at + j) to s = rw q at (slice-cons (at + k) to s 0 l (p .within)) in
-      ap (λ (r : List ℕ). bitsOf 6 (map (valueOf slash) r)) c ∙ ap (λ (v : ℕ). bits 6 v ++ bitsIn s (at + j) to) (sym (v .so k l))
+      ap (λ (r : List ℕ). bitsOf 6 (map (valueOf last) r)) c ∙ ap (λ (v : ℕ). bits 6 v ++ bitsIn last s (at + j) to) (sym (v .so k l))
 
-  bits-start : at < to → bitsIn s at to ≡ bits 6 (x 0) ++ bitsIn s (at + 1) to
+  bits-start : at < to → bitsIn last s at to ≡ bits 6 (x 0) ++ bitsIn last s (at + 1) to
   bits-start l =
       let z : at + 0 ≡ at = omega arith in
       rw z at (bits-step 0 1 refl (omega arith))
 
   module _ (h : at + 3 ≤ to) where
-    after-one : unitsIn s at to ≡ firstOf x ∷ full 16 (bits 2 (x 2 % 4) ++ bitsIn s (at + 3) to)
+    after-one : unitsIn last s at to ≡ firstOf x ∷ full 16 (bits 2 (x 2 % 4) ++ bitsIn last s (at + 3) to)
     after-one =
         let a = value-low 0 (omega arith) in
         let b = value-low 1 (omega arith) in
         let c = value-low 2 (omega arith) in
-        rw (bits-start (omega arith), bits-step 1 2 refl (omega arith), bits-step 2 3 refl (omega arith), first-bits (x 0) (x 1) (x 2) (bitsIn s (at + 3) to) a b c)
+        rw (bits-start (omega arith), bits-step 1 2 refl (omega arith), bits-step 2 3 refl (omega arith), first-bits (x 0) (x 1) (x 2) (bitsIn last s (at + 3) to) a b c)
         (unit-first (firstOf x) _ (omega arith))
 
-    pub one-unit : to < at + 6 → unitsIn s at to ≡ firstOf x ∷ []
+    pub one-unit : to < at + 6 → unitsIn last s at to ≡ firstOf x ∷ []
     one-unit k =
-        let f : full 16 (bits 2 (x 2 % 4) ++ bitsIn s (at + 3) to) ≡ [] =
+        let f : full 16 (bits 2 (x 2 % 4) ++ bitsIn last s (at + 3) to) ≡ [] =
         full-few 16 (lit< tt) _ (simp (length-append, length-bits, length-bitsOf, length-map, length-slice (at + 3) to s (p .within)) (omega arith)) in
         after-one ∙ rw f
 
     module _ (h6 : at + 6 ≤ to) where
-      after-two : unitsIn s at to ≡ firstOf x ∷ secondOf x ∷ full 16 (bits 4 (x 5 % 16) ++ bitsIn s (at + 6) to)
+      after-two : unitsIn last s at to ≡ firstOf x ∷ secondOf x ∷ full 16 (bits 4 (x 5 % 16) ++ bitsIn last s (at + 6) to)
       after-two =
           let d = value-low 3 (omega arith) in
           let e = value-low 4 (omega arith) in
           let f = value-low 5 (omega arith) in
-          let q : full 16 (bits 2 (x 2 % 4) ++ bitsIn s (at + 3) to) ≡ secondOf x ∷ full 16 (bits 4 (x 5 % 16) ++ bitsIn s (at + 6) to) =
-          rw (bits-step 3 4 refl (omega arith), bits-step 4 5 refl (omega arith), bits-step 5 6 refl (omega arith), second-bits (x 2) (x 3) (x 4) (x 5) (bitsIn s (at + 6) to) d e f)
+          let q : full 16 (bits 2 (x 2 % 4) ++ bitsIn last s (at + 3) to) ≡ secondOf x ∷ full 16 (bits 4 (x 5 % 16) ++ bitsIn last s (at + 6) to) =
+          rw (bits-step 3 4 refl (omega arith), bits-step 4 5 refl (omega arith), bits-step 5 6 refl (omega arith), second-bits (x 2) (x 3) (x 4) (x 5) (bitsIn last s (at + 6) to) d e f)
           (unit-first (secondOf x) _ (omega arith)) in
           after-one ∙ rw q
 
-      pub two-units : to < at + 8 → unitsIn s at to ≡ firstOf x ∷ secondOf x ∷ []
+      pub two-units : to < at + 8 → unitsIn last s at to ≡ firstOf x ∷ secondOf x ∷ []
       two-units k =
-          let f : full 16 (bits 4 (x 5 % 16) ++ bitsIn s (at + 6) to) ≡ [] =
+          let f : full 16 (bits 4 (x 5 % 16) ++ bitsIn last s (at + 6) to) ≡ [] =
           full-few 16 (lit< tt) _ (simp (length-append, length-bits, length-bitsOf, length-map, length-slice (at + 6) to s (p .within)) (omega arith)) in
           after-two ∙ rw f
 
-      pub three-units : at + 8 ≤ to → unitsIn s at to ≡ firstOf x ∷ secondOf x ∷ thirdOf x ∷ unitsIn s (at + 8) to
+      pub three-units : at + 8 ≤ to → unitsIn last s at to ≡ firstOf x ∷ secondOf x ∷ thirdOf x ∷ unitsIn last s (at + 8) to
       three-units h8 =
           let g = value-low 6 (omega arith) in
           let h = value-low 7 (omega arith) in
-          let q : full 16 (bits 4 (x 5 % 16) ++ bitsIn s (at + 6) to) ≡ thirdOf x ∷ unitsIn s (at + 8) to =
-          rw (bits-step 6 7 refl (omega arith), bits-step 7 8 refl (omega arith), third-bits (x 5) (x 6) (x 7) (bitsIn s (at + 8) to) g h)
+          let q : full 16 (bits 4 (x 5 % 16) ++ bitsIn last s (at + 6) to) ≡ thirdOf x ∷ unitsIn last s (at + 8) to =
+          rw (bits-step 6 7 refl (omega arith), bits-step 7 8 refl (omega arith), third-bits (x 5) (x 6) (x 7) (bitsIn last s (at + 8) to) g h)
           (unit-first (thirdOf x) _ (omega arith)) in
           after-two ∙ rw q
 
-pub no-unit : {s : List ℕ} {at to : ℕ} → Span (setB slash) s at to → to < at + 3 → unitsIn s at to ≡ []
-no-unit {s} {at} {to} p k = full-few 16 (lit< tt) _ (simp (length-bitsOf, length-map, length-slice at to s (p .within)) (omega arith))
+pub no-unit : (last : ℕ) {s : List ℕ} {at to : ℕ} → Span (setB last) s at to → to < at + 3 → unitsIn last s at to ≡ []
+no-unit last {s} {at} {to} p k = full-few 16 (lit< tt) _ (simp (length-bitsOf, length-map, length-slice at to s (p .within)) (omega arith))
 
 -- the bits of so many letters that make no unit, counted from the last letter's first
 left-none : (l q : ℕ) → l ≡ 8 * q → 0 < l → l * 6 / 16 * 16 ≡ (l - 1) * 6 + 6
@@ -347,15 +342,15 @@ left-four : (l q : ℕ) → l ≡ 8 * q + 6 → l * 6 / 16 * 16 ≡ (l - 1) * 6 
 left-four l q e = rw e (omega arith)
 
 -- the bits that letters leave over: those of the last one
-bits-snoc : (ls : List ℕ) (b : ℕ) → bitsOf 6 (map (valueOf slash) (ls ++ b ∷ [])) ≡ bitsOf 6 (map (valueOf slash) ls) ++ bits 6 (valueOf slash b)
+bits-snoc : (last : ℕ) (ls : List ℕ) (b : ℕ) → bitsOf 6 (map (valueOf last) (ls ++ b ∷ [])) ≡ bitsOf 6 (map (valueOf last) ls) ++ bits 6 (valueOf last b)
 unfolding bitsOf
-bits-snoc [] b = append-nil (bits 6 (valueOf slash b))
-bits-snoc (l ∷ ls) b =
-    rw (bits-snoc ls b) (sym (append-assoc (bits 6 (valueOf slash l)) (bitsOf 6 (map (valueOf slash) ls)) (bits 6 (valueOf slash b))))
+bits-snoc last [] b = append-nil (bits 6 (valueOf last b))
+bits-snoc last (l ∷ ls) b =
+    rw (bits-snoc last ls b) (sym (append-assoc (bits 6 (valueOf last l)) (bitsOf 6 (map (valueOf last) ls)) (bits 6 (valueOf last b))))
 
-module _ {s : List ℕ} {from to : ℕ} (p : Span (setB slash) s from to) (some : from < to) where
+module _ (last : ℕ) {s : List ℕ} {from to : ℕ} (p : Span (setB last) s from to) (some : from < to) where
   abbrev final : ℕ
-  final = valueOf slash (getD s (to - 1) 0)
+  final = valueOf last (getD s (to - 1) 0)
 
   slice-snoc : slice from to s ≡ slice from (to - 1) s ++ getD s (to - 1) 0 ∷ []
   slice-snoc =
@@ -364,40 +359,40 @@ module _ {s : List ℕ} {from to : ℕ} (p : Span (setB slash) s from to) (some 
       let t : take to s ≡ take (to - 1) s ++ (getD s (to - 1) 0 ∷ []) = rw e at (take-suc s (to - 1) 0 (omega arith)) in
       ap (drop from) t ∙ drop-append-le from (take (to - 1) s) (getD s (to - 1) 0 ∷ []) (omega (arith, length-take-le (to - 1) s (omega arith)))
 
-  left-last : (m : ℕ) → (to - from) * 6 / 16 * 16 ≡ (to - from - 1) * 6 + m → leftOver 16 (bitsIn s from to) ≡ drop m (bits 6 final)
+  left-last : (m : ℕ) → (to - from) * 6 / 16 * 16 ≡ (to - from - 1) * 6 + m → leftOver 16 (bitsIn last s from to) ≡ drop m (bits 6 final)
   unfolding leftOver
   left-last m e =
       let w = p .within in
-      let f = bitsIn s from (to - 1) in
-      let l : length (bitsIn s from to) ≡ (to - from) * 6 = simp (length-bitsOf, length-map, length-slice from to s w) in
+      let f = bitsIn last s from (to - 1) in
+      let l : length (bitsIn last s from to) ≡ (to - from) * 6 = simp (length-bitsOf, length-map, length-slice from to s w) in
       let c : to - 1 - from ≡ to - from - 1 = omega arith in
       let k : length f ≡ (to - from - 1) * 6 = simp (length-bitsOf, length-map, length-slice from (to - 1) s (omega arith), c) in
-      let b : bitsIn s from to ≡ f ++ bits 6 final = rw slice-snoc (bits-snoc (slice from (to - 1) s) (getD s (to - 1) 0)) in
+      let b : bitsIn last s from to ≡ f ++ bits 6 final = rw slice-snoc (bits-snoc last (slice from (to - 1) s) (getD s (to - 1) 0)) in
       rw (l, e, ← k, b) (drop-append-add f (bits 6 final) m)
 
   -- a run may end: by how many letters stand behind the last eight, and by the last
-  pub ends-even : (to - from) % 8 ≡ 0 → mayEnd (leftOver 16 (bitsIn s from to)) ≡ true
+  pub ends-even : (to - from) % 8 ≡ 0 → mayEnd (leftOver 16 (bitsIn last s from to)) ≡ true
   unfolding mayEnd allZero bits
   ends-even h = rw (left-last 6 (left-none (to - from) ((to - from) / 8) (omega arith) (omega arith)))
 
-  ends-by : (m n : ℕ) → m + n ≡ 6 → n < 6 → (to - from) * 6 / 16 * 16 ≡ (to - from - 1) * 6 + m → final % 2 ^ n ≡ 0 → mayEnd (leftOver 16 (bitsIn s from to)) ≡ true
+  ends-by : (m n : ℕ) → m + n ≡ 6 → n < 6 → (to - from) * 6 / 16 * 16 ≡ (to - from - 1) * 6 + m → final % 2 ^ n ≡ 0 → mayEnd (leftOver 16 (bitsIn last s from to)) ≡ true
   ends-by m n e k l z =
-      let f : final < 2 ^ (m + n) = rw e (letter-low _ (p .each (to - 1) (omega arith) (omega arith))) in
+      let f : final < 2 ^ (m + n) = rw e (letter-low last _ (p .each (to - 1) (omega arith) (omega arith))) in
       let b : drop m (bits 6 final) ≡ bits n 0 = rw (e, z) at (bits-drop m n final f) in
       rw (left-last m l, b) (may-end n 0 (pow-pos n) ∙ rw (lt-ltb n 6 k))
 
-  pub ends-three : (to - from) % 8 ≡ 3 → final % 4 ≡ 0 → mayEnd (leftOver 16 (bitsIn s from to)) ≡ true
+  pub ends-three : (to - from) % 8 ≡ 3 → final % 4 ≡ 0 → mayEnd (leftOver 16 (bitsIn last s from to)) ≡ true
   ends-three h z = ends-by 4 2 refl (lit< tt) (left-two (to - from) ((to - from) / 8) (omega arith)) z
 
-  pub ends-six : (to - from) % 8 ≡ 6 → final % 16 ≡ 0 → mayEnd (leftOver 16 (bitsIn s from to)) ≡ true
+  pub ends-six : (to - from) % 8 ≡ 6 → final % 16 ≡ 0 → mayEnd (leftOver 16 (bitsIn last s from to)) ≡ true
   ends-six h z = ends-by 2 4 refl (lit< tt) (left-four (to - from) ((to - from) / 8) (omega arith)) z
 
-  pub ends-closed : closes (to - from) final ≡ true → mayEnd (leftOver 16 (bitsIn s from to)) ≡ true
+  pub ends-closed : closes (to - from) final ≡ true → mayEnd (leftOver 16 (bitsIn last s from to)) ≡ true
   ends-closed e = by (eqb ((to - from) % 8) 0) (eqb ((to - from) % 8) 3) (eqb ((to - from) % 8) 6) refl refl refl e
     where
       by :
           (a b c : Bool) → eqb ((to - from) % 8) 0 ≡ a → eqb ((to - from) % 8) 3 ≡ b → eqb ((to - from) % 8) 6 ≡ c →
-          cond a true (cond b (eqb (final % 4) 0) (cond c (eqb (final % 16) 0) false)) ≡ true → mayEnd (leftOver 16 (bitsIn s from to)) ≡ true
+          cond a true (cond b (eqb (final % 4) 0) (cond c (eqb (final % 16) 0) false)) ≡ true → mayEnd (leftOver 16 (bitsIn last s from to)) ≡ true
       by true b c ea eb ec e = ends-even (eqb-true _ 0 ea)
       by false true c ea eb ec e = ends-three (eqb-true _ 3 eb) (eqb-true _ 0 e)
       by false false true ea eb ec e = ends-six (eqb-true _ 6 ec) (eqb-true _ 0 e)
@@ -415,24 +410,24 @@ closed-by l m v w e f h = by (eqb (m % 8) 0) refl
 
 -- three letters, and a byte that is none
 pub three-run :
-    (s : List ℕ) (from : ℕ) → from + 3 < length s → setB slash (getD s from 0) ≡ true → setB slash (getD s (from + 1) 0) ≡ true →
-    setB slash (getD s (from + 2) 0) ≡ true → setB slash (getD s (from + 3) 0) ≡ false → valueOf slash (getD s (from + 2) 0) % 4 ≡ 0 → Run s from (from + 3)
-three-run s from h a b c o z =
+    {last : ℕ} (s : List ℕ) (from : ℕ) → from + 3 < length s → setB last (getD s from 0) ≡ true → setB last (getD s (from + 1) 0) ≡ true →
+    setB last (getD s (from + 2) 0) ≡ true → setB last (getD s (from + 3) 0) ≡ false → valueOf last (getD s (from + 2) 0) % 4 ≡ 0 → Run last s from (from + 3)
+three-run {last} s from h a b c o z =
     let two : from + 1 + 1 ≡ from + 2 = omega arith in
     let three : from + 2 + 1 ≡ from + 3 = omega arith in
-    let last : from + 3 - 1 ≡ from + 2 = omega arith in
-    let p = span-more (span-more (span-stay {set = setB slash} {s = s} from (omega arith)) (omega arith) a) (omega arith) b in
-    let q : Span (setB slash) s from (from + 3) = rw three at (span-more (rw two at p) (omega arith) c) in
+    let final : from + 3 - 1 ≡ from + 2 = omega arith in
+    let p = span-more (span-more (span-stay {set = setB last} {s = s} from (omega arith)) (omega arith) a) (omega arith) b in
+    let q : Span (setB last) s from (from + 3) = rw three at (span-more (rw two at p) (omega arith) c) in
     record {
       some = omega arith;
       letters = q;
       over = o;
-      ends = ends-three q (omega arith) (omega arith) (rw last z);
+      ends = ends-three last q (omega arith) (omega arith) (rw final z);
     }
 
 -- units of letters: those of their first eights, and the rest
-known-shift : {s : List ℕ} {at to : ℕ} {x : ℕ → ℕ} → Known s at to x → Known s (at + 8) to (λ k. x (8 + k))
-known-shift {s} {at} {to} {x} v =
+known-shift : {last : ℕ} {s : List ℕ} {at to : ℕ} {x : ℕ → ℕ} → Known last s at to x → Known last s (at + 8) to (λ k. x (8 + k))
+known-shift {s = s} {at} {to} {x} v =
     record {
       so = λ k l.
           let e : at + (8 + k) ≡ at + 8 + k = omega arith in
@@ -440,16 +435,16 @@ known-shift {s} {at} {to} {x} v =
     }
 
 pub units-split :
-    (s : List ℕ) (from to q : ℕ) → Span (setB slash) s from to → from + 8 * q ≤ to →
-    unitsIn s from to ≡ unitsIn s from (from + 8 * q) ++ unitsIn s (from + 8 * q) to
-units-split s from to zero p h =
+    (last : ℕ) (s : List ℕ) (from to q : ℕ) → Span (setB last) s from to → from + 8 * q ≤ to →
+    unitsIn last s from to ≡ unitsIn last s from (from + 8 * q) ++ unitsIn last s (from + 8 * q) to
+units-split last s from to zero p h =
     let e : from + 8 * 0 ≡ from = omega arith in
-    rw (e, no-unit (span-stay {set = setB slash} {s = s} from (omega (arith, p .ordered, p .within))) (omega arith))
-units-split s from to (suc q) p h =
+    rw (e, no-unit last (span-stay {set = setB last} {s = s} from (omega (arith, p .ordered, p .within))) (omega arith))
+units-split last s from to (suc q) p h =
     let e : from + 8 + 8 * q ≡ from + 8 * suc q = omega arith in
-    let v : (b : ℕ) → Known s from b (λ k. valueOf slash (getD s (from + k) 0)) = λ b. record { so = λ k l. refl } in
-    let r : unitsIn s (from + 8) to ≡ unitsIn s (from + 8) (from + 8 * suc q) ++ unitsIn s (from + 8 * suc q) to =
-    rw e at (units-split s (from + 8) to q (span-from (from + 8) p (omega arith) (omega arith)) (omega arith)) in
+    let v : (b : ℕ) → Known last s from b (λ k. valueOf last (getD s (from + k) 0)) = λ b. record { so = λ k l. refl } in
+    let r : unitsIn last s (from + 8) to ≡ unitsIn last s (from + 8) (from + 8 * suc q) ++ unitsIn last s (from + 8 * suc q) to =
+    rw e at (units-split last s (from + 8) to q (span-from (from + 8) p (omega arith) (omega arith)) (omega arith)) in
     rw (
       three-units p (v to) (omega arith) (omega arith) (omega arith),
       three-units (span-to (from + 8 * suc q) p (omega arith) h) (v (from + 8 * suc q)) (omega arith) (omega arith) (omega arith),
@@ -458,25 +453,25 @@ units-split s from to (suc q) p h =
 
 -- units of letters stand first among those of eights that cover them
 pub units-front :
-    {s : List ℕ} {at to : ℕ} {x : ℕ → ℕ} (m : ℕ) → Span (setB slash) s at to → to ≤ at + 8 * m → Known s at to x →
-    take (length (unitsIn s at to)) (unitsOf m x) ≡ unitsIn s at to
-units-front zero p h v = rw (no-unit p (omega arith))
-units-front {s} {at} {to} {x} (suc m) p h v =
+    {last : ℕ} {s : List ℕ} {at to : ℕ} {x : ℕ → ℕ} (m : ℕ) → Span (setB last) s at to → to ≤ at + 8 * m → Known last s at to x →
+    take (length (unitsIn last s at to)) (unitsOf m x) ≡ unitsIn last s at to
+units-front {last = last} zero p h v = rw (no-unit last p (omega arith))
+units-front {last} {s} {at} {to} {x} (suc m) p h v =
     eight (λ g. units-front m (span-from (at + 8) p (omega arith) g) (omega arith) (known-shift v)) (leb (at + 8) to) refl
   where
-    three : (t : Bool) → leb (at + 3) to ≡ t → to < at + 6 → take (length (unitsIn s at to)) (unitsOf (suc m) x) ≡ unitsIn s at to
+    three : (t : Bool) → leb (at + 3) to ≡ t → to < at + 6 → take (length (unitsIn last s at to)) (unitsOf (suc m) x) ≡ unitsIn last s at to
     three true e l = rw (one-unit p v (leb-true (at + 3) to e) l)
-    three false e l = rw (no-unit p (leb-false (at + 3) to e))
+    three false e l = rw (no-unit last p (leb-false (at + 3) to e))
 
-    six : (t : Bool) → leb (at + 6) to ≡ t → to < at + 8 → take (length (unitsIn s at to)) (unitsOf (suc m) x) ≡ unitsIn s at to
+    six : (t : Bool) → leb (at + 6) to ≡ t → to < at + 8 → take (length (unitsIn last s at to)) (unitsOf (suc m) x) ≡ unitsIn last s at to
     six true e l =
         let g = leb-true (at + 6) to e in
         rw (two-units p v (omega arith) g l)
     six false e l = three (leb (at + 3) to) refl (leb-false (at + 6) to e)
 
     eight :
-        (at + 8 ≤ to → take (length (unitsIn s (at + 8) to)) (unitsOf m (λ k. x (8 + k))) ≡ unitsIn s (at + 8) to) → (t : Bool) → leb (at + 8) to ≡ t →
-        take (length (unitsIn s at to)) (unitsOf (suc m) x) ≡ unitsIn s at to
+        (at + 8 ≤ to → take (length (unitsIn last s (at + 8) to)) (unitsOf m (λ k. x (8 + k))) ≡ unitsIn last s (at + 8) to) → (t : Bool) → leb (at + 8) to ≡ t →
+        take (length (unitsIn last s at to)) (unitsOf (suc m) x) ≡ unitsIn last s at to
     eight f true e =
         let g = leb-true (at + 8) to e in
         rw (three-units p v (omega arith) (omega arith) g)

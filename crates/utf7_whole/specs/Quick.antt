@@ -8,7 +8,7 @@ use lib.Seq.{slice}
 use lib.Dec.{eqb}
 use Rattle.answer.specs.Inner.{Laid}
 use Rattle.bits.specs.Bits.{bitsOf, full, leftOver}
-use Rattle.base64.specs.Letters.{valueOf, setB, slash}
+use Rattle.base64.specs.Letters.{valueOf, setB}
 use Rattle.reading.specs.Reading.{readFrom, reading}
 use Rattle.reading.specs.Inner.{Left}
 use Rattle.reading.specs.Matching.{gave, readsAs}
@@ -35,43 +35,43 @@ pub record Ahead (test : ℕ → Bool) (k m : ℕ) : Type 0 where
   pub each : (j : ℕ) → j < k → j < m → test j ≡ true
   pub over : m < 32 → test m ≡ false
 
--- letters up to a place that has none, or the text's end
-pub record Letters (s : List ℕ) (from to : ℕ) : Type 0 where
-  pub letters : Span (setB slash) s from to
-  pub over : setB slash (getD s to 0) ≡ false
+-- letters of an alphabet, which is given by its last, up to a place that has none, or the text's end
+pub record Letters (last : ℕ) (s : List ℕ) (from to : ℕ) : Type 0 where
+  pub letters : Span (setB last) s from to
+  pub over : setB last (getD s to 0) ≡ false
 
 -- the bits of letters, and the units in them
-abbrev pub bitsIn : List ℕ → ℕ → ℕ → List Bool
-bitsIn s from to = bitsOf 6 (map (valueOf slash) (slice from to s))
+abbrev pub bitsIn : ℕ → List ℕ → ℕ → ℕ → List Bool
+bitsIn last s from to = bitsOf 6 (map (valueOf last) (slice from to s))
 
-abbrev pub unitsIn : List ℕ → ℕ → ℕ → List ℕ
-unitsIn s from to = full 16 (bitsIn s from to)
+abbrev pub unitsIn : ℕ → List ℕ → ℕ → ℕ → List ℕ
+unitsIn last s from to = full 16 (bitsIn last s from to)
 
 -- letters that another byte ends, or the text's end, and that may end
-pub record Run (s : List ℕ) (from to : ℕ) : Type 0 where
+pub record Run (last : ℕ) (s : List ℕ) (from to : ℕ) : Type 0 where
   pub some : from < to
-  pub letters : Span (setB slash) s from to
-  pub over : setB slash (getD s to 0) ≡ false
-  pub ends : mayEnd (leftOver 16 (bitsIn s from to)) ≡ true
+  pub letters : Span (setB last) s from to
+  pub over : setB last (getD s to 0) ≡ false
+  pub ends : mayEnd (leftOver 16 (bitsIn last s from to)) ≡ true
 
 -- the place behind a run: "- is then absorbed"
 abbrev pub past : List ℕ → ℕ → ℕ
 past s to = cond (eqb (getD s to 0) 45) (to + 1) to
 
 -- 32 numbers: the values of the bytes from a place on
-pub record Values (s : List ℕ) (at : ℕ) (xs : List ℕ) : Type 0 where
-  pub so : (k : ℕ) → k < 32 → getD xs k 0 ≡ valueOf slash (getD s (at + k) 0)
+pub record Values (last : ℕ) (s : List ℕ) (at : ℕ) (xs : List ℕ) : Type 0 where
+  pub so : (k : ℕ) → k < 32 → getD xs k 0 ≡ valueOf last (getD s (at + k) 0)
 
 -- three letters that may end a run, and '-': one unit
-pub record One (s : List ℕ) (from unit : ℕ) : Type 0 where
-  pub first : setB slash (getD s from 0) ≡ true
-  pub second : setB slash (getD s (from + 1) 0) ≡ true
-  pub third : setB slash (getD s (from + 2) 0) ≡ true
-  pub ends : valueOf slash (getD s (from + 2) 0) % 4 ≡ 0
+pub record One (last : ℕ) (s : List ℕ) (from unit : ℕ) : Type 0 where
+  pub first : setB last (getD s from 0) ≡ true
+  pub second : setB last (getD s (from + 1) 0) ≡ true
+  pub third : setB last (getD s (from + 2) 0) ≡ true
+  pub ends : valueOf last (getD s (from + 2) 0) % 4 ≡ 0
   pub over : getD s (from + 3) 0 ≡ 45
   pub so :
       unit
-      ≡ (valueOf slash (getD s from 0) * 64 + valueOf slash (getD s (from + 1) 0)) * 16 + valueOf slash (getD s (from + 2) 0) / 4
+      ≡ (valueOf last (getD s from 0) * 64 + valueOf last (getD s (from + 1) 0)) * 16 + valueOf last (getD s (from + 2) 0) / 4
 
 -- the units that eight values hold, and those of so many eights
 abbrev pub firstOf : (ℕ → ℕ) → ℕ
@@ -105,18 +105,18 @@ abbrev pub stops : List ℕ → ℕ → Bool
 stops xs c = closes c (getD xs (c - 1) 0)
 
 -- a run was read, unless the place is still that of its first letter: it may end there, and its units are laid
-pub record Went (s : List ℕ) (from start : ℕ) (out out' : List ℕ) (at n : ℕ) : Type 0 where
+pub record Went (last : ℕ) (s : List ℕ) (from start : ℕ) (out out' : List ℕ) (at n : ℕ) : Type 0 where
   pub kept : Laid [] start out out'
-  pub run : (at ≡ from → ⊥) → Run s from at
-  pub laid : (at ≡ from → ⊥) → Laid (unitsIn s from at) start out out'
-  pub count : (at ≡ from → ⊥) → n ≡ start + length (unitsIn s from at)
+  pub run : (at ≡ from → ⊥) → Run last s from at
+  pub laid : (at ≡ from → ⊥) → Laid (unitsIn last s from at) start out out'
+  pub count : (at ≡ from → ⊥) → n ≡ start + length (unitsIn last s from at)
 
 -- letters from a place on end a run there, unless the end is still its start, and their units are laid
-pub record Last (s : List ℕ) (from at n : ℕ) (out out' : List ℕ) (end m : ℕ) : Type 0 where
+pub record Last (last : ℕ) (s : List ℕ) (from at n : ℕ) (out out' : List ℕ) (end m : ℕ) : Type 0 where
   pub kept : Laid [] n out out'
-  pub letters : (end ≡ from → ⊥) → Letters s at end
-  pub closed : (end ≡ from → ⊥) → closes (end - at) (valueOf slash (getD s (end - 1) 0)) ≡ true
-  pub laid : (end ≡ from → ⊥) → Laid (unitsIn s at end) n out out'
+  pub letters : (end ≡ from → ⊥) → Letters last s at end
+  pub closed : (end ≡ from → ⊥) → closes (end - at) (valueOf last (getD s (end - 1) 0)) ≡ true
+  pub laid : (end ≡ from → ⊥) → Laid (unitsIn last s at end) n out out'
   pub count : (end ≡ from → ⊥) → m ≡ n + (end - at) * 6 / 16
 
 -- the first n cells of a text are those of a list: whether it reads as the list is whether its rest does as the list's

@@ -9,7 +9,7 @@ ghost use mathlib.Core.List.{List};
 ghost use Prim.Native.Nat.{ℕ, _<_, _≤_, _+_, _-_, _*_, _/_, _%_};
 ghost use lib.ListN.{length, getD, take, drop};
 ghost use lib.Seq.{slice};
-ghost use lib.Dec.{leb, ltb};
+ghost use lib.Dec.{leb, ltb, eqb};
 ghost use Rattle.answer.specs.Inner.{Laid};
 ghost use Rattle.base64.specs.Letters.{valueOf, setB, slash};
 ghost use Rattle.reading.specs.Inner.{Left};
@@ -67,25 +67,36 @@ fn counted(v: u8, from: u8, to: u8, first: u8, b: u8) -> u8
     v
 }
 
-// The value of a letter, or 64 for a byte that is none, by the rule: capitals, small letters, digits, two signs.
-fn value(b: u8) -> u8
-    ensures { λ r. ⌜ r ≡ valueOf slash b ⌝ }
+// The same of one sign.
+fn chosen(v: u8, sign: u8, x: u8, b: u8) -> u8
+    ensures { λ r. ⌜ r ≡ cond (eqb b sign) x v ⌝ }
 {
-    let capital = counted(64, b'A', b'Z', 0, b);
-    let small = counted(capital, b'a', b'z', 26, b);
-    let digit = counted(small, b'0', b'9', 52, b);
-    let sign = counted(digit, b'+', b'+', 62, b);
-    counted(sign, b'/', b'/', 63, b)
+    if b == sign {
+        return x;
+    }
+    v
+}
+
+// The value of a letter, or 64 for a byte that is none, by the rule: capitals, small letters, digits, two signs. The
+// alphabet is given by its last letter.
+fn value(last: u8, b: u8) -> u8
+    ensures { λ r. ⌜ r ≡ valueOf last b ⌝ }
+{
+    let other = chosen(64, last, 63, b);
+    let sign = chosen(other, b'+', 62, b);
+    let digit = counted(sign, b'0', b'9', 52, b);
+    let small = counted(digit, b'a', b'z', 26, b);
+    counted(small, b'A', b'Z', 0, b)
 }
 
 // The values of 32 bytes as letters, 64 for one that is none.
-fn values(text: &[u8], at: usize) -> [u8; 32]
+fn values(last: u8, text: &[u8], at: usize) -> [u8; 32]
     requires { ⌜ at + 32 ≤ length (now text) ⌝ }
-    ensures { λ r. ⌜ Values (now (text .entry)) at r ⌝ }
+    ensures { λ r. ⌜ Values last (now (text .entry)) at r ⌝ }
 {
     let mut x = [0u8; 32];
     for k in 0..32 {
-        x[k] = value(text[at + k]);
+        x[k] = value(last, text[at + k]);
     }
     x
 }
@@ -146,13 +157,13 @@ fn third(f: u32, g: u32, h: u32) -> u32
 // The unit of a run of three letters and '-', or 65,536 where there is none. A run of one unit that another byte ends
 // is read as longer runs are: so the next place is a number of bytes further on that is known, and no load is waited
 // for.
-fn one_at(text: &[u8], from: usize) -> u32
+fn one_at(last: u8, text: &[u8], from: usize) -> u32
     requires { ⌜ from + 4 ≤ length (now text) ⌝ }
-    ensures { λ r. ⌜ (r < 65536 → One (now (text .entry)) from r) ⌝ }
+    ensures { λ r. ⌜ (r < 65536 → One last (now (text .entry)) from r) ⌝ }
 {
-    let a = value(text[from]);
-    let b = value(text[from + 1]);
-    let c = value(text[from + 2]);
+    let a = value(last, text[from]);
+    let b = value(last, text[from + 1]);
+    let c = value(last, text[from + 2]);
     if is_one(a, b, c, text[from + 3]) {
         return first(wide(a), wide(b), wide(c));
     }
@@ -220,9 +231,9 @@ fn past_run(text: &[u8], to: usize) -> usize
 }
 
 // The values of 32 bytes, of which some may stand behind the text's end: 64 for those.
-fn values_near(text: &[u8], at: usize) -> [u8; 32]
-    requires { ⌜ at ≤ length (now text) ⌝ }
-    ensures { λ r. ⌜ Values (now (text .entry)) at r ⌝ }
+fn values_near(last: u8, text: &[u8], at: usize) -> [u8; 32]
+    requires { ⌜ (0 < last) × (at ≤ length (now text)) ⌝ }
+    ensures { λ r. ⌜ Values last (now (text .entry)) at r ⌝ }
 {
     let mut x = [64u8; 32];
     let mut k: usize = 0;
@@ -230,7 +241,7 @@ fn values_near(text: &[u8], at: usize) -> [u8; 32]
         if text.len() <= at + k {
             return x;
         }
-        x[k] = value(text[at + k]);
+        x[k] = value(last, text[at + k]);
         k += 1;
     }
     x
@@ -262,11 +273,11 @@ fn lay(y: [u32; 12], u: usize, out: &mut [u32], n: usize)
 
 // The units of the last letters of a run, which follow eights, go to the output from n on: where they end, and the
 // place behind their units. Where they are 32 or more, may not end so or have no room: the place where the run began.
-fn put_last(text: &[u8], from: usize, at: usize, out: &mut [u32], n: usize) -> Reached
-    requires { ⌜ (at ≤ length (now text)) × (n ≤ length (now out)) ⌝ }
-    ensures { λ r. ⌜ Last (now (text .entry)) from at n (now (out .entry)) (now (out .exit)) (r .at) (r .n) ⌝ }
+fn put_last(last: u8, text: &[u8], from: usize, at: usize, out: &mut [u32], n: usize) -> Reached
+    requires { ⌜ (0 < last) × (at ≤ length (now text)) × (n ≤ length (now out)) ⌝ }
+    ensures { λ r. ⌜ Last last (now (text .entry)) from at n (now (out .entry)) (now (out .exit)) (r .at) (r .n) ⌝ }
 {
-    let end = letters_end(text, at);
+    let end = letters_end(last, text, at);
     let c = end - at;
     if 31 < c {
         return Reached { at: from, n };
@@ -275,7 +286,7 @@ fn put_last(text: &[u8], from: usize, at: usize, out: &mut [u32], n: usize) -> R
     if out.len() < n + u {
         return Reached { at: from, n };
     }
-    let x = values_near(text, at);
+    let x = values_near(last, text, at);
     if may_end(x, c) {
         lay(twelve(x), u, out, n);
         return Reached { at: end, n: n + u };
@@ -285,17 +296,17 @@ fn put_last(text: &[u8], from: usize, at: usize, out: &mut [u32], n: usize) -> R
 
 // The units of a run go to the output from its start on: where its letters end, and the place behind its units. Where
 // the run may not end so, or the output has no room: the place where it began.
-fn put_run(text: &[u8], from: usize, out: &mut [u32], start: usize) -> Reached
-    requires { ⌜ (from ≤ length (now text)) × (start ≤ length (now out)) ⌝ }
-    ensures { λ r. ⌜ Went (now (text .entry)) from start (now (out .entry)) (now (out .exit)) (r .at) (r .n) ⌝ }
+fn put_run(last: u8, text: &[u8], from: usize, out: &mut [u32], start: usize) -> Reached
+    requires { ⌜ (0 < last) × (from ≤ length (now text)) × (start ≤ length (now out)) ⌝ }
+    ensures { λ r. ⌜ Went last (now (text .entry)) from start (now (out .entry)) (now (out .exit)) (r .at) (r .n) ⌝ }
 {
     let mut at = from;
     let mut n = start;
     while at + 32 <= text.len() {
         if out.len() < n + 12 {
-            return put_last(text, from, at, out, n);
+            return put_last(last, text, from, at, out, n);
         }
-        let x = values(text, at);
+        let x = values(last, text, at);
         let c = letters_in(x);
         put_twelve(x, out, n);
         if c < 32 {
@@ -310,7 +321,7 @@ fn put_run(text: &[u8], from: usize, out: &mut [u32], start: usize) -> Reached
         at += 32;
         n += 12;
     }
-    put_last(text, from, at, out, n)
+    put_last(last, text, from, at, out, n)
 }
 
 // All are read before one is stored.
@@ -367,7 +378,7 @@ pub fn fill(text: &[u8], out: &mut [u32]) -> Reached
                 return Reached { at, n };
             }
             let from = at + 1;
-            let one = one_at(text, from);
+            let one = one_at(b'/', text, from);
             if one < 65536 {
                 out[n] = one;
                 n += 1;
@@ -378,7 +389,7 @@ pub fn fill(text: &[u8], out: &mut [u32]) -> Reached
                     n += 1;
                     at += 2;
                 } else {
-                    let r = put_run(text, from, out, n);
+                    let r = put_run(b'/', text, from, out, n);
                     let end = r.at;
                     if end == from {
                         return Reached { at, n };
@@ -412,13 +423,13 @@ fn letters_ahead(text: &[u8], at: usize) -> usize
 }
 
 // Where the letters from a place on end, among the last bytes.
-fn letters_end(text: &[u8], from: usize) -> usize
-    requires { ⌜ from ≤ length (now text) ⌝ }
-    ensures { λ r. ⌜ Letters (now (text .entry)) from r ⌝ }
+fn letters_end(last: u8, text: &[u8], from: usize) -> usize
+    requires { ⌜ (0 < last) × (from ≤ length (now text)) ⌝ }
+    ensures { λ r. ⌜ Letters last (now (text .entry)) from r ⌝ }
 {
     let mut at = from;
     while at < text.len() {
-        if is_letter(text[at]) {
+        if value(last, text[at]) < 64 {
             at += 1;
         } else {
             return at;
@@ -431,7 +442,7 @@ fn letters_end(text: &[u8], from: usize) -> usize
 fn may_close(letters: usize, last: u8) -> bool
     ensures { λ r. ⌜ r ≡ closes letters (valueOf slash last) ⌝ }
 {
-    let v = value(last);
+    let v = value(b'/', last);
     let more = letters % 8;
     if more == 0 {
         return true;
@@ -447,8 +458,8 @@ fn may_close(letters: usize, last: u8) -> bool
 
 // The end of a run's letters, or its start where it has none or may not end so.
 fn judge_end(text: &[u8], from: usize, end: usize) -> usize
-    requires { ⌜ Letters (now text) from end ⌝ }
-    ensures { λ r. ⌜ ((r ≡ from → ⊥) → Run (now (text .entry)) from r) ⌝ }
+    requires { ⌜ Letters slash (now text) from end ⌝ }
+    ensures { λ r. ⌜ ((r ≡ from → ⊥) → Run slash (now (text .entry)) from r) ⌝ }
 {
     if end == from {
         return from;
@@ -461,7 +472,7 @@ fn judge_end(text: &[u8], from: usize, end: usize) -> usize
 
 fn judge_run(text: &[u8], from: usize) -> usize
     requires { ⌜ from ≤ length (now text) ⌝ }
-    ensures { λ r. ⌜ ((r ≡ from → ⊥) → Run (now (text .entry)) from r) ⌝ }
+    ensures { λ r. ⌜ ((r ≡ from → ⊥) → Run slash (now (text .entry)) from r) ⌝ }
 {
     let mut at = from;
     while at + 32 <= text.len() {
@@ -471,7 +482,7 @@ fn judge_run(text: &[u8], from: usize) -> usize
         }
         at += 32;
     }
-    judge_end(text, from, letters_end(text, at))
+    judge_end(text, from, letters_end(b'/', text, at))
 }
 
 // How many cells a text has up to a place near its end, or before anything that is not of the usual kinds. Nothing is
@@ -493,7 +504,7 @@ pub fn judge(text: &[u8]) -> Reached
                 return Reached { at, n };
             }
             let from = at + 1;
-            if one_at(text, from) < 65536 {
+            if one_at(b'/', text, from) < 65536 {
                 n += 1;
                 at += 5;
             } else {

@@ -156,7 +156,7 @@ loop-again-3 c = let o = c .before .before .before in
     (λ s p. filled-sign (direct w s p) p (o .before .if3 .left) (room w) (c .if5 .taken), simp length-set (same w), simp length-set (omega (arith, room w)))
 
 put-run-requires : tie.Need-put-run-requires Inv-loop μ-loop
-put-run-requires c κs = let w = here (c .before .before .before .before) in (omega (arith, near w), omega (arith, room w))
+put-run-requires c κs = let w = here (c .before .before .before .before) in (omega arith, omega (arith, near w), omega (arith, room w))
 
 same-length-3 : tie.Need-same-length-3 Inv-loop μ-loop
 same-length-3 c = let r = c .before .before .before in

@@ -25,7 +25,7 @@ returns-2 : tie.Need-returns-2
 returns-2 c = λ f.
     let l = c .before .before .before .before .before .pre in
     let h : c .before .before .before .before .before .args .from < c .before .before .before .before .before .args .end = omega (arith, l .letters .ordered, f) in
-    record { some = h; letters = l .letters; over = l .over; ends = ends-closed (l .letters) h (sym (c .before .may-close .ensures) ∙ c .if2 .taken) }
+    record { some = h; letters = l .letters; over = l .over; ends = ends-closed 47 (l .letters) h (sym (c .before .may-close .ensures) ∙ c .if2 .taken) }
 
 returns-3 : tie.Need-returns-3
 returns-3 c = λ f. absurd (f refl)

@@ -47,7 +47,7 @@ loop-again : tie.Need-loop-again Inv-loop μ-loop
 loop-again c = span-to-as (block (c .before)) (omega (arith, c .before .letters-ahead .ensures .upto, c .if1 .left))
 
 letters-end-requires : tie.Need-letters-end-requires Inv-loop μ-loop
-letters-end-requires c κs = c .before .loop .inv .within
+letters-end-requires c κs = (omega arith, c .before .loop .inv .within)
 
 judge-end-requires-2 : tie.Need-judge-end-requires-2 Inv-loop μ-loop
 judge-end-requires-2 c κs = record { letters = span-on (c .before .before .loop .inv) (c .letters-end .ensures .letters); over = c .letters-end .ensures .over }

@@ -35,8 +35,8 @@ twelve-requires c κs = search needs
 lay-requires : tie.Need-lay-requires
 lay-requires c κs = search needs
 
-add-t18 : tie.Need-add-t18
-add-t18 c = search needs
+add-t19 : tie.Need-add-t19
+add-t19 c = search needs
 
 same-length : tie.Need-same-length
 same-length c = search needs
@@ -46,7 +46,7 @@ returns-3 c =
     let m = c .before .before .before .before .before .before in
     let l = m .before .before .before .before .before in
     last-done _ (l .letters-end .ensures) (omega (arith, m .before .before .before .before .if1 .left)) (m .before .values-near .ensures) (sym (m .may-end .ensures) ∙ c .before .before .before .before .before .if3 .taken)
-    (m .before .before .before .units .ensures) (c .before .before .before .before .twelve .ensures) (c .before .before .lay .ensures) (l .before .before .before .pre .1)
+    (m .before .before .before .units .ensures) (c .before .before .before .before .twelve .ensures) (c .before .before .lay .ensures) (l .before .before .before .pre .2)
 
 returns-4 : tie.Need-returns-4
 returns-4 c = last-none _ _ _ _
@@ -65,7 +65,7 @@ put-last-spec =
     may-end-requires
     twelve-requires
     lay-requires
-    add-t18
+    add-t19
     same-length
     returns-3
     returns-4)

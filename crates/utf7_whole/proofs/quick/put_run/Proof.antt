@@ -8,13 +8,13 @@ use Rattle.utf7_whole.proofs.quick.put_run.Statement.{statement}
 use Rattle.utf7_whole.proofs.quick.put_run.Tie as tie
 
 abbrev Inv-loop : tie.InvT-loop
-Inv-loop text from out₀ start at₀ n₀ out at n = Going text from start out₀ at n out × (n ≤ length out)
+Inv-loop last text from out₀ start at₀ n₀ out at n = Going last text from start out₀ at n out × (n ≤ length out)
 
 abbrev μ-loop : tie.MeasureT-loop
-μ-loop text from out₀ start at₀ n₀ out at n = length text - at
+μ-loop last text from out₀ start at₀ n₀ out at n = length text - at
 
 loop-holds : tie.Need-loop-holds Inv-loop μ-loop
-loop-holds c = let q = c .before .before .pre in (going-start _ _ _ _ (q .0), q .1)
+loop-holds c = let q = c .before .before .pre in (going-start _ _ _ _ (q .1), q .2)
 
 add-loop : tie.Need-add-loop Inv-loop μ-loop
 add-loop c = search needs
@@ -23,10 +23,10 @@ add-if1 : tie.Need-add-if1 Inv-loop μ-loop
 add-if1 c = search needs
 
 start : (c : tie.At-loop Inv-loop μ-loop) → let a = c .before .before .before .args in a .start ≤ length (a .out .now)
-start c = c .before .before .before .pre .1
+start c = c .before .before .before .pre .2
 
 put-last-requires : tie.Need-put-last-requires Inv-loop μ-loop
-put-last-requires c κs = let l = c .before .before .before in (l .loop .inv .0 .letters .within, l .loop .inv .1)
+put-last-requires c κs = let l = c .before .before .before in (l .before .before .before .pre .0, l .loop .inv .0 .letters .within, l .loop .inv .1)
 
 same-length : tie.Need-same-length Inv-loop μ-loop
 same-length c = c .before .before .put-last .ensures .kept .same ∙ c .before .before .before .before .before .before .loop .inv .0 .laid .same
@@ -46,14 +46,14 @@ put-twelve-requires c κs = c .before .before .before .if1 .left
 may-end-requires : tie.Need-may-end-requires Inv-loop μ-loop
 may-end-requires c κs = c .before .before .before .before .before .letters-in .ensures .upto
 
-add-t18 : tie.Need-add-t18 Inv-loop μ-loop
-add-t18 c = search needs
+add-t19 : tie.Need-add-t19 Inv-loop μ-loop
+add-t19 c = search needs
 
 units-requires : tie.Need-units-requires Inv-loop μ-loop
 units-requires c κs = search needs
 
-add-t20 : tie.Need-add-t20 Inv-loop μ-loop
-add-t20 c = search needs
+add-t21 : tie.Need-add-t21 Inv-loop μ-loop
+add-t21 c = search needs
 
 -- the loop's test, from behind a block's units
 abbrev inside : tie.After-put-twelve Inv-loop μ-loop → tie.In-loop Inv-loop μ-loop
@@ -92,7 +92,7 @@ loop-again c = let p = c .before .before .before in
     )
 
 put-last-requires-2 : tie.Need-put-last-requires-2 Inv-loop μ-loop
-put-last-requires-2 c κs = let l = c .before .before in (l .loop .inv .0 .letters .within, l .loop .inv .1)
+put-last-requires-2 c κs = let l = c .before .before in (l .before .before .before .pre .0, l .loop .inv .0 .letters .within, l .loop .inv .1)
 
 same-length-4 : tie.Need-same-length-4 Inv-loop μ-loop
 same-length-4 c = c .before .before .put-last2 .ensures .kept .same ∙ c .before .before .before .before .before .loop .inv .0 .laid .same
@@ -116,9 +116,9 @@ put-run-spec =
     letters-in-requires
     put-twelve-requires
     may-end-requires
-    add-t18
+    add-t19
     units-requires
-    add-t20
+    add-t21
     same-length-2
     returns-2
     same-length-3

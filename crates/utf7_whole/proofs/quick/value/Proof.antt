@@ -1,7 +1,13 @@
 use borrow.Author.Needs.{needs}
-use Rattle.utf7_whole.proofs.Tokens.{value-test}
+use Rattle.utf7_whole.proofs.Tokens.{by-rule}
 use Rattle.utf7_whole.proofs.quick.value.Statement.{statement}
 use Rattle.utf7_whole.proofs.quick.value.Tie as tie
+
+chosen-requires : tie.Need-chosen-requires
+chosen-requires c κs = search needs
+
+chosen-requires-2 : tie.Need-chosen-requires-2
+chosen-requires-2 c κs = search needs
 
 counted-requires : tie.Need-counted-requires
 counted-requires c κs = search needs
@@ -12,22 +18,8 @@ counted-requires-2 c κs = search needs
 counted-requires-3 : tie.Need-counted-requires-3
 counted-requires-3 c κs = search needs
 
-counted-requires-4 : tie.Need-counted-requires-4
-counted-requires-4 c κs = search needs
-
-counted-requires-5 : tie.Need-counted-requires-5
-counted-requires-5 c κs = search needs
-
 returns : tie.Need-returns
-returns c = rw (c .counted5 .ensures, c .before .counted4 .ensures, c .before .before .counted3 .ensures, c .before .before .before .counted2 .ensures, c .before .before .before .before .counted .ensures) (value-test _ (search needs))
+returns c = rw (c .counted3 .ensures, c .before .counted2 .ensures, c .before .before .counted .ensures, c .before .before .before .chosen2 .ensures, c .before .before .before .before .chosen .ensures) (by-rule _ _)
 
 pub value-spec : {M : Type 1} → statement M
-value-spec =
-    tie.close
-    (tie.spec
-    counted-requires
-    counted-requires-2
-    counted-requires-3
-    counted-requires-4
-    counted-requires-5
-    returns)
+value-spec = tie.close (tie.spec chosen-requires chosen-requires-2 counted-requires counted-requires-2 counted-requires-3 returns)

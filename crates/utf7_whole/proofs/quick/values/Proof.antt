@@ -3,16 +3,16 @@ use mathlib.Core.Path.{_≡_, refl}
 use native.Mathlib.Omega.{arith}
 use lib.ListN.{length, getD, length-set}
 use borrow.Author.Needs.{needs}
-use Rattle.base64.specs.Letters.{valueOf, slash}
+use Rattle.base64.specs.Letters.{valueOf}
 use Rattle.utf7_whole.proofs.Tokens.{set-more}
 use Rattle.utf7_whole.proofs.quick.values.Statement.{statement}
 use Rattle.utf7_whole.proofs.quick.values.Tie as tie
 
 abbrev Inv-loop : tie.InvT-loop
-Inv-loop text at x₀ k₀ x k = (k ≤ 32) × (length x ≡ 32) × ((j : ℕ) → j < k → getD x j 0 ≡ valueOf slash (getD text (at + j) 0))
+Inv-loop last text at x₀ k₀ x k = (k ≤ 32) × (length x ≡ 32) × ((j : ℕ) → j < k → getD x j 0 ≡ valueOf last (getD text (at + j) 0))
 
 abbrev μ-loop : tie.MeasureT-loop
-μ-loop text at x₀ k₀ x k = 32 - k
+μ-loop last text at x₀ k₀ x k = 32 - k
 
 loop-holds : tie.Need-loop-holds Inv-loop μ-loop
 loop-holds c = (omega arith, refl, λ j h. absurd (omega arith))
@@ -39,7 +39,7 @@ loop-again : tie.Need-loop-again Inv-loop μ-loop
 loop-again c = let l = c .before .before .before in
     let a = l .before .before .args in
     let i = l .loop .inv in
-    let Q : ℕ → ℕ → Type 0 = λ j x. x ≡ valueOf slash (getD (a .text .now) (a .at + j) 0) in
+    let Q : ℕ → ℕ → Type 0 = λ j x. x ≡ valueOf (a .last) (getD (a .text .now) (a .at + j) 0) in
     (omega arith, simp length-set (i .1), set-more (l .loop .x) (l .loop .k) (c .value .result) Q (omega (arith, i .1)) (i .2) (c .value .ensures))
 
 returns : tie.Need-returns Inv-loop μ-loop

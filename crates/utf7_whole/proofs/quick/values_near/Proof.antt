@@ -4,18 +4,18 @@ use native.Mathlib.Omega.{arith}
 use lib.ListN.{length, getD, length-set, getD-replicate}
 use lib.Seq.{getD-set-other}
 use borrow.Author.Needs.{needs}
-use Rattle.base64.specs.Letters.{valueOf, slash}
+use Rattle.base64.specs.Letters.{valueOf}
 use Rattle.utf7_whole.proofs.Tokens.{set-more}
 use Rattle.utf7_whole.proofs.Buffers.{near-done}
 use Rattle.utf7_whole.proofs.quick.values_near.Statement.{statement}
 use Rattle.utf7_whole.proofs.quick.values_near.Tie as tie
 
 abbrev Inv-loop : tie.InvT-loop
-Inv-loop text at x₀ k₀ x k =
-    (k ≤ 32) × (length x ≡ 32) × ((j : ℕ) → j < k → getD x j 0 ≡ valueOf slash (getD text (at + j) 0)) × ((j : ℕ) → k ≤ j → j < 32 → getD x j 0 ≡ 64)
+Inv-loop last text at x₀ k₀ x k =
+    (k ≤ 32) × (length x ≡ 32) × ((j : ℕ) → j < k → getD x j 0 ≡ valueOf last (getD text (at + j) 0)) × ((j : ℕ) → k ≤ j → j < 32 → getD x j 0 ≡ 64)
 
 abbrev μ-loop : tie.MeasureT-loop
-μ-loop text at x₀ k₀ x k = 32 - k
+μ-loop last text at x₀ k₀ x k = 32 - k
 
 loop-holds : tie.Need-loop-holds Inv-loop μ-loop
 loop-holds c = (omega arith, refl, λ j h. absurd (omega arith), λ j h l. getD-replicate 32 j 64 0 l)
@@ -24,7 +24,7 @@ add-if1 : tie.Need-add-if1 Inv-loop μ-loop
 add-if1 c = search needs
 
 returns : tie.Need-returns Inv-loop μ-loop
-returns c = let i = c .before .before .loop .inv in near-done _ (i .2) (i .3) (c .if1 .taken)
+returns c = let i = c .before .before .loop .inv in near-done _ (i .2) (i .3) (c .if1 .taken) (c .before .before .before .before .pre .0)
 
 add-value : tie.Need-add-value Inv-loop μ-loop
 add-value c = search needs
@@ -48,7 +48,7 @@ loop-again : tie.Need-loop-again Inv-loop μ-loop
 loop-again c = let l = c .before .before .before .before in
     let a = l .before .before .args in
     let i = l .loop .inv in
-    let Q : ℕ → ℕ → Type 0 = λ j x. x ≡ valueOf slash (getD (a .text .now) (a .at + j) 0) in (
+    let Q : ℕ → ℕ → Type 0 = λ j x. x ≡ valueOf (a .last) (getD (a .text .now) (a .at + j) 0) in (
       omega arith,
       simp length-set (i .1),
       set-more (l .loop .x) (l .loop .k) (c .value .result) Q (omega (arith, i .1)) (i .2) (c .value .ensures),
