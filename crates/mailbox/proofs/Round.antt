@@ -65,11 +65,11 @@ cut-run (b ∷ ls) p h l =
     (cut-letter p b ls (p ++ bits 6 (valueOf comma b)) (bitsOf 6 (map (valueOf comma) ls)) (ltb (length (p ++ bits 6 (valueOf comma b))) 16)
     (letter-runs p b (h .0)) refl (simp (length-append, length-bits) (omega arith)) (λ q k. cut-run ls q (h .1) k))
 
-sign-opens : (after : Bool) → byteDoes (outside after) 38 ≡ go (opening after)
+pub sign-opens : (after : Bool) → byteDoes (outside after) 38 ≡ go (opening after)
 unfolding byteDoes lowDoes outsideDoes
 sign-opens after = refl
 
-sign-closes : (after : Bool) → byteDoes (opening after) 45 ≡ give 38 (outside false)
+pub sign-closes : (after : Bool) → byteDoes (opening after) 45 ≡ give 38 (outside false)
 unfolding byteDoes lowDoes setB valueOf
 sign-closes after = refl
 
@@ -78,9 +78,15 @@ run-opens [] us end some h w = absurd (omega arith)
 run-opens (b ∷ ls) us end some h (gives e w) = goes (sign-opens false) (gives (letter-opens b (h .0) ∙ e) w)
 run-opens (b ∷ ls) us end some h (goes e w) = goes (sign-opens false) (goes (letter-opens b (h .0) ∙ e) w)
 
-run-closes : (f : List Bool) → allZero f ≡ true → length f < 6 → byteDoes (run f) 45 ≡ go (outside true)
+pub run-closes : (f : List Bool) → allZero f ≡ true → length f < 6 → byteDoes (run f) 45 ≡ go (outside true)
 unfolding byteDoes lowDoes setB valueOf closeDoes
 run-closes f z l = simp (z, lt-ltb (length f) 6 l)
+
+-- letters after a '&', of whose units none is printable
+pub whole-run :
+    (ls : List ℕ) → 0 < length ls → Letters comma ls → Each Other (full 16 (bitsOf 6 (map (valueOf comma) ls))) →
+    Walk mailbox (outside false) (38 ∷ ls) (full 16 (bitsOf 6 (map (valueOf comma) ls))) (run (leftOver 16 (bitsOf 6 (map (valueOf comma) ls))))
+whole-run ls some h o = run-opens ls _ _ some h (cut-run ls [] h (lit< tt) o)
 
 -- what is neither itself nor the sign is not printable
 shifted-other : (us : List ℕ) → Each (Shifted Name) us → Each Other us
@@ -105,7 +111,7 @@ stretch-walk us some g =
     let r = run-opens (map (letterOf comma) x) us (run f) (xs-some us some h comma) ls (v (shifted-other us g)) in
     rw append-nil at (walk-on r (goes (run-closes f (filler-zero 6 (bitsOf 16 us)) few) stay))
 
-self-given : (after : Bool) (u : ℕ) → own Name u ≡ true → byteDoes (outside after) u ≡ give u (outside false)
+pub self-given : (after : Bool) (u : ℕ) → own Name u ≡ true → byteDoes (outside after) u ≡ give u (outside false)
 unfolding byteDoes lowDoes outsideDoes own
 self-given after u e =
     let h = both (printable u) (not (eqb u 38)) e in

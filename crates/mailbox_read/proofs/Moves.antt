@@ -11,14 +11,16 @@ use lib.Dec.{ltb, eqb}
 use borrow.Author.Tests.{lt-ltb, le-ltb}
 use Rattle.answer.specs.declared.Refusal.the-variants.{NeedlessShift}
 use Rattle.bits.specs.Bits.{bits, number}
-use Rattle.bits.proofs.Bits.{length-bits, number-bits, bits-append, bits-take, bits-drop, bits-mod, zero-bits, spelled}
-use Rattle.reading.specs.Reading.{Does, go, bad}
+use Rattle.bits.proofs.Bits.{number-lt, length-bits, number-bits, bits-append, bits-take, bits-drop, bits-mod, zero-bits, spelled}
+use Rattle.reading.specs.Reading.{Does, give, go, bad}
+use Rattle.reading.proofs.Laws.{SoundDoes}
 use Rattle.reading.specs.Stepping.{Spot, Next, cell, onward}
 use Rattle.reading.specs.declared.Marked.{Marked}
 use Rattle.utf7.specs.Sets.{printable}
-use Rattle.mailbox.specs.Rule.{Shift, outside, opening, run, givesUnit, unitDoes, closeDoes}
-use Rattle.mailbox.proofs.Kept.{SoundShift}
-use Rattle.mailbox_read.specs.Cursor.{shiftOf, stateOf, spotOf, cursorOf, Settled, SettledMove, doesOf, Moves}
+use Rattle.utf7.specs.Writing.{IsUnit}
+use Rattle.mailbox.specs.Rule.{Shift, outside, opening, run, givesUnit, unitDoes, closeDoes, byteDoes}
+use Rattle.mailbox.proofs.Kept.{SoundShift, mailbox-kept}
+use Rattle.mailbox_read.specs.Cursor.{shiftOf, stateOf, spotOf, cursorOf, Settled, onState, toldMove, moveOf, doesOf, SettledDoes, Moves}
 use Rattle.mailbox_read.specs.declared.State.{State}
 use Rattle.mailbox_read.specs.declared.State.the-variants.{Outside, Opening, Run}
 use Rattle.mailbox_read.specs.declared.Move.{Move}
@@ -41,8 +43,42 @@ pub settled-cursor : (p : Spot Shift) → SoundShift (p .state) → spotOf (curs
 settled-cursor p h = rw (shift-back (p .state) h)
 
 -- what an arm that found the move `m` knows
-pub moved : {r m : Move} {does : Does Shift} → Moves r does → r ≡ m → (does ≡ doesOf m) × SettledMove m
+pub moved : {r m : Move} {does : Does Shift} → Moves r does → r ≡ m → (does ≡ doesOf m) × SettledDoes (toldMove m)
 moved h e = (sym (h .so) ∙ ap doesOf e, rw e at (h .settled))
+
+-- such a move in numbers
+pub move-told : (r : Move) (does : Does Shift) → Moves r does → toldMove r ≡ onState stateOf does
+move-told (Give v st) does h = rw (← h .so, settled-back st (h .settled))
+move-told (Go st) does h = rw (← h .so, settled-back st (h .settled))
+move-told (Bad why) does h = rw (← h .so)
+
+-- and back, from a byte's move in any state
+sound-shift : (st : State) → SoundShift (shiftOf st)
+sound-shift (Outside after) = tt
+sound-shift (Opening after) = tt
+sound-shift (Run n v) = rw (length-bits (n % 16) v) (omega arith)
+
+settled-state : (shift : Shift) → SoundShift shift → Settled (stateOf shift)
+settled-state (outside after) h = tt
+settled-state (opening after) h = tt
+settled-state (run pending) h = (h, number-lt pending)
+
+state-back :
+    (does : Does Shift) → SoundDoes SoundShift IsUnit does →
+    (onState shiftOf (onState stateOf does) ≡ does) × SettledDoes (onState stateOf does)
+state-back (give v shift) h = (rw (shift-back shift (h .1)), settled-state shift (h .1))
+state-back (go shift) h = (rw (shift-back shift h), settled-state shift h)
+state-back (bad k) h = (refl, tt)
+
+byte-moves : (st : State) (b : ℕ) {r : Move} → toldMove r ≡ moveOf st b → Moves r (byteDoes (shiftOf st) b)
+unfolding moveOf
+byte-moves st b e =
+    let h = state-back (byteDoes (shiftOf st) b) (mailbox-kept .keeps (shiftOf st) b (sound-shift st)) in
+    record { so = ap (onState shiftOf) e ∙ h .0; settled = rw e (h .1) }
+
+pub byte-moved :
+    (st : State) (b : ℕ) {r m : Move} → toldMove r ≡ moveOf st b → r ≡ m → byteDoes (shiftOf st) b ≡ doesOf m
+byte-moved st b e k = moved (byte-moves st b e) k .0
 
 -- a letter's six bits behind the pending ones: too few for a unit, or sixteen and some
 module _ (n v x : ℕ) (few : n < 16) (fits : v < 2 ^ n) (letter : x < 64) where

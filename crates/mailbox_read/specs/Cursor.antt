@@ -7,7 +7,7 @@ use Rattle.bits.specs.Bits.{bits, number}
 use Rattle.answer.specs.Answer.{numberOf, inNumbers}
 use Rattle.reading.specs.Reading.{Does, give, go, bad}
 use Rattle.reading.specs.Stepping.{Spot, inText, Next, cell, final, onward, nextAt}
-use Rattle.mailbox.specs.Rule.{Shift, outside, opening, run, mailbox}
+use Rattle.mailbox.specs.Rule.{Shift, outside, opening, run, byteDoes, mailbox}
 use Rattle.mailbox.specs.Spans.{spanIn}
 use Rattle.mailbox_read.specs.declared.State.{State}
 use Rattle.mailbox_read.specs.declared.State.the-variants.{Outside, Opening, Run}
@@ -50,17 +50,30 @@ Settled (Outside after) = Unit
 Settled (Opening after) = Unit
 Settled (Run n v) = (n < 16) × (v < 2 ^ n)
 
-abbrev pub SettledMove : Move → Type 0
-SettledMove (Give v st) = Settled st
-SettledMove (Go st) = Settled st
-SettledMove (Bad why) = Unit
+-- the same, to a state that is written otherwise
+abbrev pub onState : {S T : Type 0} → (S → T) → Does S → Does T
+onState f (give v st) = give v (f st)
+onState f (go st) = go (f st)
+onState f (bad k) = bad k
 
+-- a move as the documents number it, and the move of a byte from any state
+abbrev pub toldMove : Move → Does State
+toldMove (Give v st) = give v st
+toldMove (Go st) = go st
+toldMove (Bad why) = bad (numberOf why)
+
+unfoldable pub moveOf : State → ℕ → Does State
+moveOf st b = onState stateOf (byteDoes (shiftOf st) b)
+
+-- the code's move is what a byte does, and its numbers are just those of their bits
 abbrev pub doesOf : Move → Does Shift
-doesOf (Give v st) = give v (shiftOf st)
-doesOf (Go st) = go (shiftOf st)
-doesOf (Bad why) = bad (numberOf why)
+doesOf move = onState shiftOf (toldMove move)
 
--- the code's move is what a byte does
+abbrev pub SettledDoes : Does State → Type 0
+SettledDoes (give v st) = Settled st
+SettledDoes (go st) = Settled st
+SettledDoes (bad k) = Unit
+
 pub record Moves (move : Move) (does : Does Shift) : Type 0 where
   pub so : doesOf move ≡ does
-  pub settled : SettledMove move
+  pub settled : SettledDoes (toldMove move)

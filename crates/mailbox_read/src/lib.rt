@@ -16,7 +16,7 @@ ghost use Rattle.reading.specs.Matching.{readsAs};
 ghost use Rattle.utf7.specs.Sets.{printable};
 ghost use Rattle.mailbox.specs.Rule.{mailbox, outsideDoes, unitDoes, closeDoes, lowDoes, byteDoes, endsIn};
 ghost use Rattle.mailbox.specs.Spans.{spanIn};
-ghost use Rattle.mailbox_read.specs.Cursor.{shiftOf, cursorOf, told, stepOf, Settled, Moves};
+ghost use Rattle.mailbox_read.specs.Cursor.{shiftOf, cursorOf, told, stepOf, Settled, toldMove, moveOf, Moves};
 
 // Where a reader stands to runs.
 pub enum State {
@@ -152,8 +152,8 @@ fn feed(st: State, b: u8) -> Move
     Move::Bad(Refusal::HighByte)
 }
 
-// The answer of a text of some size that ends in a state, after some cells.
-fn finish(size: usize, handed: usize, st: State) -> Answer
+// The answer of a text of some size that ends in any state, after some cells.
+pub fn finish(size: usize, handed: usize, st: State) -> Answer
     ensures { λ r. ⌜ inNumbers r ≡ closing (endsIn size (shiftOf st)) handed ⌝ }
 {
     match st {
@@ -176,6 +176,13 @@ fn settled(st: State) -> State
             State::Run(k, v % w)
         }
     }
+}
+
+// What a byte does in any state.
+pub fn byte_does(st: State, b: u8) -> Move
+    ensures { λ r. ⌜ toldMove r ≡ moveOf st b ⌝ }
+{
+    feed(settled(st), b)
 }
 
 // How many bytes the cell has that a byte completes: in a run the letters that hold its bits.

@@ -12,12 +12,12 @@ use borrow.Author.Tests.{eqb-true, ltb-true, ltb-false, lt-ltb, le-ltb, ne-eqb}
 use Rattle.answer.proofs.Laid.{Laid, laid-none, laid-one, laid-on, laid-front}
 use Rattle.bits.specs.Bits.{leftOver}
 use Rattle.base64.specs.Letters.{valueOf, setB, slash}
-use Rattle.reading.specs.Reading.{Reading, give, go, readFrom, reading}
+use Rattle.reading.specs.Reading.{Rule, Reading, give, go, readFrom, reading}
 use Rattle.reading.proofs.Laws.{left-start, left-more, left-go}
 use Rattle.reading.proofs.Strides.{Stride, stride-give, left-stride}
 use Rattle.utf7.specs.Sets.{alphanumeric, setD, setO, direct}
-use Rattle.utf7.specs.Rule.{Shift, outside, mayEnd, byteDoes, utf7}
-use Rattle.utf7_whole.specs.Quick.{Padded, Filled, Span, Ahead, Letters, Run, Values, One, Went, Last, bitsIn, unitsIn, past, unitsOf, lows, closes, stops}
+use Rattle.utf7.specs.Rule.{outside, mayEnd, utf7}
+use Rattle.utf7_whole.specs.Quick.{Padded, FilledBy, Filled, Span, Ahead, Letters, Run, Values, One, Went, Last, bitsIn, unitsIn, past, unitsOf, lows, closes, stops}
 use Rattle.utf7_whole.proofs.Tokens.{span-stay, span-on, span-ahead, ahead-as, length-units, no-unit, units-split, units-front, set-more, known, Known, ends-closed, closed-by, three-run, one-unit, slice-at, slice-rest, some-at, direct-stride, sign-stride, run-stride}
 
 -- a front that is all
@@ -297,7 +297,7 @@ near-done {last} {s} {at} {k} xs f g h o = record { so = λ j l. by j l (ltb j k
 
 module _ {s room : List ℕ} (p : Padded s room) where
   -- bytes of a set that has no 0
-  span-padded : (set : ℕ → Bool) {from to : ℕ} → set 0 ≡ false → Span set room from to → from ≤ length s → Span set s from to
+  pub span-padded : (set : ℕ → Bool) {from to : ℕ} → set 0 ≡ false → Span set room from to → from ≤ length s → Span set s from to
   span-padded set {from} {to} z q h =
       record { ordered = q .ordered; within = by (ltb (length s) to) refl; each = λ i l m. rw (p .same i) at (q .each i l m) }
     where
@@ -308,16 +308,16 @@ module _ {s room : List ℕ} (p : Padded s room) where
           absurd (false≢true (sym z ∙ rw d at b))
       by false e = ltb-false (length s) to e
 
-  slice-padded : (from to : ℕ) → to ≤ length s → to ≤ length room → slice from to room ≡ slice from to s
+  pub slice-padded : (from to : ℕ) → to ≤ length s → to ≤ length room → slice from to room ≡ slice from to s
   slice-padded from to h k =
       ext-getD 0 _ _ (length-slice from to room k ∙ sym (length-slice from to s h))
       (λ i l.
       let m : from + i < to = omega (arith, length-slice from to room k) in
       slice-at room from to i m ∙ p .same (from + i) ∙ sym (slice-at s from to i m))
 
-  run-padded : {from to : ℕ} → Run slash room from to → from ≤ length s → Run slash s from to
-  run-padded {from} {to} r h =
-      let q = span-padded (setB slash) slash-zero (r .letters) h in
+  pub run-padded : {last from to : ℕ} → setB last 0 ≡ false → Run last room from to → from ≤ length s → Run last s from to
+  run-padded {last} {from} {to} z r h =
+      let q = span-padded (setB last) z (r .letters) h in
       record {
         some = r .some;
         letters = q;
@@ -326,39 +326,39 @@ module _ {s room : List ℕ} (p : Padded s room) where
       }
 
 -- a buffer with the cells so far: what is laid behind them
-module _ {s : List ℕ} {at : ℕ} {st : Shift} {n : ℕ} {a : List ℕ} (f : Filled s at st n a) where
-  filled-stride : {to : ℕ} {cs : List ℕ} {st' : Shift} {b : List ℕ} → Stride utf7 s at st to cs st' → Laid cs n a b → Filled s to st' (n + length cs) b
+module _ {S : Type 0} {rule : Rule S} {s : List ℕ} {at : ℕ} {st : S} {n : ℕ} {a : List ℕ} (f : FilledBy rule s at st n a) where
+  pub filled-stride : {to : ℕ} {cs : List ℕ} {st' : S} {b : List ℕ} → Stride rule s at st to cs st' → Laid cs n a b → FilledBy rule s to st' (n + length cs) b
   filled-stride {to} {cs} {st'} q l =
       let c = f .left .cells ∙ ap (λ (x : Reading). x .cells) (q .same) in
       record {
         left = left-stride q (f .left);
         front =
             l .front
-            ∙ rw (f .front, take-add n (length cs) (reading utf7 s .cells), c, take-at cs (readFrom utf7 (drop to s) to st' .cells) (length cs) refl);
+            ∙ rw (f .front, take-add n (length cs) (reading rule s .cells), c, take-at cs (readFrom rule (drop to s) to st' .cells) (length cs) refl);
       }
 
   -- places further on are written
-  pub filled-kept : {b : List ℕ} → Laid [] n a b → Filled s at st n b
+  pub filled-kept : {b : List ℕ} → Laid [] n a b → FilledBy rule s at st n b
   filled-kept l = record { left = f .left; front = rw (add-zero, append-nil) at (l .front) ∙ f .front }
 
   pub filled-in : n ≤ length a
-  filled-in = omega (arith, ap length (f .front), length-take n a, length-take-le n (reading utf7 s .cells) (f .left .inside))
+  filled-in = omega (arith, ap length (f .front), length-take n a, length-take-le n (reading rule s .cells) (f .left .inside))
 
-  pub filled-done : n ≡ length (reading utf7 s .cells) → take (length (reading utf7 s .cells)) a ≡ reading utf7 s .cells
-  filled-done e = ap (λ (k : ℕ). take k a) (sym e) ∙ f .front ∙ rw (e, take-length (reading utf7 s .cells))
+  pub filled-done : n ≡ length (reading rule s .cells) → take (length (reading rule s .cells)) a ≡ reading rule s .cells
+  filled-done e = ap (λ (k : ℕ). take k a) (sym e) ∙ f .front ∙ rw (e, take-length (reading rule s .cells))
 
-  pub filled-as : {to m : ℕ} → at ≡ to → n ≡ m → Filled s to st m a
+  pub filled-as : {to m : ℕ} → at ≡ to → n ≡ m → FilledBy rule s to st m a
   filled-as e q = rw (← e, ← q) f
 
   -- a byte
   module _ (h : at < length s) where
-    pub filled-place : {v : ℕ} {st' : Shift} → byteDoes st (getD s at 0) ≡ give v st' → length (reading utf7 s .cells) ≤ length a → n < length a
+    pub filled-place : {v : ℕ} {st' : S} → rule .byte st (getD s at 0) ≡ give v st' → length (reading rule s .cells) ≤ length a → n < length a
     filled-place e k = omega (arith, left-more (f .left) h e)
 
-    pub filled-give : {v : ℕ} {st' : Shift} → byteDoes st (getD s at 0) ≡ give v st' → n < length a → Filled s (at + 1) st' (n + 1) (set a n v)
+    pub filled-give : {v : ℕ} {st' : S} → rule .byte st (getD s at 0) ≡ give v st' → n < length a → FilledBy rule s (at + 1) st' (n + 1) (set a n v)
     filled-give {v} e k = filled-stride (stride-give h e) (laid-one n v a k)
 
-    pub filled-go : {st' : Shift} → byteDoes st (getD s at 0) ≡ go st' → Filled s (at + 1) st' n a
+    pub filled-go : {st' : S} → rule .byte st (getD s at 0) ≡ go st' → FilledBy rule s (at + 1) st' n a
     filled-go e = record { left = left-go (f .left) h e; front = f .front }
 
 -- what each kind of token adds
@@ -383,7 +383,7 @@ module _ {s : List ℕ} {at n : ℕ} {a : List ℕ} (f : Filled s at outside n a
         Filled s (past room to) outside m b
     filled-run {to} r l q =
         let h : at < length s = some-at s at (omega (arith, sign-here)) in
-        let d = run-padded p r (omega arith) in
+        let d = run-padded p slash-zero r (omega arith) in
         let e = slice-padded p (at + 1) to (d .letters .within) (r .letters .within) in
         rw (q, e, p .same to) (filled-stride f (run-stride sign-here d) (rw e at l))
 

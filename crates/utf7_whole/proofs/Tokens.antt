@@ -118,7 +118,7 @@ span-ahead set {s} {at} {m} p h =
           rw e at (p .each (i - at) (omega (arith, p .upto)) (omega arith));
     }
 
-each-by : (P : ℕ → Type 0) (l : List ℕ) → ((i : ℕ) → i < length l → P (getD l i 0)) → Each P l
+pub each-by : (P : ℕ → Type 0) (l : List ℕ) → ((i : ℕ) → i < length l → P (getD l i 0)) → Each P l
 each-by P [] f = tt
 each-by P (x ∷ l) f = (f 0 (omega arith), each-by P l (λ i h. f (suc i) (omega arith)))
 
@@ -136,7 +136,7 @@ pub slice-rest : (s : List ℕ) (from to : ℕ) → from ≤ to → to ≤ lengt
 slice-rest s from to h k =
     ap (drop from) (sym (take-append-drop to s)) ∙ drop-append-le from (take to s) (drop to s) (omega (arith, length-take-le to s k))
 
-at-cons : (s : List ℕ) (at : ℕ) → at < length s → drop at s ≡ getD s at 0 ∷ drop (at + 1) s
+pub at-cons : (s : List ℕ) (at : ℕ) → at < length s → drop at s ≡ getD s at 0 ∷ drop (at + 1) s
 at-cons s at h = rw (add-one at) (drop-cons s at 0 h)
 
 -- bytes that stand for themselves

@@ -9,7 +9,7 @@ use lib.Dec.{eqb}
 use Rattle.answer.specs.Inner.{Laid}
 use Rattle.bits.specs.Bits.{bitsOf, full, leftOver}
 use Rattle.base64.specs.Letters.{valueOf, setB}
-use Rattle.reading.specs.Reading.{readFrom, reading}
+use Rattle.reading.specs.Reading.{Rule, readFrom, reading}
 use Rattle.reading.specs.Inner.{Left}
 use Rattle.reading.specs.Matching.{gave, readsAs}
 use Rattle.utf7.specs.Rule.{Shift, outside, mayEnd, utf7}
@@ -19,9 +19,12 @@ pub record Padded (s room : List ℕ) : Type 0 where
   pub same : (i : ℕ) → getD room i 0 ≡ getD s i 0
 
 -- the first n places of a buffer hold the cells so far
-pub record Filled (s : List ℕ) (at : ℕ) (st : Shift) (n : ℕ) (buf : List ℕ) : Type 0 where
-  pub left : Left utf7 s at st n
-  pub front : take n buf ≡ take n (reading utf7 s .cells)
+pub record FilledBy {S : Type 0} (rule : Rule S) (s : List ℕ) (at : ℕ) (st : S) (n : ℕ) (buf : List ℕ) : Type 0 where
+  pub left : Left rule s at st n
+  pub front : take n buf ≡ take n (reading rule s .cells)
+
+abbrev pub Filled : List ℕ → ℕ → Shift → ℕ → List ℕ → Type 0
+Filled s at st n buf = FilledBy utf7 s at st n buf
 
 -- the bytes from one place to another are all of a set
 pub record Span (set : ℕ → Bool) (s : List ℕ) (from to : ℕ) : Type 0 where

@@ -1,4 +1,5 @@
-// Reading UTF-7: a whole text at a time.
+// Reading UTF-7 and mailbox names: a whole text at a time.
+pub mod names;
 mod quick;
 
 use answer::Answer;

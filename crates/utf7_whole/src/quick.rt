@@ -26,7 +26,7 @@ pub struct Reached {
 }
 
 // A place in a block, or its end where the byte is of the set.
-fn noted(holds: bool, k: u8) -> u8
+pub fn noted(holds: bool, k: u8) -> u8
     ensures { λ r. ⌜ r ≡ cond holds 32 k ⌝ }
 {
     if holds {
@@ -35,7 +35,7 @@ fn noted(holds: bool, k: u8) -> u8
     k
 }
 
-fn least(a: u8, b: u8) -> u8
+pub fn least(a: u8, b: u8) -> u8
     ensures { λ r. ⌜ r ≡ cond (ltb b a) b a ⌝ }
 {
     if b < a {
@@ -157,7 +157,7 @@ fn third(f: u32, g: u32, h: u32) -> u32
 // The unit of a run of three letters and '-', or 65,536 where there is none. A run of one unit that another byte ends
 // is read as longer runs are: so the next place is a number of bytes further on that is known, and no load is waited
 // for.
-fn one_at(last: u8, text: &[u8], from: usize) -> u32
+pub fn one_at(last: u8, text: &[u8], from: usize) -> u32
     requires { ⌜ from + 4 ≤ length (now text) ⌝ }
     ensures { λ r. ⌜ (r < 65536 → One last (now (text .entry)) from r) ⌝ }
 {
@@ -296,7 +296,7 @@ fn put_last(last: u8, text: &[u8], from: usize, at: usize, out: &mut [u32], n: u
 
 // The units of a run go to the output from its start on: where its letters end, and the place behind its units. Where
 // the run may not end so, or the output has no room: the place where it began.
-fn put_run(last: u8, text: &[u8], from: usize, out: &mut [u32], start: usize) -> Reached
+pub fn put_run(last: u8, text: &[u8], from: usize, out: &mut [u32], start: usize) -> Reached
     requires { ⌜ (0 < last) × (from ≤ length (now text)) × (start ≤ length (now out)) ⌝ }
     ensures { λ r. ⌜ Went last (now (text .entry)) from start (now (out .entry)) (now (out .exit)) (r .at) (r .n) ⌝ }
 {
@@ -346,7 +346,7 @@ fn put_cells(x: [u32; 16], out: &mut [u32], n: usize)
 }
 
 // Bytes go to the output from n on, of which k count.
-fn widen(text: &[u8], at: usize, k: usize, out: &mut [u32], n: usize)
+pub fn widen(text: &[u8], at: usize, k: usize, out: &mut [u32], n: usize)
     requires { ⌜ (k ≤ 32) × (at + 32 ≤ length (now text)) × (n + 32 ≤ length (now out)) ⌝ }
     ensures { λ _. ⌜ Laid (slice at (at + k) (now (text .entry))) n (now (out .entry)) (now (out .exit)) ⌝ }
 {
@@ -534,7 +534,7 @@ pub struct Found {
 
 // The first n cells of a buffer are those of a list from a place on. Each is compared, so that it compiles to no
 // branch.
-fn is_same(cells: &[u32], n: usize, list: &[u32], from: usize) -> bool
+pub fn is_same(cells: &[u32], n: usize, list: &[u32], from: usize) -> bool
     requires { ⌜ (n ≤ length (now cells)) × (from + n ≤ length (now list)) ⌝ }
     ensures { λ r. ⌜ r ≡ sameCells (take n (now (cells .entry))) (take n (drop from (now (list .entry)))) ⌝ }
 {

@@ -1,0 +1,37 @@
+-- What the loops over whole mailbox names do.
+use Prim.Native.Nat.{ℕ, _+_, _≤_}
+use mathlib.Core.Path.{_≡_}
+use mathlib.Core.Bool.{Bool}
+use mathlib.Core.List.{List, _++_}
+use lib.ListN.{length, drop}
+use Rattle.answer.specs.Inner.{Laid}
+use Rattle.reading.specs.Reading.{readFrom}
+use Rattle.reading.specs.Inner.{Left}
+use Rattle.mailbox.specs.Rule.{outside, mailbox}
+use Rattle.utf7_whole.specs.Quick.{FilledBy}
+use Rattle.utf7_whole.specs.declared.names.Stand.{Stand}
+
+-- from one place outside a run to another, reading gives some cells
+pub record Goes (s : List ℕ) (at : ℕ) (after : Bool) (to : ℕ) (cs : List ℕ) (after' : Bool) : Type 0 where
+  pub within : to ≤ length s
+  pub few : at + length cs ≤ to
+  pub same :
+      readFrom mailbox (drop at s) at (outside after)
+      ≡ record {
+        cells = cs ++ readFrom mailbox (drop to s) to (outside after') .cells;
+        ending = readFrom mailbox (drop to s) to (outside after') .ending;
+      }
+
+-- and they are laid into an output
+pub record Puts (s : List ℕ) (from : Stand) (out : List ℕ) (r : Stand) (out' : List ℕ) : Type 0 where
+  pub cells : List ℕ
+  pub goes : Goes s (from .at) (from .after) (r .at) cells (r .after)
+  pub laid : Laid cells (from .n) out out'
+  pub count : r .n ≡ from .n + length cells
+
+-- where a reader stands after n cells, and these are the first of a buffer
+abbrev pub Stands : List ℕ → Stand → Type 0
+Stands s r = Left mailbox s (r .at) (outside (r .after)) (r .n)
+
+abbrev pub Holds : List ℕ → Stand → List ℕ → Type 0
+Holds s r buf = FilledBy mailbox s (r .at) (outside (r .after)) (r .n) buf
