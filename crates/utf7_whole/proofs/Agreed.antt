@@ -30,7 +30,7 @@ same-none accepted v read = refl
 same-none (fault k place) v read = refl
 
 -- as many cells on either side
-joined : (e : Ending) (p q a b : List ℕ) → length p ≡ length q → acceptedAs e (p ++ a) (q ++ b) ≡ cond (sameCells p q) (acceptedAs e a b) false
+pub joined : (e : Ending) (p q a b : List ℕ) → length p ≡ length q → acceptedAs e (p ++ a) (q ++ b) ≡ cond (sameCells p q) (acceptedAs e a b) false
 unfolding sameCells
 joined e [] [] a b h = refl
 joined e [] (y ∷ q) a b h = absurd (omega arith)

@@ -3,9 +3,9 @@ use Prim.Native.Nat.{ℕ, zero, suc, _+_, _-_, _<_, _≤_}
 use mathlib.Core.Path.{_≡_, refl, sym, ap, _∙_}
 use mathlib.Core.Bool.{Bool, true, false, _&&_, _||_, and-true, false≢true}
 use mathlib.Core.List.{List, [], _∷_, _++_, append-nil}
-use native.Mathlib.Nat.{add-zero}
+use native.Mathlib.Nat.{add-zero, zero-add}
 use native.Mathlib.Omega.{arith}
-use lib.ListN.{length, getD, take, drop, set, length-append}
+use lib.ListN.{length, getD, take, drop, set, length-append, length-drop, take-append-drop}
 use lib.Seq.{slice, length-slice, length-take-le, getD-take, getD-drop, drop-at, drop-drop, drop-append-add, take-take, take-at}
 use lib.Dec.{ltb, eqb}
 use borrow.Author.Tests.{ltb-true, eqb-true, eqb-false, ne-eqb}
@@ -15,7 +15,8 @@ use Rattle.answer.proofs.Below.{both}
 use Rattle.answer.proofs.Laid.{Laid, laid-none, laid-one, laid-on}
 use Rattle.bits.specs.Bits.{allZero, leftOver}
 use Rattle.base64.specs.Letters.{valueOf, setB, comma}
-use Rattle.reading.specs.Reading.{give, go}
+use Rattle.reading.specs.Reading.{give, go, readFrom, reading}
+use Rattle.reading.specs.Matching.{sameCells, acceptedAs, readsAs}
 use Rattle.reading.proofs.Laws.{left-start}
 use Rattle.reading.proofs.Walk.{Walk, stay, gives}
 use Rattle.reading.proofs.Strides.{Stride, stride-stay, stride-give, stride-go, stride-on, stride-to, stride-walk, left-stride}
@@ -25,9 +26,10 @@ use Rattle.utf7.specs.declared.Style.the-variants.{Name}
 use Rattle.mailbox.specs.Rule.{outside, opening, run, byteDoes, mailbox}
 use Rattle.mailbox.proofs.Round.{Other, self-given, sign-opens, sign-closes, run-closes, whole-run}
 use Rattle.utf7_whole.specs.Quick.{Padded, FilledBy, Span, Run, One, Went, bitsIn, unitsIn}
-use Rattle.utf7_whole.specs.Mailbox.{Goes, Puts, Stands, Holds}
+use Rattle.utf7_whole.specs.Mailbox.{Goes, Puts, Stands, Holds, Matches}
 use Rattle.utf7_whole.specs.declared.names.Stand.{Stand}
 use Rattle.utf7_whole.proofs.Tokens.{span-each, slice-rest, some-at, each-by, at-cons}
+use Rattle.utf7_whole.proofs.Agreed.{joined}
 use Rattle.utf7_whole.proofs.Buffers.{span-padded, slice-padded, run-padded, filled-stride, one-run, one-units, laid-room, filled-in}
 
 -- neither of two tests
@@ -215,3 +217,29 @@ pub others :
 others us {n} {a} {b} l h f =
     each-by Other us
     (λ i k. rw (laid-at l h i k) at (f (n + i) (omega arith) (omega arith)))
+
+-- comparing with cells: none yet, and those that were put
+pub matches-start : (s cells : List ℕ) → Matches s cells (record { at = 0; n = 0; after = false })
+unfolding readsAs reading
+matches-start s cells = record { within = omega arith; few = omega arith; inside = omega arith; so = refl }
+
+module _ {s cells : List ℕ} {at n : ℕ} {after : Bool} (g : Matches s cells (record { at = at; n = n; after = after })) {r : Stand} {a b : List ℕ} (p : Puts s (record { at = at; n = 0; after = after }) a r b) where
+  pub matches-on : n + r .n ≤ length cells → sameCells (take (r .n) b) (take (r .n) (drop n cells)) ≡ true → Matches s cells (record { at = r .at; n = n + r .n; after = r .after })
+  matches-on h e =
+      let cs = p .cells in
+      let rest = readFrom mailbox (drop (r .at) s) (r .at) (outside (r .after)) in
+      let own = take (r .n) (drop n cells) in
+      let k : r .n ≡ length cs = p .count ∙ zero-add (length cs) in
+      let f : take (r .n) b ≡ cs = rw k (rw (zero-add (length cs)) at (p .laid .front)) in
+      let l : length cs ≡ length own = sym k ∙ sym (length-take-le (r .n) (drop n cells) (omega (arith, length-drop n cells))) in
+      let same : sameCells cs own ≡ true = rw f at e in
+      let j = joined (rest .ending) cs own (rest .cells) (drop (r .n) (drop n cells)) l in
+      let w : acceptedAs (rest .ending) (cs ++ rest .cells) (drop n cells) ≡ readsAs mailbox s cells = rw (p .goes .same) at (g .so) in
+      let t : acceptedAs (rest .ending) (cs ++ rest .cells) (drop n cells) ≡ acceptedAs (rest .ending) (rest .cells) (drop (r .n) (drop n cells)) =
+      rw (same, take-append-drop (r .n) (drop n cells)) at j in
+      record {
+        within = p .goes .within;
+        few = omega (arith, g .few, p .goes .few, k);
+        inside = h;
+        so = rw (← drop-drop (r .n) n cells) (sym t ∙ w);
+      }

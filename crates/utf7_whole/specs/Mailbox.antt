@@ -7,6 +7,7 @@ use lib.ListN.{length, drop}
 use Rattle.answer.specs.Inner.{Laid}
 use Rattle.reading.specs.Reading.{readFrom}
 use Rattle.reading.specs.Inner.{Left}
+use Rattle.reading.specs.Matching.{gave, readsAs}
 use Rattle.mailbox.specs.Rule.{outside, mailbox}
 use Rattle.utf7_whole.specs.Quick.{FilledBy}
 use Rattle.utf7_whole.specs.declared.names.Stand.{Stand}
@@ -35,3 +36,10 @@ Stands s r = Left mailbox s (r .at) (outside (r .after)) (r .n)
 
 abbrev pub Holds : List ℕ → Stand → List ℕ → Type 0
 Holds s r buf = FilledBy mailbox s (r .at) (outside (r .after)) (r .n) buf
+
+-- n cells were the same: whether the text reads as the cells is whether its rest does as theirs
+pub record Matches (s cells : List ℕ) (r : Stand) : Type 0 where
+  pub within : r .at ≤ length s
+  pub few : r .n ≤ r .at
+  pub inside : r .n ≤ length cells
+  pub so : gave (readFrom mailbox (drop (r .at) s) (r .at) (outside (r .after))) (drop (r .n) cells) ≡ readsAs mailbox s cells

@@ -15,11 +15,12 @@ ghost use lib.Dec.{eqb};
 ghost use Rattle.answer.specs.Answer.{inNumbers, limit};
 ghost use Rattle.answer.specs.Output.{leaves};
 ghost use Rattle.reading.specs.Reading.{verdictOf, reading, readInto};
+ghost use Rattle.reading.specs.Matching.{readsAs};
 ghost use Rattle.utf7.specs.Sets.{printable, own};
 ghost use Rattle.utf7.specs.declared.Style.the-variants.{Name};
 ghost use Rattle.mailbox.specs.Rule.{mailbox};
 ghost use Rattle.utf7_whole.specs.Quick.{Padded, Span};
-ghost use Rattle.utf7_whole.specs.Mailbox.{Puts, Stands, Holds};
+ghost use Rattle.utf7_whole.specs.Mailbox.{Puts, Stands, Holds, Matches};
 
 // Where a reader stands outside a run: the place of the next byte, after how many cells, and whether a run was closed
 // directly before.
@@ -382,4 +383,69 @@ pub fn read(text: &[u8], out: &mut [u32]) -> Answer
         return through_4096(text, out);
     }
     front_4176(text, out)
+}
+
+// Goes on as long as a text reads as the cells, by way of a small buffer.
+fn follow(text: &[u8], cells: &[u32]) -> Stand
+    ensures { λ r. ⌜ Matches (now (text .entry)) (now (cells .entry)) r ⌝ }
+{
+    let mut buffer = [0u32; 1088];
+    let mut at: usize = 0;
+    let mut n: usize = 0;
+    let mut after = false;
+    while at < text.len() {
+        let r = fill(text, Stand { at, n: 0, after }, &mut buffer);
+        let to = r.at;
+        let m = r.n;
+        if to <= at {
+            return Stand { at, n, after };
+        }
+        if cells.len() - n < m {
+            return Stand { at, n, after };
+        }
+        if quick::is_same(&buffer, m, cells, n) {
+            at = to;
+            n += m;
+            after = r.after;
+        } else {
+            return Stand { at, n, after };
+        }
+    }
+    Stand { at, n, after }
+}
+
+// The text is accepted and reads as the cells. Nothing is lent to be written.
+pub fn reads_as(text: &[u8], cells: &[u32]) -> bool
+    ensures { λ r. ⌜ r ≡ readsAs mailbox (now (text .entry)) (now (cells .entry)) ⌝ }
+{
+    let reached = follow(text, cells);
+    let mut at = reached.at;
+    let mut n = reached.n;
+    let mut st = State::Outside(reached.after);
+    while at < text.len() {
+        match mailbox_read::byte_does(st, text[at]) {
+            Move::Give(value, state) => {
+                if cells.len() <= n {
+                    return false;
+                }
+                if cells[n] != value {
+                    return false;
+                }
+                st = state;
+                n += 1;
+                at += 1;
+            }
+            Move::Go(state) => {
+                st = state;
+                at += 1;
+            }
+            Move::Bad(_) => {
+                return false;
+            }
+        }
+    }
+    match mailbox_read::finish(at, n, st) {
+        Answer::Accepted(_) => n == cells.len(),
+        Answer::Refused(_, _) => false,
+    }
 }
