@@ -77,7 +77,7 @@ pub fn read(format: Format, text: &[u8], out: &mut [u32]) -> Answer
     match format {
         Format::Utf7 => utf7_whole::read(text, out),
         Format::Jp2 => jp2_whole::read(text, out),
-        Format::Mailbox => mailbox_read::read(text, out),
+        Format::Mailbox => utf7_whole::names::read(text, out),
     }
 }
 
@@ -88,7 +88,7 @@ pub fn reads_as(format: Format, text: &[u8], cells: &[u32]) -> bool
     match format {
         Format::Utf7 => utf7_whole::reads_as(text, cells),
         Format::Jp2 => jp2_whole::reads_as(text, cells),
-        Format::Mailbox => mailbox_read::reads_as(text, cells),
+        Format::Mailbox => utf7_whole::names::reads_as(text, cells),
     }
 }
 

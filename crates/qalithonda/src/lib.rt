@@ -43,7 +43,7 @@ pub extern "C" fn qalithonda_utf7_body_write(cells: &[u32], out: &mut [u8]) -> N
 pub extern "C" fn qalithonda_mailbox_read(text: &[u8], cells: &mut [u32]) -> Numbers
     ensures { λ r. ⌜ left r (now (cells .exit)) ≡ readInto mailbox (now (text .entry)) (now (cells .entry)) ⌝ }
 {
-    in_numbers(mailbox_read::read(text, cells))
+    in_numbers(utf7_whole::names::read(text, cells))
 }
 
 #[no_mangle]

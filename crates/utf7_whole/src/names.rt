@@ -307,12 +307,12 @@ fn front(text: &[u8], cells: &mut [u32], out: &mut [u32]) -> Answer
         Answer::Refused(_, _) => {
             return found;
         }
-        Answer::Accepted(n) => {
-            if out.len() < n {
-                return Answer::Refused(Refusal::NoRoom, n);
+        Answer::Accepted(count) => {
+            if out.len() < count {
+                return Answer::Refused(Refusal::NoRoom, count);
             }
             copy(cells, m, out);
-            let _ = decode(text, text, r, &mut out[..n]);
+            let _ = decode(text, text, r, &mut out[..count]);
             found
         }
     }
