@@ -15,11 +15,11 @@ use Rattle.utf7.specs.Writing.{Piece, self, sign, stretch, extend, pieces, spel
 use Rattle.utf7.specs.declared.Style.{Style}
 use Rattle.utf7.proofs.Pieces.{length-run}
 use Rattle.answer.specs.Ahead.{Ahead}
-use Rattle.utf7_write.specs.Ahead.{Own, Narrowed}
+use Rattle.utf7_write.specs.Ahead.{Own}
 use Rattle.utf7_write.specs.Begun.{Reach, Begun}
 use Rattle.utf7_write.proofs.Two.{Two, put-two}
 use Rattle.utf7_write.proofs.Several.{put-several, put-block}
-use Rattle.utf7_write.proofs.Blocks.{own-cells, same-cells, write-block}
+use Rattle.utf7_write.proofs.Blocks.{write-block}
 use Rattle.utf7_write.proofs.Stretches.{Stretched, Itself, write-end, write-sign}
 
 -- each unit takes a byte at least
@@ -189,16 +189,16 @@ module _ {style : Style} {us out₀ out : List ℕ} {i at : ℕ} (b : Begun styl
 -- a block of n bytes is stored, of which the first k stand
 pub begun-block :
     {style : Style} {us out₀ out : List ℕ} {i at : ℕ} → Begun style us out₀ out i at → (n : ℕ) (bs : List ℕ) → i + n ≤ length us → length bs ≡ n →
-    Narrowed us i bs n → (k : ℕ) → k ≤ n → Ahead (Own style) bs 0 k → {out' : List ℕ} → out' ≡ paste out at bs n → Begun style us out₀ out' (i + k) (at + k)
-begun-block {style} {us} {out₀} {out} {i} {at} b n bs h l w k q a f =
+    (k : ℕ) → k ≤ n → Ahead (Own style) us i k → take k bs ≡ take k (drop i us) → {out' : List ℕ} → out' ≡ paste out at bs n →
+    Begun style us out₀ out' (i + k) (at + k)
+begun-block {style} {us} {out₀} {out} {i} {at} b n bs h l k q o same f =
     let c = begun-over b n bs h (omega arith) in
-    let o = own-cells style us i bs n w k q a in
     let part : List ℕ = take k (drop i us) in
     let e : length part ≡ k = length-take-le k (drop i us) (omega (arith, length-drop i us)) in
     let t : at + n ≤ length out = omega (arith, begun-room b) in
     let z : take k (drop at (paste out at bs n)) ≡ part =
     rw (append-assoc (take at out) (take n bs) (drop (at + n) out), drop-at (take at out) (take n bs ++ drop (at + n) out) at (length-take-le at out (omega arith)), take-append-le k (take n bs) (drop (at + n) out) (rw (length-take-le n bs (omega arith)) q), take-take k n bs q)
-    (same-cells style us i bs n h l w k q a) in
+    same in
     rw f
     (begun-on c (rw e at (put-stands part (writing style (drop (i + k) us)) (put-as (write-block style us k i (omega arith) o) (c .reach .put)) (rw (e, length-paste out at bs n t (omega arith)) (omega arith)) (rw e z)))
     (omega arith) (omega arith))

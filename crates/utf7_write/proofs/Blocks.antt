@@ -1,5 +1,5 @@
 -- Bytes told apart by choices, and blocks of units that are written as themselves. Assumes nothing.
-use Prim.Native.Nat.{ℕ, zero, suc, _+_, _-_, _/_, _%_, _^_, _<_, _≤_, max}
+use Prim.Native.Nat.{ℕ, zero, suc, _+_, _-_, _/_, _%_, _^_, _<_, _≤_}
 use mathlib.Core.Path.{_≡_, refl, sym, ap, _∙_}
 use mathlib.Core.Bool.{Bool, true, false, cond, _&&_, _||_, not}
 use mathlib.Core.List.{List, _∷_, _++_}
@@ -109,42 +109,13 @@ module _ (style : Style) (us : List ℕ) (i : ℕ) (bs : List ℕ) (n : ℕ) whe
       getD-take k bs m 0 y ∙ w m (omega arith)
       ∙ rw (lt-ltb u 128 (own-byte style u (own-cells w k q a m y)), getD-take k (drop i us) m 0 y, getD-drop i us m 0))
 
--- the greatest weight of the bytes passed that are not written as themselves: that of the first of them
-abbrev pub Weighed : Style → List ℕ → ℕ → ℕ → Type 0
-Weighed style bs k m =
-    (m ≤ 16) × ((j : ℕ) → j < k → j + m < 16 → Own style (getD bs j 0)) × (0 < m → (16 < k + m) × (own style (getD bs (16 - m) 0) ≡ false))
-
-module _ (style : Style) (bs : List ℕ) (k m : ℕ) (h : k < 16) (g : Weighed style bs k m) {bit w m' : ℕ} where
-  pub weighed-more : bit ≡ ownBit style (getD bs k 0) → w ≡ cond (eqb bit 1) 0 (16 - k) → m' ≡ max m w → Weighed style bs (k + 1) m'
-  weighed-more p e f = told (own style (getD bs k 0)) refl
-    where
-      here : (j : ℕ) → j < k + 1 → j + m < 16 → own style (getD bs k 0) ≡ true → (t : Bool) → eqb j k ≡ t → Own style (getD bs j 0)
-      here j a c o true q = rw (eqb-true j k q) o
-      here j a c o false q = g .1 j (omega (arith, eqb-false j k q)) c
-
-      first : (t : Bool) → eqb m 0 ≡ t → own style (getD bs k 0) ≡ false → w ≡ 16 - k → Weighed style bs (k + 1) m'
-      first true q o x =
-          let z = eqb-true m 0 q in
-          let y : 16 - m' ≡ k = omega arith in
-          (omega arith, λ j a c. g .1 j (omega arith) (omega arith), λ _. (omega arith, rw y o))
-      first false q o x =
-          let s = g .2 (omega (arith, eqb-false m 0 q)) in
-          let y : m' ≡ m = omega arith in
-          rw y (g .0, λ j a c. g .1 j (omega arith) c, λ _. (omega arith, s .1))
-
-      told : (t : Bool) → own style (getD bs k 0) ≡ t → Weighed style bs (k + 1) m'
-      told true o =
-          let x : w ≡ 0 = e ∙ rw (p, o) in
-          let y : m' ≡ m = omega arith in
-          rw y (g .0, λ j a c. here j a c o (eqb j k) refl, λ v. (omega (arith, g .2 v .0), g .2 v .1))
-      told false o = first (eqb m 0) refl o (e ∙ rw (p, o))
-
--- one element more of a block that is made narrow
-pub narrowed-more :
-    (us : List ℕ) (i : ℕ) (bs : List ℕ) (k x : ℕ) → k < length bs → Narrowed us i bs k → x ≡ narrow (getD us (i + k) 0) → Narrowed us i (set bs k x) (k + 1)
-narrowed-more us i bs k x h n e m l = told (eqb m k) refl
+-- one element more of a block that is made of cells
+pub made-more :
+    (f : ℕ → ℕ) (us : List ℕ) (i : ℕ) (bs : List ℕ) (k x : ℕ) → k < length bs → ((m : ℕ) → m < k → getD bs m 0 ≡ f (getD us (i + m) 0)) →
+    x ≡ f (getD us (i + k) 0) → (m : ℕ) → m < k + 1 → getD (set bs k x) m 0 ≡ f (getD us (i + m) 0)
+made-more f us i bs k x h n e m l = told (eqb m k) refl
   where
-    told : (t : Bool) → eqb m k ≡ t → getD (set bs k x) m 0 ≡ narrow (getD us (i + m) 0)
+    told : (t : Bool) → eqb m k ≡ t → getD (set bs k x) m 0 ≡ f (getD us (i + m) 0)
     told true q = rw (eqb-true m k q) (getD-set-same bs k x 0 h ∙ e)
     told false q = getD-set-other bs k m x 0 (eqb-false m k q) ∙ n m (omega (arith, eqb-false m k q))
 

@@ -5,3 +5,4 @@ pub mod Blocks
 pub mod Several
 pub mod Runs
 pub mod Begun
+pub mod Marks

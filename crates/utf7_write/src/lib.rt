@@ -3,11 +3,10 @@ use answer::Answer;
 use answer::Refusal;
 use utf7::Style;
 ghost use mathlib.Core.Path.{_≡_};
-ghost use Prim.Native.Nat.{_+_, _-_, _<_, _≤_, _^_, max};
+ghost use Prim.Native.Nat.{_+_, _-_, _<_, _≤_, _^_};
 ghost use mathlib.Core.Bool.{true, false, cond};
 ghost use mathlib.Core.List.{[], _∷_, map};
 ghost use lib.ListN.{length, getD, take, drop};
-ghost use lib.Dec.{eqb};
 ghost use lib.Seq.{sets, paste};
 ghost use Rattle.answer.specs.Answer.{limit};
 ghost use Rattle.answer.specs.Lists.{Each};
@@ -20,7 +19,7 @@ ghost use Rattle.utf7.specs.Writing.{IsUnit, spell, stretch, writing, firstOver
 ghost use Rattle.utf7_write.specs.Stretch.{other, stretchLength};
 ghost use Rattle.utf7_write.specs.Values.{values, fourOf};
 ghost use Rattle.answer.specs.Ahead.{Ahead};
-ghost use Rattle.utf7_write.specs.Ahead.{High, Own, ownBit, OwnFrom, narrow, Narrowed};
+ghost use Rattle.utf7_write.specs.Ahead.{High, Own, ownBit, OwnFrom, narrow, Narrowed, markOf, Turned, Marked, Bit, Zero, wordAt, Low};
 ghost use Rattle.utf7_write.specs.Begun.{Begun};
 
 // "n units need at most 5n bytes"
@@ -262,37 +261,6 @@ fn bytes_ahead(cells: &[u32], i: usize) -> [u8; 16]
     bytes
 }
 
-// The greater of two weights.
-fn most(a: u8, b: u8) -> u8
-    ensures { λ r. ⌜ r ≡ max a b ⌝ }
-{
-    if a < b {
-        return b;
-    }
-    a
-}
-
-// The weight of a byte that is not written as itself; one that is has none.
-fn weight(own: u8, w: u8) -> u8
-    ensures { λ r. ⌜ r ≡ cond (eqb own 1) 0 w ⌝ }
-{
-    if own == 1 {
-        return 0;
-    }
-    w
-}
-
-// How many of sixteen bytes the style writes as themselves before one that it does not: the first of those weighs most.
-fn own_in(style: Style, bytes: [u8; 16]) -> usize
-    ensures { λ r. ⌜ (r ≤ 16) × Ahead (Own style) bytes 0 r × (r < 16 → own style (getD bytes r 0) ≡ false) ⌝ }
-{
-    let mut m: u8 = 0;
-    for k in 0..16 {
-        m = most(m, weight(own_byte(style, bytes[k]), 16 - k as u8));
-    }
-    16 - m as usize
-}
-
 // Sixteen bytes go to the output at once.
 fn put_block(block: [u8; 16], out: &mut [u8], at: usize)
     requires { ⌜ at + 16 ≤ length (now out) ⌝ }
@@ -395,16 +363,138 @@ fn is_long(style: Style) -> bool
     }
 }
 
+// 0 for a byte that is written as itself in the style, 1 for any other.
+fn mark_of(style: Style, b: u8) -> u8
+    ensures { λ r. ⌜ r ≡ markOf style b ⌝ }
+{
+    if own_byte(style, b) == 1 {
+        return 0;
+    }
+    1
+}
+
+// Bytes are turned into marks where they stand.
+fn turn_marks(style: Style, marks: &mut [u8], n: usize)
+    requires { ⌜ n ≤ length (now marks) ⌝ }
+    ensures { λ _. ⌜ Turned style (now (marks .entry)) (now (marks .exit)) n ⌝ }
+{
+    let mut k: usize = 0;
+    while k < n {
+        marks[k] = mark_of(style, marks[k]);
+        k += 1;
+    }
+}
+
+// How many places are taken by sixteens: at most so many, and no more than there are.
+fn room_for(left: usize, room: usize) -> usize
+    ensures { λ r. ⌜ (r ≤ left) × (r ≤ room) × (16 ≤ left → 16 ≤ room → 16 ≤ r) ⌝ }
+{
+    if left < room {
+        return left;
+    }
+    room
+}
+
+// The cells from a place on go to the front of the output as bytes, by sixteens; how many.
+fn put_bytes(cells: &[u32], from: usize, out: &mut [u8]) -> usize
+    requires { ⌜ from ≤ length (now cells) ⌝ }
+    ensures { λ r. ⌜ (r ≤ length (now (out .entry))) × Narrowed (now (cells .entry)) from (now (out .exit)) r
+        × (from + 16 ≤ length (now (cells .entry)) → 16 ≤ length (now (out .entry)) → 16 ≤ r) ⌝ }
+{
+    let most = room_for(cells.len() - from, out.len());
+    let mut n: usize = 0;
+    while 16 <= most - n {
+        let bytes = bytes_ahead(cells, from + n);
+        put_block(bytes, out, n);
+        n += 16;
+    }
+    n
+}
+
+// Marks of cells, and how many there are.
+struct Window {
+    base: usize,
+    count: usize,
+}
+
+// The window itself where it has sixteen marks from a place on; else one that begins there.
+fn window_at(
+    style: Style,
+    cells: &[u32],
+    i: usize,
+    base: usize,
+    count: usize,
+    marks: &mut [u8],
+) -> Window
+    requires { ⌜ (i + 16 ≤ length (now cells)) × (16 ≤ length (now marks)) × Marked style (now cells) base (now marks) count
+        × (base ≤ i) × (count ≤ length (now marks)) ⌝ }
+    ensures { λ r. ⌜ Marked style (now (cells .entry)) (r .base) (now (marks .exit)) (r .count) × (r .base ≤ i)
+        × (i + 16 ≤ r .base + r .count) × (r .count ≤ length (now (marks .entry))) ⌝ }
+{
+    if i - base + 16 <= count {
+        return Window { base, count };
+    }
+    let n = put_bytes(cells, i, marks);
+    turn_marks(style, marks, n);
+    Window { base: i, count: n }
+}
+
+// A mark as a number.
+fn mark_at(marks: &[u8], j: usize) -> u64
+    requires { ⌜ (j < length (now marks)) × Bit (getD (now marks) j 0) ⌝ }
+    ensures { λ r. ⌜ (r ≡ getD (now (marks .entry)) j 0) × (r < 2) ⌝ }
+{
+    marks[j] as u64
+}
+
+// Four marks as one number, the first lowest.
+fn four_at(marks: &[u8], j: usize) -> u64
+    requires { ⌜ (j + 4 ≤ length (now marks)) × Ahead Bit (now marks) j 4 ⌝ }
+    ensures { λ r. ⌜ (r ≡ wordAt (now (marks .entry)) j 4) × (r < 2 ^ 32) ⌝ }
+{
+    let a = mark_at(marks, j);
+    let b = mark_at(marks, j + 1);
+    let c = mark_at(marks, j + 2);
+    let d = mark_at(marks, j + 3);
+    a + b * 256 + c * 65536 + d * 16777216
+}
+
+// How many of sixteen marks come before one that is 1.
+fn zeros_ahead(marks: &[u8], j: usize) -> usize
+    requires { ⌜ (j + 16 ≤ length (now marks)) × Ahead Bit (now marks) j 16 ⌝ }
+    ensures { λ r. ⌜ (r ≤ 16) × Ahead Zero (now (marks .entry)) j r × (r < 16 → getD (now (marks .entry)) (j + r) 0 ≡ 1) ⌝ }
+{
+    let a = four_at(marks, j) + four_at(marks, j + 4) * 4294967296;
+    let b = four_at(marks, j + 8) + four_at(marks, j + 12) * 4294967296;
+    if a == 0 {
+        return 8 + u64::trailing_zeros(b) as usize / 8;
+    }
+    u64::trailing_zeros(a) as usize / 8
+}
+
+// The low bytes of sixteen cells.
+fn low_bytes(cells: &[u32], i: usize) -> [u8; 16]
+    requires { ⌜ i + 16 ≤ length (now cells) ⌝ }
+    ensures { λ r. ⌜ Low (now (cells .entry)) i r 16 ⌝ }
+{
+    let mut bytes = [0u8; 16];
+    for k in 0..16 {
+        bytes[k] = (cells[i + k] % 256) as u8;
+    }
+    bytes
+}
+
 // Where the quick loop stopped: the cells written, and the bytes that stand.
 struct Reached {
     i: usize,
     at: usize,
 }
 
-// Writes by blocks while more than sixteen cells are left. A block is stored whole before it is known how many of its bytes stand: each cell that
+// Writes by blocks while more than sixteen cells are left. How many of a block's bytes stand is told by marks made in advance, so that the next block's place waits
+// for little. A block is stored whole before it is known how many of its bytes stand: each cell that
 // is left takes a byte at least, so that all the others are written over.
-fn write_blocks(style: Style, cells: &[u32], out: &mut [u8]) -> Reached
-    requires { ⌜ Each IsUnit (now cells) × (length (writing style (now cells)) ≤ length (now out)) ⌝ }
+fn write_blocks(style: Style, cells: &[u32], out: &mut [u8], marks: &mut [u8]) -> Reached
+    requires { ⌜ Each IsUnit (now cells) × (length (writing style (now cells)) ≤ length (now out)) × (16 ≤ length (now marks)) ⌝ }
     ensures { λ r. ⌜ Begun style (now (cells .entry)) (now (out .entry)) (now (out .exit)) (r .i) (r .at) ⌝ }
 {
     let sign = utf7::sign_of(style);
@@ -413,10 +503,15 @@ fn write_blocks(style: Style, cells: &[u32], out: &mut [u8]) -> Reached
     let long = is_long(style);
     let mut i: usize = 0;
     let mut to: usize = 0;
+    let mut base: usize = 0;
+    let mut count: usize = 0;
     while 17 <= cells.len() - i {
-        let bytes = bytes_ahead(cells, i);
+        let w = window_at(style, cells, i, base, count, marks);
+        base = w.base;
+        count = w.count;
+        let bytes = low_bytes(cells, i);
         put_block(bytes, out, to);
-        let k = own_in(style, bytes);
+        let k = zeros_ahead(marks, i - base);
         if k == 16 {
             to += 16;
             i += 16;
@@ -458,7 +553,8 @@ fn write_all(style: Style, cells: &[u32], out: &mut [u8]) -> usize
         × (now (out .exit) ≡ filled (writing style (now (cells .entry))) (now (out .entry))) ⌝ }
 {
     let sign = utf7::sign_of(style);
-    let r = write_blocks(style, cells, out);
+    let mut marks = [0u8; 64];
+    let r = write_blocks(style, cells, out, &mut marks);
     let mut i: usize = r.i;
     let mut at: usize = r.at;
     while i < cells.len() {

@@ -2,8 +2,8 @@ use Prim.Native.Nat.{_-_, _≤_}
 use mathlib.Core.Path.{_≡_, refl}
 use native.Mathlib.Omega.{arith}
 use lib.ListN.{length, length-set}
-use Rattle.utf7_write.specs.Ahead.{Narrowed}
-use Rattle.utf7_write.proofs.Blocks.{narrowed-more}
+use Rattle.utf7_write.specs.Ahead.{narrow, Narrowed}
+use Rattle.utf7_write.proofs.Blocks.{made-more}
 use borrow.Author.Needs.{needs}
 use Rattle.utf7_write.proofs.bytes_ahead.Statement.{statement}
 use Rattle.utf7_write.proofs.bytes_ahead.Tie as tie
@@ -43,7 +43,7 @@ loop-again c =
     let l = c .before .before .before in
     let a = l .before .before .args in (
       simp length-set (l .loop .inv .0),
-      narrowed-more (a .cells .now) (a .i) (l .loop .bytes) (l .loop .k) (c .byte-of .result) (omega arith) (l .loop .inv .1) (c .byte-of .ensures),
+      made-more narrow (a .cells .now) (a .i) (l .loop .bytes) (l .loop .k) (c .byte-of .result) (omega arith) (l .loop .inv .1) (c .byte-of .ensures),
       omega arith,
     )
 

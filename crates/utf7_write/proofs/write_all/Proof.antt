@@ -20,7 +20,7 @@ abbrev μ-loop : tie.MeasureT-loop
 μ-loop style cells out₀ sign i₀ at₀ out i at = length cells - i
 
 abbrev sign-at : tie.At-loop Inv-loop μ-loop → tie.After-sign-of Inv-loop μ-loop
-sign-at l = l .before .before .before .before .before
+sign-at l = l .before .before .before .before .before .before .before
 
 abbrev start : tie.At-loop Inv-loop μ-loop → tie.Start Inv-loop μ-loop
 start l = sign-at l .before .before .before
@@ -29,8 +29,8 @@ abbrev On : tie.At-loop Inv-loop μ-loop → List ℕ → List ℕ → ℕ → �
 On l first out i at = Begun (start l .args .style) (start l .args .cells .now) first out i at
 
 -- what the quick loop left, and what is written since
-quick : (l : tie.At-loop Inv-loop μ-loop) → let w = l .before .before .before in On l (start l .args .out .now) (w .write-blocks .last .1 .1 .0) (w .write-blocks .result .i) (w .write-blocks .result .at)
-quick l = l .before .before .before .write-blocks .ensures
+quick : (l : tie.At-loop Inv-loop μ-loop) → let w = l .before .before .before .before in On l (start l .args .out .now) (w .write-blocks .last .1 .1 .0) (w .write-blocks .result .i) (w .write-blocks .result .at)
+quick l = l .before .before .before .before .write-blocks .ensures
 
 begun : (l : tie.At-loop Inv-loop μ-loop) → On l (start l .args .out .now) (l .loop .out) (l .loop .i) (l .loop .at)
 begun l = l .loop .inv _ (quick l)
@@ -66,8 +66,11 @@ own c =
 sign-of-requires : tie.Need-sign-of-requires Inv-loop μ-loop
 sign-of-requires c κs = search needs
 
+slice-aggregate-write-blocks : tie.Need-slice-aggregate-write-blocks Inv-loop μ-loop
+slice-aggregate-write-blocks c = search needs
+
 write-blocks-requires : tie.Need-write-blocks-requires Inv-loop μ-loop
-write-blocks-requires c κs = c .before .before .before .before .pre
+write-blocks-requires c κs = let p = c .before .before .before .before .before .pre in (p .0, p .1, omega arith)
 
 loop-holds : tie.Need-loop-holds Inv-loop μ-loop
 loop-holds c = λ first b. b
@@ -185,6 +188,7 @@ write-all-spec =
     Inv-loop
     μ-loop
     sign-of-requires
+    slice-aggregate-write-blocks
     write-blocks-requires
     loop-holds
     mul-u

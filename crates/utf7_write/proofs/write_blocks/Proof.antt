@@ -1,5 +1,5 @@
 use Prim.Native.Nat.{ℕ, _+_, _-_, _<_, _≤_}
-use mathlib.Core.Path.{_≡_, sym, ap, _∙_}
+use mathlib.Core.Path.{_≡_, refl, sym, ap, _∙_}
 use mathlib.Core.Bool.{true, false}
 use mathlib.Core.List.{List}
 use native.Mathlib.Omega.{arith}
@@ -10,49 +10,83 @@ use Rattle.utf7.specs.Writing.{IsUnit}
 use Rattle.utf7.specs.declared.Style.{Style}
 use Rattle.utf7.proofs.Sets.{sign-byte}
 use Rattle.utf7_write.specs.Stretch.{other}
+use Rattle.answer.specs.Ahead.{Ahead}
+use Rattle.utf7_write.specs.Ahead.{Own, Marked}
 use Rattle.utf7_write.specs.Begun.{Begun}
-use Rattle.utf7_write.proofs.Blocks.{own-narrow}
 use Rattle.utf7_write.proofs.Stretches.{Stretched, stretched, not-own-other, one-alone}
 use Rattle.utf7_write.proofs.Begun.{begun-start, begun-room, begun-same, begun-upto, begun-copy, begun-sign, run-room, begun-run, one-room, begun-one, begun-block}
+use Rattle.utf7_write.proofs.Marks.{marked-bits, marked-own, marked-other, low-cells}
 use borrow.Author.Needs.{needs}
 use Rattle.utf7_write.proofs.write_blocks.Statement.{statement}
 use Rattle.utf7_write.proofs.write_blocks.Tie as tie
 
 abbrev Inv-loop : tie.InvT-loop
-Inv-loop style cells out₀ sign low high long i₀ to₀ out i to = Begun style cells out₀ out i to
+Inv-loop style cells out₀ marks₀ sign low high long i₀ to₀ base₀ count₀ out marks i to base count =
+    Begun style cells out₀ out i to × (Marked style cells base marks count × (base ≤ i) × (count ≤ length marks) × (length marks ≡ length marks₀))
 
 abbrev μ-loop : tie.MeasureT-loop
-μ-loop style cells out₀ sign low high long i₀ to₀ out i to = length cells - i
+μ-loop style cells out₀ marks₀ sign low high long i₀ to₀ base₀ count₀ out marks i to base count = length cells - i
 
 abbrev start : tie.At-loop Inv-loop μ-loop → tie.Start Inv-loop μ-loop
-start l = l .before .before .before .before .before .before .before
+start l = l .before .before .before .before .before .before .before .before
 
 -- the cells from i on are begun, and the bytes behind `at`
 abbrev On : tie.At-loop Inv-loop μ-loop → List ℕ → ℕ → ℕ → Type 0
 On l out i at = Begun (start l .args .style) (start l .args .cells .now) (start l .args .out .now) out i at
 
 -- once a block is stored and its bytes are told apart
-abbrev loop-of : tie.After-own-in Inv-loop μ-loop → tie.At-loop Inv-loop μ-loop
-loop-of c = c .before .before .before .before .before .before .before
+abbrev loop-of : tie.After-zeros-ahead Inv-loop μ-loop → tie.At-loop Inv-loop μ-loop
+loop-of c = c .before .before .before .before .before .before .before .before .before .before .before .before
 
-abbrev stored : tie.After-own-in Inv-loop μ-loop → List ℕ
-stored c = c .before .before .before .put-block .last .1 .0
+abbrev stored : tie.After-zeros-ahead Inv-loop μ-loop → List ℕ
+stored c = c .before .before .before .before .put-block .last .1 .0
 
-more : (c : tie.After-own-in Inv-loop μ-loop) → loop-of c .loop .i + 17 ≤ length (start (loop-of c) .args .cells .now)
-more c = omega (arith, c .before .before .before .before .before .before .loop-test .taken)
+more : (c : tie.After-zeros-ahead Inv-loop μ-loop) → loop-of c .loop .i + 17 ≤ length (start (loop-of c) .args .cells .now)
+more c = omega (arith, c .before .before .before .before .before .before .before .before .before .before .before .loop-test .taken)
+
+-- the window, and the cells that are told by it
+abbrev at-window : tie.After-zeros-ahead Inv-loop μ-loop → tie.After-window-at Inv-loop μ-loop
+at-window c = c .before .before .before .before .before .before .before .before .before
+
+abbrev marks-of : tie.After-zeros-ahead Inv-loop μ-loop → List ℕ
+marks-of c = at-window c .window-at .last .1 .1 .1 .1 .1 .0
+
+kept :
+    (c : tie.After-zeros-ahead Inv-loop μ-loop) (i : ℕ) → loop-of c .loop .i ≤ i → let a = start (loop-of c) .args in let w = at-window c .window-at .result in
+    Marked (a .style) (a .cells .now) (w .base) (marks-of c) (w .count) × (w .base ≤ i) × (w .count ≤ length (marks-of c)) × (length (marks-of c) ≡ length (a .marks .now))
+kept c i h =
+    let w = at-window c .window-at in
+    let e = w .ensures in
+    let l : length (marks-of c) ≡ length (loop-of c .loop .marks) = w .kept .1 .1 .1 .1 .1 .0 in
+    (e .0, omega (arith, e .1), omega (arith, e .3, l), l ∙ loop-of c .loop .inv .1 .3)
+
+own-ahead :
+    (c : tie.After-zeros-ahead Inv-loop μ-loop) → let a = start (loop-of c) .args in
+    Ahead (Own (a .style)) (a .cells .now) (loop-of c .loop .i) (c .zeros-ahead .result)
+own-ahead c =
+    let a = start (loop-of c) .args in
+    let w = at-window c .window-at in
+    let e = w .ensures in
+    let z = c .zeros-ahead .ensures in
+    marked-own (a .style) (a .cells .now) (w .result .base) (marks-of c) (w .result .count) (loop-of c .loop .i) (e .0) (e .1) (c .zeros-ahead .result)
+    (omega (arith, z .0, e .2)) (z .1)
 
 stands :
-    (c : tie.After-own-in Inv-loop μ-loop) (k : ℕ) → k ≤ c .own-in .result → let l = loop-of c in On l (stored c) (l .loop .i + k) (l .loop .to + k)
+    (c : tie.After-zeros-ahead Inv-loop μ-loop) (k : ℕ) → k ≤ c .zeros-ahead .result → let l = loop-of c in On l (stored c) (l .loop .i + k) (l .loop .to + k)
 stands c k h =
-    let p = c .before .before .before in
-    let g = p .before .before .bytes-ahead in
-    let o = c .own-in .ensures in
+    let p = c .before .before .before .before in
+    let g = p .before .before .low-bytes in
+    let a = start (loop-of c) .args in
+    let z = c .zeros-ahead .ensures in
     let m = more c in
-    begun-block (loop-of c .loop .inv) 16 (g .result) (omega arith) (omega (arith, g .ok)) (g .ensures) k (omega (arith, o .0)) (λ m q. o .1 m (omega arith)) (p .put-block .ensures)
+    let n : length (g .result) ≡ 16 = omega (arith, g .ok) in
+    let o : Ahead (Own (a .style)) (a .cells .now) (loop-of c .loop .i) k = λ m q. own-ahead c m (omega arith) in
+    begun-block (loop-of c .loop .inv .0) 16 (g .result) (omega arith) n k (omega (arith, z .0)) o
+    (low-cells (a .style) (a .cells .now) (loop-of c .loop .i) (g .result) 16 (omega arith) n (g .ensures) k (omega (arith, z .0)) o) (p .put-block .ensures)
 
 block :
-    (c : tie.After-own-in Inv-loop μ-loop) → let l = loop-of c in On l (stored c) (l .loop .i + c .own-in .result) (l .loop .to + c .own-in .result)
-block c = stands c (c .own-in .result) (omega arith)
+    (c : tie.After-zeros-ahead Inv-loop μ-loop) → let l = loop-of c in On l (stored c) (l .loop .i + c .zeros-ahead .result) (l .loop .to + c .zeros-ahead .result)
+block c = stands c (c .zeros-ahead .result) (omega arith)
 
 sixteen : (t : tie.Then1 Inv-loop μ-loop) → let l = loop-of (t .before) in On l (stored (t .before)) (l .loop .i + 16) (l .loop .to + 16)
 sixteen t = stands (t .before) 16 (omega (arith, t .if1 .taken))
@@ -73,10 +107,10 @@ copied c =
 
 -- the cell behind those that stand: it is not written as itself
 abbrev cell : tie.Else1 Inv-loop μ-loop → ℕ
-cell e = loop-of (e .before) .loop .i + e .before .own-in .result
+cell e = loop-of (e .before) .loop .i + e .before .zeros-ahead .result
 
-few : (e : tie.Else1 Inv-loop μ-loop) → e .before .own-in .result < 16
-few e = omega (arith, e .if1 .left, e .before .own-in .ensures .0)
+few : (e : tie.Else1 Inv-loop μ-loop) → e .before .zeros-ahead .result < 16
+few e = omega (arith, e .if1 .left, e .before .zeros-ahead .ensures .0)
 
 inside : (e : tie.Else1 Inv-loop μ-loop) → cell e + 1 < length (start (loop-of (e .before)) .args .cells .now)
 inside e = omega (arith, few e, more (e .before))
@@ -89,12 +123,12 @@ not-own :
 not-own e =
     let c = e .before in
     let a = start (loop-of c) .args in
-    let g = c .before .before .before .before .before .bytes-ahead in
-    sym (own-narrow (a .style) (getD (a .cells .now) (cell e) 0))
-    ∙ rw (g .ensures (c .own-in .result) (few e)) at (c .own-in .ensures .2 (few e))
+    let w = at-window c .window-at in
+    marked-other (a .style) (a .cells .now) (w .result .base) (marks-of c) (w .result .count) (loop-of c .loop .i) (w .ensures .0) (w .ensures .1)
+    (c .zeros-ahead .result) (omega (arith, few e, w .ensures .2)) (c .zeros-ahead .ensures .2 (few e))
 
 abbrev behind : tie.Else1 Inv-loop μ-loop → ℕ
-behind e = loop-of (e .before) .loop .to + e .before .own-in .result
+behind e = loop-of (e .before) .loop .to + e .before .zeros-ahead .result
 
 -- a sign
 signed :
@@ -148,21 +182,37 @@ is-long-requires : tie.Need-is-long-requires Inv-loop μ-loop
 is-long-requires c κs = search needs
 
 loop-holds : tie.Need-loop-holds Inv-loop μ-loop
-loop-holds c = begun-start _ _ _ (c .before .before .before .before .before .before .pre .1)
+loop-holds c = (begun-start _ _ _ (c .before .before .before .before .before .before .before .pre .1), (λ m h. absurd (omega arith), omega arith, omega arith, refl))
 
 sub-loop : tie.Need-sub-loop Inv-loop μ-loop
 sub-loop c = search needs
 
-bytes-ahead-requires : tie.Need-bytes-ahead-requires Inv-loop μ-loop
-bytes-ahead-requires c κs = search needs
+window-at-requires : tie.Need-window-at-requires Inv-loop μ-loop
+window-at-requires c κs =
+    let l = c .before .before in
+    let v = l .loop .inv .1 in
+    (omega (arith, c .before .loop-test .taken), omega (arith, v .3, start l .pre .2), v .0, v .1, v .2)
+
+low-bytes-requires : tie.Need-low-bytes-requires Inv-loop μ-loop
+low-bytes-requires c κs = search needs
 
 put-block-requires : tie.Need-put-block-requires Inv-loop μ-loop
 put-block-requires c κs =
-    let l = c .before .before .before in
-    omega (arith, begun-room (l .loop .inv), c .before .before .loop-test .taken)
+    let t = c .before .before .before .before .before .before in
+    omega (arith, begun-room (t .before .loop .inv .0), t .loop-test .taken)
 
-own-in-requires : tie.Need-own-in-requires Inv-loop μ-loop
-own-in-requires c κs = search needs
+sub-zeros-ahead : tie.Need-sub-zeros-ahead Inv-loop μ-loop
+sub-zeros-ahead c = let h = c .before .before .before .before .before .before .before .before .window-at .ensures .1 in omega arith
+
+zeros-ahead-requires : tie.Need-zeros-ahead-requires Inv-loop μ-loop
+zeros-ahead-requires c κs =
+    let w = c .before .before .before .before .before .before .before .before .window-at in
+    let l = c .before .before .before .before .before .before .before .before .before .before .before in
+    let a = start l .args in
+    let e = w .ensures in
+    let ms = w .last .1 .1 .1 .1 .1 .0 in
+    let h : l .loop .i - w .result .base + 16 ≤ length ms = omega (arith, e .1, e .2, e .3, w .kept .1 .1 .1 .1 .1 .0) in
+    (h, marked-bits (a .style) (a .cells .now) (w .result .base) ms (w .result .count) (l .loop .i) (e .0) (e .1) (e .2))
 
 add-to : tie.Need-add-to Inv-loop μ-loop
 add-to c = search needs
@@ -177,19 +227,21 @@ sub-to : tie.Need-sub-to Inv-loop μ-loop
 sub-to c = search needs
 
 add-to-2 : tie.Need-add-to-2 Inv-loop μ-loop
-add-to-2 c = search needs
+add-to-2 c =
+    let d = c .before .before in
+    omega (arith, begun-upto (copied d), start (loop-of (d .before .before .before .before)) .good)
 
 loop-less : tie.Need-loop-less Inv-loop μ-loop
 loop-less c = search needs
 
 loop-again : tie.Need-loop-again Inv-loop μ-loop
-loop-again c = copied (c .before .before)
+loop-again c = let d = c .before .before in (copied d, kept (d .before .before .before .before) _ (omega (arith, d .copy-blocks .ensures .0)))
 
 loop-less-2 : tie.Need-loop-less-2 Inv-loop μ-loop
 loop-less-2 c = search needs
 
 loop-again-2 : tie.Need-loop-again-2 Inv-loop μ-loop
-loop-again-2 c = sixteen (c .before)
+loop-again-2 c = (sixteen (c .before), kept (c .before .before) _ (omega arith))
 
 add-to-3 : tie.Need-add-to-3 Inv-loop μ-loop
 add-to-3 c = search needs
@@ -225,7 +277,7 @@ loop-less-3 : tie.Need-loop-less-3 Inv-loop μ-loop
 loop-less-3 c = search needs
 
 loop-again-3 : tie.Need-loop-again-3 Inv-loop μ-loop
-loop-again-3 c = signed c .1
+loop-again-3 c = (signed c .1, kept (c .before .before .before) _ (omega arith))
 
 add-in-sets : tie.Need-add-in-sets Inv-loop μ-loop
 add-in-sets c = search needs
@@ -256,10 +308,16 @@ write-one-requires c κs =
     (each-at IsUnit (s .args .cells .now) (cell e) (s .pre .0) (here e), one-room (block (e .before)) (one t))
 
 add-to-5 : tie.Need-add-to-5 Inv-loop μ-loop
-add-to-5 c = search needs
+add-to-5 c =
+    let w = c .before .before in
+    let t = w .before .before in
+    let z = t .before .before .before .before .before .before in
+    omega (arith, begun-upto (begun-one (block z) (one t) (w .write-one .ensures)), start (loop-of z) .good)
 
 add-i-4 : tie.Need-add-i-4 Inv-loop μ-loop
-add-i-4 c = search needs
+add-i-4 c =
+    let e = c .before .before .before .before .before .before .before .before .before in
+    omega (arith, inside e, start (loop-of (e .before)) .good)
 
 loop-less-4 : tie.Need-loop-less-4 Inv-loop μ-loop
 loop-less-4 c = search needs
@@ -268,13 +326,18 @@ loop-again-4 : tie.Need-loop-again-4 Inv-loop μ-loop
 loop-again-4 c =
     let w = c .before .before in
     let t = w .before .before in
-    begun-one (block (t .before .before .before .before .before .before)) (one t) (w .write-one .ensures)
+    let z = t .before .before .before .before .before .before in
+    (begun-one (block z) (one t) (w .write-one .ensures), kept z _ (omega arith))
 
 stretch-end-requires : tie.Need-stretch-end-requires Inv-loop μ-loop
 stretch-end-requires c κs = search needs
 
 mul-write-run : tie.Need-mul-write-run Inv-loop μ-loop
-mul-write-run c = search needs
+mul-write-run c =
+    let f = found c in
+    let l = loop-of (c .before .before .before .before .before .before .before) in
+    let h = l .before .before .before .before .before .before .before .shared-slice-known .given in
+    search needs
 
 sub-write-run : tie.Need-sub-write-run Inv-loop μ-loop
 sub-write-run c = let s = found c in omega arith
@@ -317,13 +380,18 @@ loop-again-5 : tie.Need-loop-again-5 Inv-loop μ-loop
 loop-again-5 c =
     let w = c .before .before in
     let f = w .before .before .before in
-    begun-run (block (f .before .before .before .before .before .before .before)) (f .stretch-end .result) (found f) (w .write-run .ensures .0) (w .write-run .ensures .1)
+    let z = f .before .before .before .before .before .before .before in
+    let s = found f in
+    (begun-run (block z) (f .stretch-end .result) s (w .write-run .ensures .0) (w .write-run .ensures .1), kept z _ (omega arith))
 
 same-length : tie.Need-same-length Inv-loop μ-loop
-same-length c = begun-same (c .before .loop .inv)
+same-length c = begun-same (c .before .loop .inv .0)
+
+same-length-2 : tie.Need-same-length-2 Inv-loop μ-loop
+same-length-2 c = c .before .loop .inv .1 .3
 
 returns : tie.Need-returns Inv-loop μ-loop
-returns c = c .before .loop .inv
+returns c = c .before .loop .inv .0
 
 pub write-blocks-spec : {M : Type 1} → statement M
 write-blocks-spec =
@@ -337,9 +405,11 @@ write-blocks-spec =
     is-long-requires
     loop-holds
     sub-loop
-    bytes-ahead-requires
+    window-at-requires
+    low-bytes-requires
     put-block-requires
-    own-in-requires
+    sub-zeros-ahead
+    zeros-ahead-requires
     add-to
     add-i
     copy-blocks-requires
@@ -386,4 +456,5 @@ write-blocks-spec =
     loop-less-5
     loop-again-5
     same-length
+    same-length-2
     returns)
