@@ -3,17 +3,23 @@ use answer::Answer;
 use answer::Refusal;
 use reading::Marked;
 ghost use mathlib.Core.Path.{_≡_};
+ghost use mathlib.Core.Logic.{_≢_};
+ghost use mathlib.Core.Bool.{true};
 ghost use mathlib.Core.List.{_++_};
-ghost use Prim.Native.Nat.{_<_, _^_};
+ghost use Prim.Native.Nat.{_+_, _<_, _≤_, _^_};
+ghost use lib.ListN.{length, getD};
 ghost use Rattle.bits.specs.Bits.{bits};
 ghost use Rattle.answer.specs.Answer.{inNumbers};
 ghost use Rattle.reading.specs.Reading.{closing};
 ghost use Rattle.reading.specs.Spans.{Takes};
-ghost use Rattle.reading.specs.Stepping.{atStart};
+ghost use Rattle.reading.specs.Stepping.{onward, atStart};
+ghost use Rattle.base64.specs.Letters.{setB, comma};
 ghost use Rattle.utf7.specs.Sets.{printable};
 ghost use Rattle.mailbox.specs.Rule.{mailbox, outsideDoes, unitDoes, closeDoes, lowDoes, byteDoes, endsIn};
 ghost use Rattle.mailbox.specs.Spans.{spanIn};
 ghost use Rattle.mailbox_read.specs.Cursor.{shiftOf, cursorOf, told, stepOf, Settled, toldMove, moveOf, Moves};
+ghost use Rattle.mailbox_read.specs.Passing.{stepFrom, Between, Leads, Gets};
+ghost use Rattle.mailbox_read.specs.declared.State.the-variants.{Run};
 
 // Where a reader stands to runs.
 pub enum State {
@@ -205,17 +211,180 @@ pub fn start() -> Cursor
     }
 }
 
-// The step from any cursor over a text.
-pub fn step(text: &[u8], c: Cursor) -> Stepped
-    ensures { λ r. ⌜ told r ≡ stepOf (now (text .entry)) c ⌝ }
+// Where a reader gets without going byte by byte: to a cell of the last `count` bytes, where `given`, or just to a place.
+struct Ahead {
+    given: bool,
+    unit: u32,
+    count: usize,
+    at: usize,
+    state: State,
+}
+
+// A place, and a state there.
+struct Place {
+    at: usize,
+    state: State,
+}
+
+// The '-' comes that closes a run with n left-over bits of value v, and it may close.
+fn closes(text: &[u8], at: usize, n: u32, v: u32) -> bool
+    ensures { λ r. ⌜ (r ≡ true → (at < length (now (text .entry))) × (getD (now (text .entry)) at 0 ≡ 45)
+        × (v ≡ 0) × (n < 6)) ⌝ }
 {
-    if answer::over_limit(text.len()) {
-        return Stepped::Final(answer::too_long());
+    if at < text.len() {
+        if text[at] == b'-' {
+            if v == 0 {
+                return n < 6;
+            }
+        }
     }
-    let mut at = reading::lesser(c.at, text.len());
-    let handed = reading::lesser(c.handed, at);
-    let given = c.state;
-    let mut st = settled(given);
+    false
+}
+
+// Outside a run that closes here, or where the reader stands.
+fn closed(text: &[u8], at: usize, st: State) -> Place
+    requires { ⌜ Settled st ⌝ }
+    ensures { λ r. ⌜ Leads (now (text .entry)) at st (r .at) (r .state) ⌝ }
+{
+    if let State::Run(n, v) = st {
+        if closes(text, at, n, v) {
+            let state = State::Outside(true);
+            return Place { at: at + 1, state };
+        }
+    }
+    Place { at, state: st }
+}
+
+// '&' and a letter come.
+fn opens(text: &[u8], at: usize) -> bool
+    ensures { λ r. ⌜ (r ≡ true → (at + 1 < length (now (text .entry))) × (getD (now (text .entry)) at 0 ≡ 38)
+        × (setB comma (getD (now (text .entry)) (at + 1) 0) ≡ true)) ⌝ }
+{
+    if at < text.len() {
+        if text[at] == b'&' {
+            if at + 1 < text.len() {
+                return base64::value_of(b',', text[at + 1]) < 64;
+            }
+        }
+    }
+    false
+}
+
+// In a run that opens here, with no bits yet, or where the reader stands: a letter does in such a run what it does directly after the
+// '&', unless a run was closed directly before that.
+fn opened(text: &[u8], at: usize, st: State) -> Place
+    requires { ⌜ Settled st ⌝ }
+    ensures { λ r. ⌜ Leads (now (text .entry)) at st (r .at) (r .state) ⌝ }
+{
+    if let State::Outside(after) = st {
+        if !after {
+            if opens(text, at) {
+                let state = State::Run(0, 0);
+                return Place { at: at + 1, state };
+            }
+        }
+    }
+    Place { at, state: st }
+}
+
+// A byte that is a cell by itself comes.
+fn is_alone(text: &[u8], at: usize, st: State) -> bool
+    ensures { λ r. ⌜ (r ≡ true → Between st × (at < length (now (text .entry)))
+        × (getD (now (text .entry)) at 0 ≢ 38) × (printable (getD (now (text .entry)) at 0) ≡ true)) ⌝ }
+{
+    if let State::Outside(_) = st {
+        if at < text.len() {
+            let b = text[at];
+            if b != b'&' {
+                return is_printable(b as u32);
+            }
+        }
+    }
+    false
+}
+
+// Over letters in a run, until a unit is complete or something else comes.
+fn letters(text: &[u8], from: usize, pending: u32, value: u32) -> Ahead
+    requires { ⌜ Settled (Run pending value) ⌝ }
+    ensures { λ r. ⌜ Gets (now (text .entry)) from (Run pending value) r ⌝ }
+{
+    let mut at = from;
+    let mut n = pending;
+    let mut v = value;
+    while at < text.len() {
+        let x = base64::value_of(b',', text[at]);
+        if 63 < x {
+            break;
+        }
+        let all = v * 64 + x;
+        if n < 10 {
+            at += 1;
+            n += 6;
+            v = all;
+        } else {
+            let w = bits::power(n - 10);
+            let unit = all / w;
+            if is_printable(unit) {
+                break;
+            }
+            return Ahead {
+                given: true,
+                unit,
+                count: (n as usize + 11) / 6,
+                at: at + 1,
+                state: State::Run(n - 10, all % w),
+            };
+        }
+    }
+    Ahead {
+        given: false,
+        unit: 0,
+        count: 0,
+        at,
+        state: State::Run(n, v),
+    }
+}
+
+// Over what most names are made of.
+fn get_ahead(text: &[u8], from: usize, given: State) -> Ahead
+    requires { ⌜ Settled given ⌝ }
+    ensures { λ r. ⌜ Gets (now (text .entry)) from given r ⌝ }
+{
+    let c = closed(text, from, given);
+    let at = c.at;
+    let st = c.state;
+    if is_alone(text, at, st) {
+        let state = State::Outside(false);
+        return Ahead {
+            given: true,
+            unit: text[at] as u32,
+            count: 1,
+            at: at + 1,
+            state,
+        };
+    }
+    let o = opened(text, at, st);
+    let at = o.at;
+    let st = o.state;
+    if let State::Run(n, v) = st {
+        return letters(text, at, n, v);
+    }
+    Ahead {
+        given: false,
+        unit: 0,
+        count: 0,
+        at,
+        state: st,
+    }
+}
+
+// The step from a place, a byte at a time.
+fn step_on(text: &[u8], from: usize, handed: usize, state: State) -> Stepped
+    requires { ⌜ Settled state × (handed ≤ from) ⌝ }
+    ensures { λ r. ⌜ told r ≡ onward cursorOf (stepFrom (now (text .entry)) from state handed) ⌝ }
+{
+    let mut at = from;
+    let mut st = state;
     while at < text.len() {
         let b = text[at];
         match feed(st, b) {
@@ -238,4 +407,29 @@ pub fn step(text: &[u8], c: Cursor) -> Stepped
         }
     }
     Stepped::Final(finish(text.len(), handed, st))
+}
+
+// The step from any cursor over a text.
+pub fn step(text: &[u8], c: Cursor) -> Stepped
+    ensures { λ r. ⌜ told r ≡ stepOf (now (text .entry)) c ⌝ }
+{
+    if answer::over_limit(text.len()) {
+        return Stepped::Final(answer::too_long());
+    }
+    let at = reading::lesser(c.at, text.len());
+    let handed = reading::lesser(c.handed, at);
+    let given = c.state;
+    let a = get_ahead(text, at, settled(given));
+    let state = a.state;
+    if a.given {
+        let cell = reading::mark(a.unit, a.count, a.at);
+        let one_more = handed + 1;
+        let next = Cursor {
+            at: a.at,
+            handed: one_more,
+            state,
+        };
+        return Stepped::Cell(Given { cell, next });
+    }
+    step_on(text, a.at, handed, state)
 }
