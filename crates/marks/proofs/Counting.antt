@@ -10,7 +10,7 @@ use lib.Dec.{eqb, leb}
 use lib.Bits.{shifted-half, shifted-even}
 use lib.Count.{trailingZeros, under}
 use borrow.Author.Tests.{eqb-true, eqb-false, leb-true, leb-false, le-leb}
-use Rattle.marks.specs.Marks.{leading, joined}
+use Rattle.marks.specs.Marks.{aheadIn, leading, joined}
 
 abbrev up : ℕ → ℕ → ℕ
 up zero k = k
@@ -140,7 +140,7 @@ leading-le (suc m) f = by (eqb (f 0) 0) (leading-le m (λ k. f (1 + k)))
     by true h = omega arith
     by false h = omega arith
 
-pub leading-zero : (m : ℕ) (f : ℕ → ℕ) (k : ℕ) → k < leading m f → f k ≡ 0
+leading-zero : (m : ℕ) (f : ℕ → ℕ) (k : ℕ) → k < leading m f → f k ≡ 0
 unfolding leading
 leading-zero zero f k h = absurd (omega arith)
 leading-zero (suc m) f k h = by (eqb (f 0) 0) refl k (leading-zero m (λ i. f (1 + i))) h
@@ -149,3 +149,18 @@ leading-zero (suc m) f k h = by (eqb (f 0) 0) refl k (leading-zero m (λ i. f (1
     by true e zero r l = eqb-true (f 0) 0 e
     by true e (suc j) r l = let z : 1 + j ≡ suc j = omega arith in rw z at (r j (omega arith))
     by false e j r l = absurd (omega arith)
+
+-- of sixteen
+cond-few : (t : Bool) (n : ℕ) → n ≤ 16 → cond t n 0 ≤ 16
+cond-few true n h = h
+cond-few false n h = omega arith
+
+cond-under : (t : Bool) (n k : ℕ) → k < cond t n 0 → k < n
+cond-under true n k h = h
+cond-under false n k h = absurd (omega arith)
+
+pub ahead-le : (x : List ℕ) (j : ℕ) → aheadIn x j ≤ 16
+ahead-le x j = cond-few (leb (j + 16) (length x)) _ (leading-le 16 (λ k. getD x (j + k) 0))
+
+pub ahead-zero : (x : List ℕ) (j k : ℕ) → k < aheadIn x j → getD x (j + k) 0 ≡ 0
+ahead-zero x j k h = leading-zero 16 (λ i. getD x (j + i) 0) k (cond-under (leb (j + 16) (length x)) _ k h)

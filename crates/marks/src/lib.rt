@@ -3,8 +3,7 @@ ghost use mathlib.Core.Path.{_≡_};
 ghost use mathlib.Core.Bool.{cond};
 ghost use Prim.Native.Nat.{ℕ, _+_, _≤_, _<_};
 ghost use lib.ListN.{length, getD};
-ghost use lib.Dec.{leb};
-ghost use Rattle.marks.specs.Marks.{joined, leading};
+ghost use Rattle.marks.specs.Marks.{aheadIn, joined, leading};
 
 // The mark of a byte.
 pub fn marked(holds: bool) -> u8
@@ -50,7 +49,7 @@ fn eight(x: &[u8], j: usize) -> usize
 
 // How many of the next sixteen marks are 0 before another; none where so many do not stand there.
 pub fn ahead(x: &[u8], j: usize) -> usize
-    ensures { λ r. ⌜ r ≡ cond (leb (j + 16) (length (now (x .entry)))) (leading 16 (λ k. getD (now (x .entry)) (j + k) 0)) 0 ⌝ }
+    ensures { λ r. ⌜ r ≡ aheadIn (now (x .entry)) j ⌝ }
 {
     if x.len() < 16 {
         return 0;

@@ -10,6 +10,8 @@ use lib.Seq.{slice, length-slice, length-take-le, take-take, take-at, take-add, 
 use lib.Dec.{ltb, eqb, lit<}
 use borrow.Author.Tests.{eqb-true, ltb-true, ltb-false, lt-ltb, le-ltb, ne-eqb}
 use Rattle.answer.proofs.Laid.{Laid, laid-none, laid-one, laid-on, laid-front}
+use Rattle.marks.specs.Marks.{aheadIn}
+use Rattle.marks.proofs.Counting.{ahead-le, ahead-zero}
 use Rattle.bits.specs.Bits.{leftOver}
 use Rattle.base64.specs.Letters.{valueOf, setB, slash}
 use Rattle.reading.specs.Reading.{Rule, Reading, give, go, readFrom, reading}
@@ -17,7 +19,7 @@ use Rattle.reading.proofs.Laws.{left-start, left-more, left-go}
 use Rattle.reading.proofs.Strides.{Stride, stride-give, left-stride}
 use Rattle.utf7.specs.Sets.{alphanumeric, setD, setO, direct}
 use Rattle.utf7.specs.Rule.{outside, mayEnd, utf7}
-use Rattle.utf7_whole.specs.Quick.{Padded, FilledBy, Filled, Span, Ahead, Letters, Run, Values, One, Went, Last, bitsIn, unitsIn, past, unitsOf, lows, closes, stops}
+use Rattle.utf7_whole.specs.Quick.{Padded, FilledBy, Filled, Fills, Marked, Span, Ahead, Letters, Run, Values, One, Went, Last, bitsIn, unitsIn, past, unitsOf, lows, closes, stops}
 use Rattle.utf7_whole.proofs.Tokens.{span-stay, span-on, span-ahead, ahead-as, length-units, no-unit, units-split, units-front, set-more, known, Known, ends-closed, closed-by, three-run, one-unit, slice-at, slice-rest, some-at, direct-stride, sign-stride, run-stride}
 
 -- a front that is all
@@ -392,6 +394,33 @@ module _ {s : List ℕ} {at n : ℕ} {a : List ℕ} (f : Filled s at outside n a
         let q : past room (at + 1 + 3) ≡ at + 5 = one-past o ∙ omega arith in
         let f : Filled s (past room (at + 1 + 3)) outside (n + 1) (set a n unit) = filled-run (one-run slash-dash o) (rw (one-units slash-dash o) (laid-one n unit a g)) (rw (one-units slash-dash o)) in
         rw q at f
+
+-- as far as there are marks of 0
+marked-direct : (b : Bool) → _≡_ {A = ℕ} (cond b 0 255) 0 → b ≡ true
+marked-direct true e = refl
+marked-direct false e = absurd (omega arith)
+
+pub span-marked :
+    {s xs : List ℕ} {from : ℕ} → Marked s from xs → (j : ℕ) {at r : ℕ} → r ≡ aheadIn xs j → at ≡ from + j → j + 16 ≤ 144 → at + 16 ≤ length s → Span direct s at (at + r)
+span-marked {s} {xs} {from} m j {at} {r} e p h l =
+    record { ordered = omega arith; within = omega (arith, ahead-le xs j); each = by }
+  where
+    by : (i : ℕ) → at ≤ i → i < at + r → direct (getD s i 0) ≡ true
+    by i a b =
+        let k = i - at in
+        let q : from + (j + (i - at)) ≡ i = omega arith in
+        let z = ahead-zero xs j (i - at) (omega arith) in
+        let t = m .so (j + (i - at)) (omega (arith, ahead-le xs j)) in
+        rw q at (marked-direct (direct (getD s (from + (j + (i - at))) 0)) (sym t ∙ z))
+
+-- a buffer on its way
+pub fills-none : (room : List ℕ) (at n : ℕ) (out : List ℕ) → Fills room at n out at n out
+fills-none room at n out = record { same = refl; on = omega arith; fills = λ s p f. f }
+
+pub fills-on :
+    {room : List ℕ} {from start : ℕ} {out : List ℕ} {at n : ℕ} {out' : List ℕ} → Fills room from start out at n out' → {to m : ℕ} {out'' : List ℕ} → at ≤ to → length out'' ≡ length out' →
+    ((s : List ℕ) → Padded s room → Filled s at outside n out' → Filled s to outside m out'') → Fills room from start out to m out''
+fills-on f h e g = record { same = e ∙ f .same; on = omega (arith, f .on); fills = λ s p q. g s p (f .fills s p q) }
 
 pub filled-start : (s a : List ℕ) → Filled s 0 outside 0 a
 filled-start s a = record { left = left-start utf7 s; front = refl }

@@ -12,6 +12,7 @@ use Rattle.base64.specs.Letters.{valueOf, setB}
 use Rattle.reading.specs.Reading.{Rule, readFrom, reading}
 use Rattle.reading.specs.Inner.{Left}
 use Rattle.reading.specs.Matching.{gave, readsAs}
+use Rattle.utf7.specs.Sets.{direct}
 use Rattle.utf7.specs.Rule.{Shift, outside, mayEnd, utf7}
 
 -- a text with zeros behind it, or none
@@ -25,6 +26,12 @@ pub record FilledBy {S : Type 0} (rule : Rule S) (s : List ℕ) (at : ℕ) (st :
 
 abbrev pub Filled : List ℕ → ℕ → Shift → ℕ → List ℕ → Type 0
 Filled s at st n buf = FilledBy utf7 s at st n buf
+
+-- a buffer that holds the cells up to a place holds those up to a later one then
+pub record Fills (room : List ℕ) (from start : ℕ) (out : List ℕ) (at n : ℕ) (out' : List ℕ) : Type 0 where
+  pub same : length out' ≡ length out
+  pub on : from ≤ at
+  pub fills : (s : List ℕ) → Padded s room → Filled s from outside start out → Filled s at outside n out'
 
 -- the bytes from one place to another are all of a set
 pub record Span (set : ℕ → Bool) (s : List ℕ) (from to : ℕ) : Type 0 where
@@ -64,6 +71,10 @@ past s to = cond (eqb (getD s to 0) 45) (to + 1) to
 -- 32 numbers: the values of the bytes from a place on
 pub record Values (last : ℕ) (s : List ℕ) (at : ℕ) (xs : List ℕ) : Type 0 where
   pub so : (k : ℕ) → k < 32 → getD xs k 0 ≡ valueOf last (getD s (at + k) 0)
+
+-- 144 marks: 0 for a byte that stands for itself
+pub record Marked (s : List ℕ) (from : ℕ) (xs : List ℕ) : Type 0 where
+  pub so : (k : ℕ) → k < 144 → getD xs k 0 ≡ cond (direct (getD s (from + k) 0)) 0 255
 
 -- three letters that may end a run, and '-': one unit
 pub record One (last : ℕ) (s : List ℕ) (from unit : ℕ) : Type 0 where

@@ -18,6 +18,7 @@ ghost use Rattle.utf7.specs.Sets.{direct};
 ghost use Rattle.utf7.specs.Rule.{outside, utf7};
 ghost use Rattle.utf7_whole.specs.Quick.{Padded, Filled, Span, Ahead, Letters, Run, Values, One, Went};
 ghost use Rattle.utf7_whole.specs.Quick.{Last, Compared, threeOf, unitsOf, lows, closes, stops, past};
+ghost use Rattle.utf7_whole.specs.Quick.{Marked, Fills};
 
 // Where a loop stopped: outside a run, after n cells.
 pub struct Reached {
@@ -168,6 +169,17 @@ pub fn one_at(last: u8, text: &[u8], from: usize) -> u32
         return first(wide(a), wide(b), wide(c));
     }
     65536
+}
+
+// The same, from the sign on.
+fn sign_at(text: &[u8], at: usize) -> u32
+    requires { ⌜ at + 5 ≤ length (now text) ⌝ }
+    ensures { λ r. ⌜ (r < 65536 → (getD (now (text .entry)) at 0 ≡ 43) × One slash (now (text .entry)) (at + 1) r) ⌝ }
+{
+    if text[at] != b'+' {
+        return 65536;
+    }
+    one_at(b'/', text, at + 1)
 }
 
 // The units of eight values go to the output from n on, those of the letters among them first.
@@ -356,6 +368,82 @@ pub fn widen(text: &[u8], at: usize, k: usize, out: &mut [u32], n: usize)
     }
 }
 
+// Marks of the bytes from a place on that stand for themselves.
+fn mark(text: &[u8], from: usize) -> [u8; 144]
+    requires { ⌜ from + 144 ≤ length (now text) ⌝ }
+    ensures { λ r. ⌜ Marked (now (text .entry)) from r ⌝ }
+{
+    let mut x = [0u8; 144];
+    for k in 0..144 {
+        x[k] = marks::marked(utf7::is_direct_byte(text[from + k]));
+    }
+    x
+}
+
+// Goes on over stretches and runs of one unit, as long as nothing else comes. Marks are made of 128 bytes at a time:
+// then a stretch costs a load and a count of bits, and no place waits for a block's tests.
+fn put_shorts(text: &[u8], from: usize, out: &mut [u32], start: usize) -> Reached
+    requires { ⌜ (from ≤ length (now text)) × (start ≤ length (now out)) ⌝ }
+    ensures { λ r. ⌜ Fills (now (text .entry)) from start (now (out .entry)) (r .at) (r .n) (now (out .exit)) ⌝ }
+{
+    let mut at = from;
+    let mut n = start;
+    if text.len() < from + 148 {
+        return Reached { at, n };
+    }
+    let marks = mark(text, from);
+    while at < from + 128 {
+        if out.len() < n + 17 {
+            return Reached { at, n };
+        }
+        let k = marks::ahead(&marks, at - from);
+        put_cells(cells_ahead(text, at), out, n);
+        at += k;
+        n += k;
+        if k < 16 {
+            let one = sign_at(text, at);
+            if 65535 < one {
+                return Reached { at, n };
+            }
+            out[n] = one;
+            n += 1;
+            at += 5;
+        }
+    }
+    Reached { at, n }
+}
+
+// The cells of what begins at a sign go to the output; where that is none, or no run as they are, nothing does.
+fn put_token(text: &[u8], at: usize, out: &mut [u32], n: usize) -> Reached
+    requires { ⌜ (at + 5 ≤ length (now text)) × (n < length (now out)) ⌝ }
+    ensures { λ r. ⌜ Fills (now (text .entry)) at n (now (out .entry)) (r .at) (r .n) (now (out .exit)) ⌝ }
+{
+    if text[at] != b'+' {
+        return Reached { at, n };
+    }
+    let from = at + 1;
+    let one = one_at(b'/', text, from);
+    if one < 65536 {
+        out[n] = one;
+        return put_shorts(text, at + 5, out, n + 1);
+    }
+    if text[from] == b'-' {
+        out[n] = 43;
+        return Reached {
+            at: at + 2,
+            n: n + 1,
+        };
+    }
+    let r = put_run(b'/', text, from, out, n);
+    if r.at == from {
+        return Reached { at, n };
+    }
+    Reached {
+        at: past_run(text, r.at),
+        n: r.n,
+    }
+}
+
 // The cells of a text, lent with or without zeros behind it, go to the front of the output.
 pub fn fill(text: &[u8], out: &mut [u32]) -> Reached
     ensures { λ r. ⌜ ((s : List ℕ) → Padded s (now (text .entry)) → Filled s (r .at) outside (r .n) (now (out .exit))) ⌝ }
@@ -372,32 +460,12 @@ pub fn fill(text: &[u8], out: &mut [u32]) -> Reached
             at += 32;
             n += 32;
         } else {
-            at += k;
-            n += k;
-            if text[at] != b'+' {
-                return Reached { at, n };
+            let r = put_token(text, at + k, out, n + k);
+            if r.at == at + k {
+                return r;
             }
-            let from = at + 1;
-            let one = one_at(b'/', text, from);
-            if one < 65536 {
-                out[n] = one;
-                n += 1;
-                at += 5;
-            } else {
-                if text[from] == b'-' {
-                    out[n] = 43;
-                    n += 1;
-                    at += 2;
-                } else {
-                    let r = put_run(b'/', text, from, out, n);
-                    let end = r.at;
-                    if end == from {
-                        return Reached { at, n };
-                    }
-                    n = r.n;
-                    at = past_run(text, end);
-                }
-            }
+            at = r.at;
+            n = r.n;
         }
     }
     Reached { at, n }
@@ -485,6 +553,59 @@ fn judge_run(text: &[u8], from: usize) -> usize
     judge_end(text, from, letters_end(b'/', text, at))
 }
 
+// The same, with nothing written.
+fn judge_shorts(text: &[u8], from: usize, start: usize) -> Reached
+    requires { ⌜ Left utf7 (now text) from outside start ⌝ }
+    ensures { λ r. ⌜ Left utf7 (now (text .entry)) (r .at) outside (r .n) × (from ≤ r .at) ⌝ }
+{
+    let mut at = from;
+    let mut n = start;
+    if text.len() < from + 148 {
+        return Reached { at, n };
+    }
+    let marks = mark(text, from);
+    while at < from + 128 {
+        let k = marks::ahead(&marks, at - from);
+        at += k;
+        n += k;
+        if k < 16 {
+            if 65535 < sign_at(text, at) {
+                return Reached { at, n };
+            }
+            n += 1;
+            at += 5;
+        }
+    }
+    Reached { at, n }
+}
+
+fn judge_token(text: &[u8], at: usize, n: usize) -> Reached
+    requires { ⌜ (at + 5 ≤ length (now text)) × Left utf7 (now text) at outside n ⌝ }
+    ensures { λ r. ⌜ Left utf7 (now (text .entry)) (r .at) outside (r .n) × (at ≤ r .at) ⌝ }
+{
+    if text[at] != b'+' {
+        return Reached { at, n };
+    }
+    let from = at + 1;
+    if one_at(b'/', text, from) < 65536 {
+        return judge_shorts(text, at + 5, n + 1);
+    }
+    if text[from] == b'-' {
+        return Reached {
+            at: at + 2,
+            n: n + 1,
+        };
+    }
+    let end = judge_run(text, from);
+    if end == from {
+        return Reached { at, n };
+    }
+    Reached {
+        at: past_run(text, end),
+        n: n + units(end - from),
+    }
+}
+
 // How many cells a text has up to a place near its end, or before anything that is not of the usual kinds. Nothing is
 // written.
 pub fn judge(text: &[u8]) -> Reached
@@ -498,28 +619,12 @@ pub fn judge(text: &[u8]) -> Reached
             at += 32;
             n += 32;
         } else {
-            at += k;
-            n += k;
-            if text[at] != b'+' {
-                return Reached { at, n };
+            let r = judge_token(text, at + k, n + k);
+            if r.at == at + k {
+                return r;
             }
-            let from = at + 1;
-            if one_at(b'/', text, from) < 65536 {
-                n += 1;
-                at += 5;
-            } else {
-                if text[from] == b'-' {
-                    n += 1;
-                    at += 2;
-                } else {
-                    let end = judge_run(text, from);
-                    if end == from {
-                        return Reached { at, n };
-                    }
-                    n += units(end - from);
-                    at = past_run(text, end);
-                }
-            }
+            at = r.at;
+            n = r.n;
         }
     }
     Reached { at, n }
