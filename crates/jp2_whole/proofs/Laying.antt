@@ -1,24 +1,23 @@
--- Cells laid into an output, token by token, and what lies behind them kept. Assumes nothing.
+-- Cells laid into an output, token by token. Assumes nothing.
 use Prim.Native.Nat.{ℕ, suc, _+_, _-_, _<_, _≤_}
 use mathlib.Core.Path.{_≡_, refl, sym, ap, _∙_}
 use mathlib.Core.Bool.{Bool, true, false}
 use mathlib.Core.List.{List, [], _∷_, _++_}
 use native.Mathlib.Omega.{arith}
 use native.Mathlib.Nat.{add-zero, zero-add}
-use lib.ListN.{length, getD, take, drop, set, length-append, length-drop, take-append-drop}
-use lib.Seq.{drop-drop, drop-set-lt, take-add, take-at, drop-at, length-take-le, getD-drop, getD-take}
+use lib.ListN.{length, getD, take, drop, set, length-append, length-drop}
+use lib.Seq.{drop-drop, drop-at, take-add, take-at, take-length, getD-drop, getD-take}
 use lib.Dec.{ltb}
 use borrow.Author.Tests.{eq-eqb, ltb-true, ltb-false}
 use Rattle.answer.specs.Output.{filled}
 use Rattle.answer.proofs.Laid.{Laid, laid-none, laid-one, laid-on}
-use Rattle.reading.specs.Reading.{Reading, Ending, accepted, fault, readFrom, reading}
+use Rattle.reading.specs.Reading.{Reading, Ending, accepted, fault, give, go, readFrom, reading}
 use Rattle.reading.specs.Matching.{sameCells, acceptedAs, readsAs}
-use Rattle.reading.proofs.Laws.{Left}
-use Rattle.reading.proofs.Filling.{Filling}
+use Rattle.reading.proofs.Laws.{Left, left-more, left-go}
 use Rattle.reading.proofs.Matches.{Matching}
-use Rattle.reading.proofs.Strides.{Stride, stride-stay, stride-on, left-stride}
-use Rattle.jp2.specs.Rule.{State, jp2}
-use Rattle.jp2_whole.specs.Quick.{Goes, Laying, Same, Matches}
+use Rattle.reading.proofs.Strides.{Stride, stride-stay, stride-give, stride-on, left-stride}
+use Rattle.jp2.specs.Rule.{State, byteDoes, jp2}
+use Rattle.jp2_whole.specs.Quick.{Goes, Laying, Filled, Same, Matches}
 use Rattle.jp2_read.proofs.Designating.{at-rest}
 
 pub goes-of : {s : List ℕ} {at to : ℕ} {st st' : State} {cs : List ℕ} → Stride jp2 s at st to cs st' → Goes s at st to cs st'
@@ -27,29 +26,20 @@ goes-of a = record { within = a .within; few = a .few; same = a .same }
 pub stride-of : {s : List ℕ} {at to : ℕ} {st st' : State} {cs : List ℕ} → Goes s at st to cs st' → Stride jp2 s at st to cs st'
 stride-of a = record { within = a .within; few = a .few; same = a .same }
 
--- what is kept from a place on is kept from a later one on
-kept-on : (m m' : ℕ) (a b : List ℕ) → drop m b ≡ drop m a → m ≤ m' → drop m' b ≡ drop m' a
-kept-on m m' a b e h =
-    let z : m + (m' - m) ≡ m' = omega arith in
-    let far : (l : List ℕ) → drop (m' - m) (drop m l) ≡ drop m' l = λ l. rw z at (drop-drop (m' - m) m l) in
-    sym (far b) ∙ ap (drop (m' - m)) e ∙ far a
-
 pub laying-start : {s : List ℕ} {at g0 g2 n : ℕ} {out : List ℕ} → at ≤ length s → n ≤ length out → Laying s at g0 g2 n out at g0 g2 n out
 laying-start {n = n} {out} h k =
-    record { cells = []; goes = goes-of (stride-stay h); laid = laid-none n out; kept = refl; count = omega arith; fits = k }
+    record { cells = []; goes = goes-of (stride-stay h); laid = laid-none n out; count = omega arith; fits = k }
 
 module _ {s : List ℕ} {from g0₀ g2₀ n₀ : ℕ} {out₀ : List ℕ} {at g0 g2 n : ℕ} {out : List ℕ} (p : Laying s from g0₀ g2₀ n₀ out₀ at g0 g2 n out) where
   module _ {to g0' g2' : ℕ} where
     pub laying-on :
-        {cs out' : List ℕ} → Stride jp2 s at (at-rest g0 g2) to cs (at-rest g0' g2') → Laid cs n out out' →
-        drop (n + length cs) out' ≡ drop (n + length cs) out → n + length cs ≤ length out →
+        {cs out' : List ℕ} → Stride jp2 s at (at-rest g0 g2) to cs (at-rest g0' g2') → Laid cs n out out' → n + length cs ≤ length out →
         Laying s from g0₀ g2₀ n₀ out₀ to g0' g2' (n + length cs) out'
-    laying-on {cs} {out'} a l e h =
+    laying-on {cs} {out'} a l h =
         record {
           cells = p .cells ++ cs;
           goes = goes-of (stride-on (stride-of (p .goes)) a);
           laid = laid-on (p .laid) (p .count) l;
-          kept = e ∙ kept-on n (n + length cs) out₀ out (p .kept) (omega arith);
           count = omega (arith, p .count, length-append (p .cells) cs);
           fits = omega (arith, l .same);
         }
@@ -57,15 +47,15 @@ module _ {s : List ℕ} {from g0₀ g2₀ n₀ : ℕ} {out₀ : List ℕ} {at g0
     pub laying-one :
         {v : ℕ} → Stride jp2 s at (at-rest g0 g2) to (v ∷ []) (at-rest g0' g2') → n < length out →
         Laying s from g0₀ g2₀ n₀ out₀ to g0' g2' (n + 1) (set out n v)
-    laying-one {v} a h = laying-on a (laid-one n v out h) (drop-set-lt (n + 1) out n v (omega arith)) (omega arith)
+    laying-one {v} a h = laying-on a (laid-one n v out h) (omega arith)
 
     pub laying-none : Stride jp2 s at (at-rest g0 g2) to [] (at-rest g0' g2') → Laying s from g0₀ g2₀ n₀ out₀ to g0' g2' n out
-    laying-none a = rw (add-zero n) at (laying-on a (laid-none n out) refl (omega (arith, p .fits)))
+    laying-none a = rw (add-zero n) at (laying-on a (laid-none n out) (omega (arith, p .fits)))
 
     pub laying-more : {n' : ℕ} {out' : List ℕ} → Laying s at g0 g2 n out to g0' g2' n' out' → Laying s from g0₀ g2₀ n₀ out₀ to g0' g2' n' out'
     laying-more {n'} {out'} q =
         rw (sym (q .count)) at
-        (laying-on (stride-of (q .goes)) (q .laid) (rw (q .count) at (q .kept)) (omega (arith, q .count, q .fits, q .laid .same)))
+        (laying-on (stride-of (q .goes)) (q .laid) (omega (arith, q .count, q .fits, q .laid .same)))
 
   pub laying-left : Left jp2 s from (at-rest g0₀ g2₀) n₀ → Left jp2 s at (at-rest g0 g2) n
   laying-left l = rw (sym (p .count)) at (left-stride (stride-of (p .goes)) l)
@@ -80,46 +70,42 @@ module _ {s : List ℕ} {from g0₀ g2₀ n₀ : ℕ} {out₀ : List ℕ} {at g0
       (p .laid .front
       ∙ rw (e, take-add n₀ (length cs) (reading jp2 s .cells), c, take-at cs (readFrom jp2 (drop at s) at (at-rest g0 g2) .cells) (length cs) refl))
 
-  pub laying-filling : {o : List ℕ} → Filling jp2 s from (at-rest g0₀ g2₀) n₀ o out₀ → Filling jp2 s at (at-rest g0 g2) n o out
-  laying-filling {o} f =
-      let l = laying-left (f .left) in
-      let r = reading jp2 s .cells in
-      let t : take n₀ out₀ ≡ take n₀ r =
-      rw (f .put .front) (take-at (take n₀ r) (drop n₀ o) n₀ (length-take-le n₀ r (f .put .upto))) in
-      let d : drop n₀ out₀ ≡ drop n₀ o =
-      rw (f .put .front) (drop-at (take n₀ r) (drop n₀ o) n₀ (length-take-le n₀ r (f .put .upto))) in
-      record {
-        left = l;
-        put = record {
-          room = f .put .room;
-          upto = l .inside;
-          left = l .cells;
-          front =
-              sym (take-append-drop n out)
-              ∙ rw (laying-front (f .left) t, p .kept, kept-on n₀ n o out₀ d (omega (arith, p .count)));
-          same = p .laid .same ∙ f .put .same;
-        };
-      }
+  pub laying-filled : Filled s from (at-rest g0₀ g2₀) n₀ out₀ → Filled s at (at-rest g0 g2) n out
+  laying-filled f = record { left = laying-left (f .left); front = laying-front (f .left) (f .front) }
 
--- an output that holds the first n cells
-pub filling-of :
-    {s : List ℕ} {at : ℕ} {st : State} {n : ℕ} {out : List ℕ} → Left jp2 s at st n → length (reading jp2 s .cells) ≤ length out →
-    take n out ≡ take n (reading jp2 s .cells) → Filling jp2 s at st n out out
-filling-of {n = n} {out} l h e =
-    record {
-      left = l;
-      put = record {
-        room = h;
-        upto = l .inside;
-        left = l .cells;
-        front = sym (take-append-drop n out) ∙ rw e;
-        same = refl;
-      };
-    }
+-- a buffer with the cells so far: a byte more
+module _ {s : List ℕ} {at : ℕ} {st : State} {n : ℕ} {a : List ℕ} (f : Filled s at st n a) where
+  pub filled-done : n ≡ length (reading jp2 s .cells) → take (length (reading jp2 s .cells)) a ≡ reading jp2 s .cells
+  filled-done e = ap (λ (k : ℕ). take k a) (sym e) ∙ f .front ∙ rw (e, take-length (reading jp2 s .cells))
+
+  module _ (h : at < length s) where
+    pub filled-place : {v : ℕ} {st' : State} → byteDoes st (getD s at 0) ≡ give v st' → length (reading jp2 s .cells) ≤ length a → n < length a
+    filled-place e k = omega (arith, left-more (f .left) h e)
+
+    pub filled-give : {v : ℕ} {st' : State} → byteDoes st (getD s at 0) ≡ give v st' → n < length a → Filled s (at + 1) st' (n + 1) (set a n v)
+    filled-give {v} e k =
+        let q = stride-give h e in
+        let c = f .left .cells ∙ ap (λ (x : Reading). x .cells) (q .same) in
+        record {
+          left = left-stride q (f .left);
+          front =
+              laid-one n v a k .front
+              ∙ rw (f .front, take-add n 1 (reading jp2 s .cells), c);
+        }
+
+    pub filled-go : {st' : State} → byteDoes st (getD s at 0) ≡ go st' → Filled s (at + 1) st' n a
+    filled-go e = record { left = left-go (f .left) h e; front = f .front }
 
 -- what lies behind the first elements is kept
 pub filled-behind : (l out : List ℕ) (m : ℕ) → length l ≤ m → drop m (filled l out) ≡ drop m out
-filled-behind l out m h = kept-on (length l) m out (filled l out) (drop-at l (drop (length l) out) (length l) refl) h
+filled-behind l out m h =
+    let z : length l + (m - length l) ≡ m = omega arith in
+    let far : (x : List ℕ) → drop (m - length l) (drop (length l) x) ≡ drop m x = λ x. rw z at (drop-drop (m - length l) (length l) x) in
+    sym (far (filled l out)) ∙ ap (drop (m - length l)) (drop-at l (drop (length l) out) (length l) refl) ∙ far out
+
+-- a front that is all
+pub all-front : {xs ys : List ℕ} → length xs ≡ length ys → take (length ys) xs ≡ ys → xs ≡ ys
+all-front {xs} {ys} e h = sym (take-length xs) ∙ ap (λ (k : ℕ). take k xs) e ∙ h
 
 -- the same cells in front of two lists
 same-front :

@@ -7,11 +7,14 @@ use mathlib.Core.Logic.{⊎-elim}
 use native.Mathlib.Omega.{arith}
 use native.Mathlib.Nat.{add-zero}
 use native.Mathlib.Numerals.{add-one}
-use lib.ListN.{length, getD, take, drop, length-drop}
-use lib.Seq.{drop-cons, length-take-le, getD-drop, getD-take}
+use lib.ListN.{length, getD, take, drop, set, length-drop}
+use lib.Seq.{drop-cons, length-take-le, getD-drop, getD-take, ext-getD, getD-set-same, getD-set-other}
 use lib.Dec.{leb, ltb, eqb, lit<}
 use borrow.Author.Tests.{not-true, eqb-true, eqb-false, ne-eqb, le-leb, leb-true, ltb-true, ltb-false}
 use Rattle.answer.proofs.Below.{both}
+use Rattle.answer.proofs.Laid.{Laid, laid-front}
+use Rattle.marks.specs.Marks.{aheadIn}
+use Rattle.marks.proofs.Counting.{ahead-le, ahead-zero}
 use Rattle.reading.specs.Reading.{give, readFrom}
 use Rattle.reading.proofs.Strides.{Stride, stride-stay, stride-give, stride-go, stride-on, stride-as, stride-to, stride-walk}
 use Rattle.jp2.specs.Rule.{plain, return, shifted, escape, state, graphic, cellOf, singleDoes, betweenDoes, byteDoes, endsIn, jp2}
@@ -22,7 +25,7 @@ use Rattle.jp2.proofs.Round.{byte-first, byte-second, byte-n, byte-shifted}
 use Rattle.jp2.proofs.Table.{row-walk}
 use Rattle.jp2_read.specs.Escapes.{g0After, g2After}
 use Rattle.jp2_read.proofs.Designating.{at-rest, Stands, code-length, row-says, row-bytes, row-sets}
-use Rattle.jp2_whole.specs.Quick.{Shift, Pair, Spanned, Plains, Stretch, Pairs}
+use Rattle.jp2_whole.specs.Quick.{Shift, Pair, Spanned, Plains, Stretch, Pairs, printing, Marked, Printed}
 
 -- after a CR: as between cells, with G2 cleared if LF follows
 return-does : (g0 g2 b : ℕ) → single g0 ≡ true → byteDoes (state g0 g2 return) b ≡ byteDoes (state g0 (cond (eqb b 10) 0 g2) plain) b
@@ -126,6 +129,52 @@ pub plains-stride : {s : List ℕ} {from to : ℕ} → Plains s from to → Stri
 plains-stride {s} {from} {to} p =
     let z : from + (to - from) ≡ to = omega (arith, p .ordered) in
     rw z at (plains-from (to - from) s from (omega (arith, p .within, p .ordered)) (λ i a b. p .each i a (omega (arith, p .ordered))))
+
+-- printing bytes, with any set in G2
+printing-high : (b : ℕ) → printing b ≡ true → (32 ≤ b) × (b < 128)
+printing-high b e = let q = both (leb 32 b) _ e in (leb-true 32 b (q .0), ltb-true b 128 (q .1))
+
+print-one :
+    (s : List ℕ) (at g2 : ℕ) → at < length s → printing (getD s at 0) ≡ true →
+    Stride jp2 s at (at-rest 6 g2) (at + 1) (cellOf 6 (getD s at 0) ∷ []) (at-rest 6 g2)
+print-one s at g2 h k =
+    let q = printing-high (getD s at 0) k in
+    rw (cond-same (graphic (getD s at 0)) 6) at (high-stride {s = s} {at = at} {g0 = 6} {g2 = g2} h refl (q .0) (q .1))
+
+prints-from :
+    (k : ℕ) (s : List ℕ) (from g2 : ℕ) → from + k ≤ length s → ((i : ℕ) → from ≤ i → i < from + k → printing (getD s i 0) ≡ true) →
+    Stride jp2 s from (at-rest 6 g2) (from + k) (map (cellOf 6) (take k (drop from s))) (at-rest 6 g2)
+prints-from zero s from g2 h e = stride-to (stride-stay (omega arith)) (omega arith)
+prints-from (suc k) s from g2 h e =
+    let q : from < length s = omega arith in
+    rw (drop-cons s from 0 q, ← add-one from)
+    (stride-to
+    (stride-on (print-one s from g2 q (e from (omega arith) (omega arith)))
+    (prints-from k s (from + 1) g2 (omega arith) (λ i a b. e i (omega arith) (omega arith))))
+    (omega arith))
+
+pub prints-stride :
+    {s : List ℕ} {from : ℕ} (k g2 : ℕ) → Spanned printing s from (from + k) → Stride jp2 s from (at-rest 6 g2) (from + k) (cellsOf s from (from + k)) (at-rest 6 g2)
+prints-stride {s} {from} k g2 p =
+    let z : from + k - from ≡ k = omega arith in
+    rw z (prints-from k s from g2 (p .within) (p .each))
+
+-- as far as there are marks of 0
+marked-prints : (b : Bool) → _≡_ {A = ℕ} (cond b 0 255) 0 → b ≡ true
+marked-prints true e = refl
+marked-prints false e = absurd (omega arith)
+
+pub spanned-marked :
+    {s xs : List ℕ} {from : ℕ} → Marked s from xs → (j : ℕ) {at r : ℕ} → r ≡ aheadIn xs j → at ≡ from + j → j + 16 ≤ 144 → at + 16 ≤ length s → Spanned printing s at (at + r)
+spanned-marked {s} {xs} {from} m j {at} {r} e p h l =
+    record { ordered = omega arith; within = omega (arith, ahead-le xs j); each = by }
+  where
+    by : (i : ℕ) → at ≤ i → i < at + r → printing (getD s i 0) ≡ true
+    by i a b =
+        let q : from + (j + (i - at)) ≡ i = omega arith in
+        let z = ahead-zero xs j (i - at) (omega arith) in
+        let t = m .so (j + (i - at)) (omega (arith, ahead-le xs j)) in
+        rw q at (marked-prints (printing (getD s (from + (j + (i - at))) 0)) (sym t ∙ z))
 
 -- a pair
 neither-set : (a b : Bool) → (a || b) ≡ false → (a ≡ false) × (b ≡ false)
@@ -241,6 +290,34 @@ module _ (s : List ℕ) (from to : ℕ) (h : to ≤ length s) where
   pub cells-get : (k : ℕ) → k < to - from → getD (cellsOf s from to) k 0 ≡ cellOf 6 (getD s (from + k) 0)
   cells-get k q =
       rw (getD-map (take (to - from) (drop from s)) k (omega (arith, part)), getD-take (to - from) (drop from s) k 0 q, getD-drop from s k 0)
+
+-- sixteen cells are put, of which those of printing bytes count
+pub laid-printed :
+    {s xs : List ℕ} {at k n : ℕ} {out out' : List ℕ} → Printed s at xs → Spanned printing s at (at + k) → k ≤ 16 → Laid xs n out out' → n ≤ length out →
+    Laid (cellsOf s at (at + k)) n out out'
+laid-printed {s} {xs} {at} {k} p q h l m = rw e at (laid-front k l m (omega (arith, p .size)))
+  where
+    t : length (take k xs) ≡ k
+    t = length-take-le k xs (omega (arith, p .size))
+
+    by : (i : ℕ) → i < k → getD (take k xs) i 0 ≡ getD (cellsOf s at (at + k)) i 0
+    by i j =
+        let b = printing-high (getD s (at + i) 0) (q .each (at + i) (omega arith) (omega arith)) in
+        let w : getD s (at + i) 0 % 128 + 393216 ≡ cellOf 6 (getD s (at + i) 0) = omega (arith, b .0, b .1) in
+        getD-take k xs i 0 j ∙ p .so i (omega arith) ∙ w ∙ sym (cells-get s at (at + k) (q .within) i (omega arith))
+
+    e : take k xs ≡ cellsOf s at (at + k)
+    e = ext-getD 0 (take k xs) (cellsOf s at (at + k)) (t ∙ sym (cells-length s at (at + k) (q .within) ∙ omega arith)) (λ i j. by i (omega (arith, t)))
+
+-- one more element of an array
+pub set-more :
+    (xs : List ℕ) (k v : ℕ) (Q : ℕ → ℕ → Type 0) → k < length xs → ((j : ℕ) → j < k → Q j (getD xs j 0)) → Q k v →
+    (j : ℕ) → j < k + 1 → Q j (getD (set xs k v) j 0)
+set-more xs k v Q h f g j l = at (eqb j k) refl
+  where
+    at : (t : Bool) → eqb j k ≡ t → Q j (getD (set xs k v) j 0)
+    at true e = rw (eqb-true j k e, getD-set-same xs k v 0 h) g
+    at false e = rw (getD-set-other xs k j v 0 (eqb-false j k e)) (f j (omega (arith, eqb-false j k e)))
 
 -- one byte more of a block
 pub each-more :

@@ -1,13 +1,13 @@
 -- What the loops over whole texts find in a text, a shift, a pair, stretches of ASCII and of pairs, and what they leave.
-use Prim.Native.Nat.{ℕ, _+_, _-_, _*_, _<_, _≤_}
+use Prim.Native.Nat.{ℕ, _+_, _-_, _*_, _%_, _<_, _≤_}
 use mathlib.Core.Path.{_≡_}
-use mathlib.Core.Bool.{Bool, true, _&&_, not}
+use mathlib.Core.Bool.{Bool, true, cond, _&&_, not}
 use mathlib.Core.List.{List, _++_}
 use mathlib.Core.Logic.{_⊎_}
-use lib.ListN.{length, getD, drop}
+use lib.ListN.{length, getD, take, drop}
 use lib.Dec.{eqb, leb, ltb}
 use Rattle.answer.specs.Inner.{Laid}
-use Rattle.reading.specs.Reading.{readFrom}
+use Rattle.reading.specs.Reading.{readFrom, reading}
 use Rattle.reading.specs.Inner.{Left}
 use Rattle.reading.specs.Matching.{gave, readsAs}
 use Rattle.jp2.specs.Rule.{State, state, plain, graphic, jp2}
@@ -30,6 +30,19 @@ pub record Spanned (set : ℕ → Bool) (text : List ℕ) (from to : ℕ) : Type
   pub ordered : from ≤ to
   pub within : to ≤ length text
   pub each : (i : ℕ) → from ≤ i → i < to → set (getD text i 0) ≡ true
+
+-- a printing byte
+abbrev pub printing : ℕ → Bool
+printing b = leb 32 b && ltb b 128
+
+-- 144 marks: 0 for a printing byte
+pub record Marked (text : List ℕ) (from : ℕ) (xs : List ℕ) : Type 0 where
+  pub so : (k : ℕ) → k < 144 → getD xs k 0 ≡ cond (printing (getD text (from + k) 0)) 0 255
+
+-- sixteen cells: those of ASCII for bytes below 128
+pub record Printed (text : List ℕ) (at : ℕ) (xs : List ℕ) : Type 0 where
+  pub size : length xs ≡ 16
+  pub so : (k : ℕ) → k < 16 → getD xs k 0 ≡ getD text (at + k) 0 % 128 + 393216
 
 -- codes of ASCII
 abbrev pub Plains : List ℕ → ℕ → ℕ → Type 0
@@ -59,14 +72,18 @@ pub record Room (text : List ℕ) (at n to : ℕ) (out : List ℕ) : Type 0 wher
   pub within : to ≤ length text
   pub places : n + (to - at) ≤ length out
 
--- the cells from a place to another are laid into an output from n on; what lies behind them is kept
+-- the cells from a place to another are laid into an output from n on; what lies behind them is free
 pub record Laying (text : List ℕ) (at g0 g2 n : ℕ) (out : List ℕ) (to g0' g2' n' : ℕ) (out' : List ℕ) : Type 0 where
   pub cells : List ℕ
   pub goes : Goes text at (state g0 g2 plain) to cells (state g0' g2' plain)
   pub laid : Laid cells n out out'
-  pub kept : drop n' out' ≡ drop n' out
   pub count : n' ≡ n + length cells
   pub fits : n' ≤ length out'
+
+-- the first n places of a buffer hold the cells so far
+pub record Filled (text : List ℕ) (at : ℕ) (st : State) (n : ℕ) (buf : List ℕ) : Type 0 where
+  pub left : Left jp2 text at st n
+  pub front : take n buf ≡ take n (reading jp2 text .cells)
 
 -- where a reader stands after n cells: what is left of the reading is that of what is left of the text
 abbrev pub Stands : List ℕ → Reached → Type 0

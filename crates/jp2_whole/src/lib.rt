@@ -12,11 +12,10 @@ ghost use lib.ListN.{length, take};
 ghost use Rattle.answer.specs.Answer.{inNumbers, limit};
 ghost use Rattle.answer.specs.Output.{leaves, filled};
 ghost use Rattle.reading.specs.Reading.{verdictOf, reading, readInto};
-ghost use Rattle.reading.specs.Inner.{Filling};
 ghost use Rattle.reading.specs.Matching.{readsAs};
 ghost use Rattle.jp2.specs.Rule.{state, plain, jp2};
 ghost use Rattle.jp2_read.specs.Cursor.{stateOf};
-ghost use Rattle.jp2_whole.specs.Quick.{Stands};
+ghost use Rattle.jp2_whole.specs.Quick.{Stands, Filled};
 
 // The state where a loop over tokens stopped.
 fn standing(r: quick::Reached) -> State
@@ -29,10 +28,12 @@ fn standing(r: quick::Reached) -> State
     }
 }
 
-// Reads a text on from a place into an output that has room for every cell and holds those before.
+// Reads a text on from a place into an output that has room for every cell and holds those before. What lies behind
+// them is free.
 fn decode(text: &[u8], from: quick::Reached, out: &mut [u32])
-    requires { ⌜ Filling jp2 (now text) (from .at) (state (from .g0) (from .g2) plain) (from .n) (now out) (now out) ⌝ }
-    ensures { λ _. ⌜ now (out .exit) ≡ filled (reading jp2 (now (text .entry)) .cells) (now (out .entry)) ⌝ }
+    requires { ⌜ length (reading jp2 (now text) .cells) ≤ length (now out) ⌝ }
+    requires { ⌜ Filled (now text) (from .at) (state (from .g0) (from .g2) plain) (from .n) (now out) ⌝ }
+    ensures { λ _. ⌜ take (length (reading jp2 (now (text .entry)) .cells)) (now (out .exit)) ≡ reading jp2 (now (text .entry)) .cells ⌝ }
 {
     let reached = quick::fill_on(text, from, out);
     let mut at = reached.at;
@@ -121,7 +122,7 @@ fn through(text: &[u8], cells: &mut [u32], out: &mut [u32]) -> Answer
                 return Answer::Refused(Refusal::NoRoom, n);
             }
             copy(cells, r.n, out);
-            decode(text, r, out);
+            decode(text, r, &mut out[..n]);
             found
         }
     }

@@ -4,7 +4,7 @@ use jp2_read::escapes;
 ghost use mathlib.Core.Path.{_≡_};
 ghost use mathlib.Core.Bool.{true, cond, _&&_, _||_, not};
 ghost use mathlib.Core.List.{[], map};
-ghost use Prim.Native.Nat.{_<_, _≤_, _+_, _-_, _*_};
+ghost use Prim.Native.Nat.{_<_, _≤_, _+_, _-_, _*_, _%_};
 ghost use lib.ListN.{length, getD, take, drop};
 ghost use lib.Dec.{eqb, leb, ltb};
 ghost use Rattle.answer.specs.Inner.{Laid};
@@ -12,6 +12,7 @@ ghost use Rattle.jp2.specs.Rule.{graphic, plain, state, cellOf, jp2};
 ghost use Rattle.jp2.specs.Writable.{ascii};
 ghost use Rattle.jp2_whole.specs.Quick.{Shift, Pair, Spanned, Plains, Stretch, Pairs};
 ghost use Rattle.jp2_whole.specs.Quick.{Goes, Room, Stands, Puts, Same, Matches};
+ghost use Rattle.jp2_whole.specs.Quick.{printing, Marked, Printed};
 
 // Where a loop stopped: between cells, after n of them.
 pub struct Reached {
@@ -205,7 +206,6 @@ fn widen(text: &[u8], from: usize, to: usize, out: &mut [u32], n: usize)
     requires { ⌜ (from ≤ to) × (to ≤ length (now text)) ⌝ }
     requires { ⌜ n + (to - from) ≤ length (now out) ⌝ }
     ensures { λ _. ⌜ Laid (map (cellOf 6) (take (to - from) (drop from (now (text .entry))))) n (now (out .entry)) (now (out .exit)) ⌝ }
-    ensures { λ _. ⌜ drop (n + (to - from)) (now (out .exit)) ≡ drop (n + (to - from)) (now (out .entry)) ⌝ }
 {
     let size = to - from;
     let mut k: usize = 0;
@@ -288,6 +288,115 @@ fn put_single(text: &[u8], from: Reached, to: usize, out: &mut [u32]) -> Reached
     }
 }
 
+// A printing byte. Every test is made, so that it compiles to no branch.
+fn is_printing(b: u8) -> bool
+    ensures { λ r. ⌜ r ≡ printing b ⌝ }
+{
+    (32 <= b) & (b < 128)
+}
+
+// Marks of the printing bytes from a place on.
+fn mark(text: &[u8], from: usize) -> [u8; 144]
+    requires { ⌜ from + 144 ≤ length (now text) ⌝ }
+    ensures { λ r. ⌜ Marked (now (text .entry)) from r ⌝ }
+{
+    let mut x = [0u8; 144];
+    for k in 0..144 {
+        x[k] = marks::marked(is_printing(text[from + k]));
+    }
+    x
+}
+
+// The cell of a printing byte in ASCII. Put so, the sum is not taken for a choice of bits, and sixteen of them are
+// computed side by side.
+fn printed(b: u8) -> u32
+    ensures { λ r. ⌜ r ≡ b % 128 + 393216 ⌝ }
+{
+    ((b % 128 + 128) as u32) + 393088
+}
+
+// All are read before one is stored.
+fn cells_ahead(text: &[u8], at: usize) -> [u32; 16]
+    requires { ⌜ at + 16 ≤ length (now text) ⌝ }
+    ensures { λ r. ⌜ Printed (now (text .entry)) at r ⌝ }
+{
+    let mut x = [0u32; 16];
+    for k in 0..16 {
+        x[k] = printed(text[at + k]);
+    }
+    x
+}
+
+fn put_cells(x: [u32; 16], out: &mut [u32], n: usize)
+    requires { ⌜ (length x ≡ 16) × (n + 16 ≤ length (now out)) ⌝ }
+    ensures { λ _. ⌜ Laid x n (now (out .entry)) (now (out .exit)) ⌝ }
+{
+    for k in 0..16 {
+        out[n + k] = x[k];
+    }
+}
+
+// Goes on over printing bytes and shifts, with ASCII in G0, as long as nothing else comes. Marks are made of 128 bytes
+// at a time: then a stretch costs a load and a count of bits. A block is written whole, and what lies behind its cells
+// is written over by the next ones.
+fn put_shifts(text: &[u8], from: Reached, out: &mut [u32]) -> Reached
+    requires { ⌜ (from .at ≤ length (now text)) × (from .n ≤ length (now out)) × (from .g0 ≡ 6) ⌝ }
+    ensures { λ r. ⌜ Puts (now (text .entry)) from (now (out .entry)) r (now (out .exit)) ⌝ }
+{
+    let start = from.at;
+    let g2 = from.g2;
+    let mut at = start;
+    let mut n = from.n;
+    if text.len() < start + 144 {
+        return from;
+    }
+    let marks = mark(text, start);
+    while at < start + 128 {
+        if out.len() < n + 16 {
+            return Reached { at, n, g0: 6, g2 };
+        }
+        if text[at] == 27 {
+            if !is_shift(text, at, g2) {
+                return Reached { at, n, g0: 6, g2 };
+            }
+            out[n] = shifted_cell(g2, text[at + 2]);
+            at += 3;
+            n += 1;
+        } else {
+            let k = marks::ahead(&marks, at - start);
+            if k == 0 {
+                return Reached { at, n, g0: 6, g2 };
+            }
+            put_cells(cells_ahead(text, at), out, n);
+            at += k;
+            n += k;
+        }
+    }
+    Reached { at, n, g0: 6, g2 }
+}
+
+// Puts the cell of a shift, and with ASCII in G0 what follows it.
+fn put_shift(text: &[u8], from: Reached, out: &mut [u32]) -> Reached
+    requires { ⌜ Shift (now text) (from .at) (from .g2) × (getD (now text) (from .at) 0 ≡ 27) × (from .n < length (now out)) ⌝ }
+    ensures { λ r. ⌜ Puts (now (text .entry)) from (now (out .entry)) r (now (out .exit)) ⌝ }
+{
+    let at = from.at;
+    let n = from.n;
+    let g0 = from.g0;
+    let g2 = from.g2;
+    out[n] = shifted_cell(g2, text[at + 2]);
+    let next = Reached {
+        at: at + 3,
+        n: n + 1,
+        g0,
+        g2,
+    };
+    if g0 == 6 {
+        return put_shifts(text, next, out);
+    }
+    next
+}
+
 // Puts the cells of a token; where there is none the reader stays.
 fn put_token(text: &[u8], from: Reached, to: usize, out: &mut [u32]) -> Reached
     requires { ⌜ Room (now text) (from .at) (from .n) to (now out) ⌝ }
@@ -301,13 +410,7 @@ fn put_token(text: &[u8], from: Reached, to: usize, out: &mut [u32]) -> Reached
     let b = text[at];
     if b == 27 {
         if is_shift(text, at, g2) {
-            out[n] = shifted_cell(g2, text[at + 2]);
-            return Reached {
-                at: at + 3,
-                n: n + 1,
-                g0,
-                g2,
-            };
+            return put_shift(text, from, out);
         }
         return after_row(text, from);
     }

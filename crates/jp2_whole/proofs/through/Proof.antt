@@ -5,7 +5,7 @@ use mathlib.Core.List.{List, [], _++_}
 use native.Mathlib.Omega.{arith}
 use denote.Ref.{now}
 use lib.ListN.{length, take}
-use lib.Seq.{take-at, length-take-le}
+use lib.Seq.{take-at, take-take, length-take-le}
 use lib.Dec.{ltb}
 use borrow.Author.Needs.{needs}
 use borrow.Author.Tests.{le-ltb}
@@ -15,7 +15,8 @@ use Rattle.reading.proofs.Laws.{Left, left-start}
 use Rattle.reading.proofs.Filling.{into-refused, into-count, into-short, into-filled}
 use Rattle.jp2.specs.Rule.{plain, state, jp2}
 use Rattle.jp2.proofs.Kept.{jp2-kept}
-use Rattle.jp2_whole.proofs.Laying.{laying-left, laying-front, filling-of, filled-behind}
+use Rattle.jp2_whole.specs.Quick.{Filled}
+use Rattle.jp2_whole.proofs.Laying.{laying-left, laying-front, filled-behind, all-front}
 use Rattle.jp2_whole.proofs.through.Statement.{statement}
 use Rattle.jp2_whole.proofs.through.Tie as tie
 
@@ -60,13 +61,29 @@ copy-requires c κs =
     let f = c .before .before .before .before .before .before .before .before .before in
     (f .fill-on .ensures .fits, omega (arith, left f .inside, count (c .before .before .before .before), c .before .before .if1 .left))
 
+slice-relend-prefix-decode : tie.Need-slice-relend-prefix-decode
+slice-relend-prefix-decode c = search needs
+
+-- as many places are lent as there are cells
+lent : (c : tie.After-decode-arg) → length (take (c .before .before .before .before .before .before .before .before .found .given .0 .0) (c .before .before .before .copy .last .1 .1 .0)) ≡ c .before .before .before .before .before .before .before .before .found .given .0 .0
+lent c = length-take-le _ _ (omega (arith, c .before .before .before .before .before .before .if1 .left, c .before .before .before .copy .kept .1 .1 .0))
+
+slice-aggregate-decode : tie.Need-slice-aggregate-decode
+slice-aggregate-decode c = sym (lent c)
+
 decode-requires : tie.Need-decode-requires
 decode-requires c κs =
     let f = c .before .before .before .before .before .before .before .before .before .before .before .before .before in
-    let k = length-take-le (f .fill-on .result .n) (f .fill-on .last .1 .1 .0) (f .fill-on .ensures .fits) in
-    filling-of (left f)
-    (omega (arith, count (c .before .before .before .before .before .before .before .before), c .before .before .before .before .before .before .if1 .left, c .before .before .before .copy .kept .1 .1 .0))
-    (rw (c .before .before .before .copy .ensures) (take-at _ _ _ k) ∙ laying-front (f .fill-on .ensures) (left-start jp2 _) refl)
+    let r = f .fill-on .result .n in
+    let k = length-take-le r (f .fill-on .last .1 .1 .0) (f .fill-on .ensures .fits) in (
+      omega (arith, lent c, count (c .before .before .before .before .before .before .before .before)),
+      record {
+        left = left f;
+        front =
+            take-take r (c .before .before .before .before .before .before .before .before .found .given .0 .0) (c .before .before .before .copy .last .1 .1 .0) (omega (arith, left f .inside, count (c .before .before .before .before .before .before .before .before)))
+            ∙ (rw (c .before .before .before .copy .ensures) (take-at _ _ _ k) ∙ laying-front (f .fill-on .ensures) (left-start jp2 _) refl);
+      },
+    )
 
 same-length-3 : tie.Need-same-length-3
 same-length-3 c = search needs
@@ -80,8 +97,10 @@ returns-3 c =
     let t = now (c .before .before .before .before .before .before .before .before .before .before .before .before .before .before .before .before .before .before .before .before .before .args .text) in
     let k = length-take-le (f .fill-on .result .n) (f .fill-on .last .1 .1 .0) (f .fill-on .ensures .fits) in
     let b = filled-behind (take (f .fill-on .result .n) (f .fill-on .last .1 .1 .0)) (now (c .before .before .before .before .before .before .before .before .before .before .before .before .before .before .before .before .before .before .before .before .before .args .out)) (length (reading jp2 t .cells)) (omega (arith, k, left f .inside)) in
+    let e : c .before .before .decode .last .1 .1 .0 ≡ reading jp2 t .cells =
+    all-front (c .before .before .decode .kept .1 .1 .0 ∙ lent (c .before .before .before) ∙ count (c .before .before .before .before .before .before .before .before .before .before .before)) (c .before .before .decode .ensures) in
     into-filled jp2-kept _ _ (within (c .before .before .before .before .before .before .before .before .before .before .before .before .before)) (ap inNumbers (sym (c .before .before .before .before .before .before .before .before .before .before .before .found .given .1)) ∙ c .before .before .before .before .before .before .before .before .before .before .before .before .before .measure .ensures) refl (c .before .before .before .before .before .before .before .before .before .if1 .left)
-    (c .before .before .decode .ensures ∙ ap (λ (z : List ℕ). reading jp2 t .cells ++ z) (rw (c .before .before .before .before .before .before .copy .ensures) b))
+    (rw (e, count (c .before .before .before .before .before .before .before .before .before .before .before)) (ap (λ (z : List ℕ). reading jp2 t .cells ++ z) (rw (c .before .before .before .before .before .before .copy .ensures) b)))
 
 pub through-spec : {M : Type 1} → statement M
 through-spec =
@@ -96,6 +115,8 @@ through-spec =
     same-length-2
     returns-2
     copy-requires
+    slice-relend-prefix-decode
+    slice-aggregate-decode
     decode-requires
     same-length-3
     same-length-4

@@ -111,9 +111,8 @@ all :
     Laying (a .text .now) (f .at) (f .g0) (f .g2) (f .n) (a .out .now) e (f .g0) (c .before .before .before .before .before .cleared .result) (f .n + 1 + (e - (f .at + 1))) (c .widen .last .1 .1 .1 .0)
 all c =
     let e = c .before .before in
-    let w = c .widen .ensures in
     rw (size e) at
-    (laying-on (put-one e) (stretch e) (w .0) (rw (sym (size e)) at (w .1)) (rw (sym (size e)) at (room e)))
+    (laying-on (put-one e) (stretch e) (c .widen .ensures) (rw (sym (size e)) at (room e)))
 
 same-length : tie.Need-same-length
 same-length c = all (c .before .before) .laid .same

@@ -7,7 +7,7 @@ use borrow.Author.Needs.{needs}
 use Rattle.reading.proofs.Strides.{Stride}
 use Rattle.jp2.specs.Rule.{plain, state, jp2}
 use Rattle.jp2_whole.specs.Quick.{Laying}
-use Rattle.jp2_whole.proofs.Tokens.{pair-stride, shift-stride}
+use Rattle.jp2_whole.proofs.Tokens.{pair-stride}
 use Rattle.jp2_whole.proofs.Laying.{stride-of, laying-start, laying-one, laying-none}
 use Rattle.jp2_whole.proofs.quick.put_token.Statement.{statement}
 use Rattle.jp2_whole.proofs.quick.put_token.Tie as tie
@@ -29,43 +29,16 @@ shared-slice-read-b c = byte (c .before .before .before)
 is-shift-requires : tie.Need-is-shift-requires
 is-shift-requires c κs = byte (c .before .before .before .before)
 
-known : (c : tie.Then2) → c .before .before .before .before .before .before .args .from .at + 2 < length (c .before .before .before .before .before .before .args .text .now)
-known c = c .before .is-shift .ensures (c .if2 .taken) .within
-
-add-shifted-cell : tie.Need-add-shifted-cell
-add-shifted-cell c = omega (arith, known c, c .before .before .before .before .before .before .good)
-
-shared-slice-read-shifted-cell : tie.Need-shared-slice-read-shifted-cell
-shared-slice-read-shifted-cell c = known (c .before)
-
-shifted-cell-requires : tie.Need-shifted-cell-requires
-shifted-cell-requires c κs = search needs
-
-shift :
-    (c : tie.After-shifted-cell) →
-    let f = c .before .before .before .before .before .before .before .before .args .from in
-    Stride jp2 (c .before .before .before .before .before .before .before .before .args .text .now) (f .at) (state (f .g0) (f .g2) plain) (f .at + 3) (c .shifted-cell .result ∷ []) (state (f .g0) (f .g2) plain)
-shift c = rw (c .shifted-cell .ensures) (shift-stride (c .before .before .before .before .if1 .taken) (c .before .before .before .is-shift .ensures (c .before .before .if2 .taken)))
-
-mul-out : tie.Need-mul-out
-mul-out c = omega (arith, place (c .before .before .before .before .before .before .before .before), c .before .before .before .before .before .before .before .before .good)
-
-slice-write-out : tie.Need-slice-write-out
-slice-write-out c = place (c .before .before .before .before .before .before .before .before)
-
-add-t15 : tie.Need-add-t15
-add-t15 c = omega (arith, known (c .before .before), c .before .before .before .before .before .before .before .before .good)
-
-add-t18 : tie.Need-add-t18
-add-t18 c = omega (arith, place (c .before .before .before .before .before .before .before .before), c .before .before .before .before .before .before .before .before .good)
+put-shift-requires : tie.Need-put-shift-requires
+put-shift-requires c κs = (c .before .before .is-shift .ensures (c .before .if2 .taken), c .before .before .before .if1 .taken, place (c .before .before .before .before .before .before .before))
 
 same-length : tie.Need-same-length
-same-length c = laying-one (stays (c .before .before .before .before .before .before .before .before)) (shift c) (place (c .before .before .before .before .before .before .before .before)) .laid .same
+same-length c = c .before .before .put-shift .ensures .laid .same
 
 returns : tie.Need-returns
 returns c =
-    let p = laying-one (stays (c .before .before .before .before .before .before .before .before)) (shift c) (place (c .before .before .before .before .before .before .before .before)) in
-    (p, omega (arith, c .before .before .before .before .before .before .before .before .pre .byte, c .before .before .before .before .before .before .before .before .pre .places, p .laid .same))
+    let p = c .before .before .put-shift .ensures in
+    (p, omega (arith, c .before .before .before .before .before .before .before .before .before .before .pre .byte, c .before .before .before .before .before .before .before .before .before .before .pre .places, p .laid .same, p .goes .few, p .count, p .fits))
 
 after-row-requires : tie.Need-after-row-requires
 after-row-requires c κs = (byte (c .before .before .before .before .before .before), c .before .before .if1 .taken)
@@ -117,17 +90,17 @@ pair c =
     rw (c .pair-cell .ensures)
     (pair-stride (sym (c .before .before .before .before .before .is-single .ensures) ∙ c .before .before .before .before .if3 .left) (c .before .before .before .is-pair .ensures (c .before .before .if5 .taken)))
 
-mul-out-2 : tie.Need-mul-out-2
-mul-out-2 c = omega (arith, place (c .before .before .before .before .before .before .before .before .before .before), c .before .before .before .before .before .before .before .before .before .before .good)
+mul-out : tie.Need-mul-out
+mul-out c = omega (arith, place (c .before .before .before .before .before .before .before .before .before .before), c .before .before .before .before .before .before .before .before .before .before .good)
 
-slice-write-out-2 : tie.Need-slice-write-out-2
-slice-write-out-2 c = place (c .before .before .before .before .before .before .before .before .before .before)
+slice-write-out : tie.Need-slice-write-out
+slice-write-out c = place (c .before .before .before .before .before .before .before .before .before .before)
 
-add-t26 : tie.Need-add-t26
-add-t26 c = omega (arith, two (c .before .before), c .before .before .before .before .before .before .before .before .before .before .good)
+add-t22 : tie.Need-add-t22
+add-t22 c = omega (arith, two (c .before .before), c .before .before .before .before .before .before .before .before .before .before .good)
 
-add-t29 : tie.Need-add-t29
-add-t29 c = omega (arith, place (c .before .before .before .before .before .before .before .before .before .before), c .before .before .before .before .before .before .before .before .before .before .good)
+add-t25 : tie.Need-add-t25
+add-t25 c = omega (arith, place (c .before .before .before .before .before .before .before .before .before .before), c .before .before .before .before .before .before .before .before .before .before .good)
 
 same-length-3 : tie.Need-same-length-3
 same-length-3 c = laying-one (stays (c .before .before .before .before .before .before .before .before .before .before)) (pair c) (place (c .before .before .before .before .before .before .before .before .before .before)) .laid .same
@@ -146,13 +119,7 @@ put-token-spec =
     (tie.spec
     shared-slice-read-b
     is-shift-requires
-    add-shifted-cell
-    shared-slice-read-shifted-cell
-    shifted-cell-requires
-    mul-out
-    slice-write-out
-    add-t15
-    add-t18
+    put-shift-requires
     same-length
     returns
     after-row-requires
@@ -167,10 +134,10 @@ put-token-spec =
     add-pair-cell
     shared-slice-read-pair-cell
     pair-cell-requires
-    mul-out-2
-    slice-write-out-2
-    add-t26
-    add-t29
+    mul-out
+    slice-write-out
+    add-t22
+    add-t25
     same-length-3
     returns-5
     returns-6)
