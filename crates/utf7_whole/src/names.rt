@@ -11,8 +11,10 @@ ghost use mathlib.Core.Bool.{false};
 ghost use mathlib.Core.List.{List};
 ghost use Prim.Native.Nat.{ℕ, _<_, _≤_, _+_};
 ghost use lib.ListN.{length, getD, take};
+ghost use lib.Seq.{slice};
 ghost use lib.Dec.{eqb};
 ghost use Rattle.answer.specs.Answer.{inNumbers, limit};
+ghost use Rattle.answer.specs.Inner.{Laid};
 ghost use Rattle.answer.specs.Output.{leaves};
 ghost use Rattle.reading.specs.Reading.{verdictOf, reading, readInto};
 ghost use Rattle.reading.specs.Matching.{readsAs};
@@ -48,6 +50,15 @@ fn plain_ahead(text: &[u8], at: usize) -> usize
         m = quick::least(m, quick::noted(is_plain(text[at + k]), k as u8));
     }
     m as usize
+}
+
+// 32 bytes go to the output from n on. With UTF-7's `widen` shared LLVM would inline it at neither place.
+fn put_plain(text: &[u8], at: usize, out: &mut [u32], n: usize)
+    requires { ⌜ (at + 32 ≤ length (now text)) × (n + 32 ≤ length (now out)) ⌝ }
+    ensures { λ _. ⌜ Laid (slice at (at + 32) (now (text .entry))) n (now (out .entry)) (now (out .exit)) ⌝ }
+{
+    quick::put_cells(quick::cells_ahead(text, at), out, n);
+    quick::put_cells(quick::cells_ahead(text, at + 16), out, n + 16);
 }
 
 fn is_printable(u: u32) -> bool
@@ -153,7 +164,7 @@ fn fill(text: &[u8], from: Stand, out: &mut [u32]) -> Stand
             return Stand { at, n, after };
         }
         let k = plain_ahead(text, at);
-        quick::widen(text, at, k, out, n);
+        put_plain(text, at, out, n);
         if k == 32 {
             at += 32;
             n += 32;

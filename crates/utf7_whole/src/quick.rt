@@ -337,7 +337,7 @@ pub fn put_run(last: u8, text: &[u8], from: usize, out: &mut [u32], start: usize
 }
 
 // All are read before one is stored.
-fn cells_ahead(text: &[u8], at: usize) -> [u32; 16]
+pub fn cells_ahead(text: &[u8], at: usize) -> [u32; 16]
     requires { ⌜ at + 16 ≤ length (now text) ⌝ }
     ensures { λ r. ⌜ r ≡ slice at (at + 16) (now (text .entry)) ⌝ }
 {
@@ -348,7 +348,7 @@ fn cells_ahead(text: &[u8], at: usize) -> [u32; 16]
     x
 }
 
-fn put_cells(x: [u32; 16], out: &mut [u32], n: usize)
+pub fn put_cells(x: [u32; 16], out: &mut [u32], n: usize)
     requires { ⌜ (length x ≡ 16) × (n + 16 ≤ length (now out)) ⌝ }
     ensures { λ _. ⌜ Laid x n (now (out .entry)) (now (out .exit)) ⌝ }
 {
@@ -358,7 +358,7 @@ fn put_cells(x: [u32; 16], out: &mut [u32], n: usize)
 }
 
 // Bytes go to the output from n on, of which k count.
-pub fn widen(text: &[u8], at: usize, k: usize, out: &mut [u32], n: usize)
+fn widen(text: &[u8], at: usize, k: usize, out: &mut [u32], n: usize)
     requires { ⌜ (k ≤ 32) × (at + 32 ≤ length (now text)) × (n + 32 ≤ length (now out)) ⌝ }
     ensures { λ _. ⌜ Laid (slice at (at + k) (now (text .entry))) n (now (out .entry)) (now (out .exit)) ⌝ }
 {

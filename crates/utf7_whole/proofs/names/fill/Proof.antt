@@ -3,13 +3,14 @@ use mathlib.Core.Path.{_≡_, refl, _∙_}
 use mathlib.Core.Bool.{Bool, _&&_}
 use mathlib.Core.List.{List}
 use native.Mathlib.Omega.{arith}
+use lib.Seq.{slice}
 use lib.Dec.{eqb}
 use lib.ListN.{length}
 use borrow.Author.Needs.{needs}
-use Rattle.answer.proofs.Laid.{laid-none}
+use Rattle.answer.proofs.Laid.{Laid, laid-none}
 use Rattle.utf7_whole.specs.Quick.{Padded}
 use Rattle.utf7_whole.specs.Mailbox.{Puts}
-use Rattle.utf7_whole.proofs.Buffers.{padded-self}
+use Rattle.utf7_whole.proofs.Buffers.{padded-self, laid-slice}
 use Rattle.utf7_whole.proofs.Mailbox.{none-since, puts-stay, puts-on, puts-as, puts-in, puts-from, puts-plain}
 use Rattle.utf7_whole.proofs.names.fill.Statement.{statement}
 use Rattle.utf7_whole.proofs.names.fill.Tie as tie
@@ -44,8 +45,8 @@ returns c s p h = puts-from _ (c .before .before .loop .inv .0 s p h)
 plain-ahead-requires : tie.Need-plain-ahead-requires Inv-loop μ-loop
 plain-ahead-requires c κs = search needs
 
-widen-requires : tie.Need-widen-requires Inv-loop μ-loop
-widen-requires c κs = (c .before .plain-ahead .ensures .0, omega (arith, c .before .before .before .loop-test .taken), omega (arith, c .before .before .if1 .left))
+put-plain-requires : tie.Need-put-plain-requires Inv-loop μ-loop
+put-plain-requires c κs = (omega (arith, c .before .before .before .loop-test .taken), omega (arith, c .before .before .if1 .left))
 
 add-at : tie.Need-add-at Inv-loop μ-loop
 add-at c = search needs
@@ -63,26 +64,37 @@ W = tie.After-slice-known2 Inv-loop μ-loop
 abbrev top : W → tie.In-loop Inv-loop μ-loop
 top c = c .before .before .before .before .before .before
 
+-- they are laid first of the block
+laid :
+    (c : W) →
+    let l = top c .before in
+    Laid (slice (l .loop .at) (l .loop .at + c .before .before .before .before .plain-ahead .result) (l .before .before .before .args .text .now)) (l .loop .n) (l .loop .out) (c .before .before .put-plain .last .1 .1 .0)
+laid c =
+    let l = top c .before in
+    let k = c .before .before .before .before .plain-ahead in
+    laid-slice (l .before .before .before .args .text .now) (l .loop .at) (l .loop .at + k .result) (l .loop .at + 32) (omega arith) (omega (arith, k .ensures .0)) (omega (arith, top c .loop-test .taken))
+    (c .before .before .put-plain .ensures) (l .loop .inv .2)
+
 -- they are put
 plain :
     (c : W) →
     let l = top c .before in
     let a = l .before .before .before .args in
     let k = c .before .before .before .before .plain-ahead .result in
-    Fills (a .text .now) (a .from .at) (a .from .n) (a .from .after) (a .out .now) (l .loop .at + k) (l .loop .n + k) (l .loop .after && eqb k 0) (c .before .before .widen .last .1 .1 .1 .0)
+    Fills (a .text .now) (a .from .at) (a .from .n) (a .from .after) (a .out .now) (l .loop .at + k) (l .loop .n + k) (l .loop .after && eqb k 0) (c .before .before .put-plain .last .1 .1 .0)
 plain c s p h =
     let q = top c .before .loop .inv .0 s p h in
-    puts-on q (puts-plain p _ (q .goes .within) (c .before .before .before .before .plain-ahead .ensures .1) (c .before .before .widen .ensures))
+    puts-on q (puts-plain p _ (q .goes .within) (c .before .before .before .before .plain-ahead .ensures .1) (laid c))
 
-same : (c : W) → length (c .before .before .widen .last .1 .1 .1 .0) ≡ length (top c .before .before .before .before .args .out .now)
-same c = c .before .before .widen .ensures .same ∙ top c .before .loop .inv .1
+same : (c : W) → length (c .before .before .put-plain .last .1 .1 .0) ≡ length (top c .before .before .before .before .args .out .now)
+same c = c .before .before .put-plain .ensures .same ∙ top c .before .loop .inv .1
 
 -- many bytes follow, and there is room
 near : (c : W) → let l = top c .before in l .loop .at + c .before .before .before .before .plain-ahead .result + 5 ≤ length (l .before .before .before .args .text .now)
 near c = omega (arith, c .before .before .before .before .plain-ahead .ensures .0, top c .loop-test .taken)
 
-room : (c : W) → top c .before .loop .n + c .before .before .before .before .plain-ahead .result < length (c .before .before .widen .last .1 .1 .1 .0)
-room c = omega (arith, c .before .before .before .before .plain-ahead .ensures .0, c .before .before .before .before .before .if1 .left, c .before .before .widen .ensures .same)
+room : (c : W) → top c .before .loop .n + c .before .before .before .before .plain-ahead .result < length (c .before .before .put-plain .last .1 .1 .0)
+room c = omega (arith, c .before .before .before .before .plain-ahead .ensures .0, c .before .before .before .before .before .if1 .left, c .before .before .put-plain .ensures .same)
 
 loop-again : tie.Need-loop-again Inv-loop μ-loop
 loop-again c = let w = c .before in (
@@ -169,7 +181,7 @@ fill-spec =
     same-length
     returns
     plain-ahead-requires
-    widen-requires
+    put-plain-requires
     add-at
     add-n
     loop-less
