@@ -8,9 +8,8 @@ use mailbox_read::Move;
 use mailbox_read::State;
 ghost use mathlib.Core.Path.{_≡_};
 ghost use mathlib.Core.Bool.{false};
-ghost use mathlib.Core.List.{List};
 ghost use Prim.Native.Nat.{ℕ, _<_, _≤_, _+_};
-ghost use lib.ListN.{length, getD, take};
+ghost use lib.ListN.{length, getD};
 ghost use lib.Seq.{slice};
 ghost use lib.Dec.{eqb};
 ghost use Rattle.answer.specs.Answer.{inNumbers, limit};
@@ -22,7 +21,7 @@ ghost use Rattle.utf7.specs.Sets.{printable, own};
 ghost use Rattle.utf7.specs.declared.Style.the-variants.{Name};
 ghost use Rattle.mailbox.specs.Rule.{mailbox};
 ghost use Rattle.utf7_whole.specs.Quick.{Padded, Span};
-ghost use Rattle.utf7_whole.specs.Mailbox.{Puts, Stands, Holds, Matches};
+ghost use Rattle.utf7_whole.specs.Mailbox.{Tokens, Fills, Sign, Others, All, Stands, Holds, Matches};
 
 // Where a reader stands outside a run: the place of the next byte, after how many cells, and whether a run was closed
 // directly before.
@@ -70,7 +69,7 @@ fn is_printable(u: u32) -> bool
 // Some of the units from one place to another are printable. Each is tested, so that it compiles to no branch.
 fn has_printable(units: &[u32], from: usize, to: usize) -> bool
     requires { ⌜ to ≤ length (now units) ⌝ }
-    ensures { λ r. ⌜ (r ≡ false → (i : ℕ) → from ≤ i → i < to → printable (getD (now (units .entry)) i 0) ≡ false) ⌝ }
+    ensures { λ r. ⌜ (r ≡ false → Others (now (units .entry)) from to) ⌝ }
 {
     let mut some = false;
     let mut k = from;
@@ -93,9 +92,9 @@ fn is_dash(text: &[u8], at: usize) -> bool
 // A run's units go to the output, where no run was closed directly before, '-' closes it and none of them is printable;
 // else the reader stays.
 fn put_run(text: &[u8], from: Stand, out: &mut [u32]) -> Stand
-    requires { ⌜ (from .at < length (now text)) × (getD (now text) (from .at) 0 ≡ 38) × (from .n ≤ length (now out)) ⌝ }
+    requires { ⌜ (from .at < length (now text)) × Sign (now text) from × (from .n ≤ length (now out)) ⌝ }
     requires { ⌜ from .after ≡ false ⌝ }
-    ensures { λ r. ⌜ ((s : List ℕ) → Padded s (now (text .entry)) → Puts s from (now (out .entry)) r (now (out .exit))) ⌝ }
+    ensures { λ r. ⌜ Tokens (now (text .entry)) from (now (out .entry)) r (now (out .exit)) ⌝ }
 {
     let at = from.at;
     let n = from.n;
@@ -119,8 +118,8 @@ fn put_run(text: &[u8], from: Stand, out: &mut [u32]) -> Stand
 
 // The same of whatever '&' begins.
 fn put_token(text: &[u8], from: Stand, out: &mut [u32]) -> Stand
-    requires { ⌜ (from .at + 5 ≤ length (now text)) × (getD (now text) (from .at) 0 ≡ 38) × (from .n < length (now out)) ⌝ }
-    ensures { λ r. ⌜ ((s : List ℕ) → Padded s (now (text .entry)) → Puts s from (now (out .entry)) r (now (out .exit))) ⌝ }
+    requires { ⌜ (from .at + 5 ≤ length (now text)) × Sign (now text) from × (from .n < length (now out)) ⌝ }
+    ensures { λ r. ⌜ Tokens (now (text .entry)) from (now (out .entry)) r (now (out .exit)) ⌝ }
 {
     let at = from.at;
     let n = from.n;
@@ -154,7 +153,7 @@ fn put_token(text: &[u8], from: Stand, out: &mut [u32]) -> Stand
 // room for blocks, up to a place near the end, or before anything that is not of the usual kinds.
 fn fill(text: &[u8], from: Stand, out: &mut [u32]) -> Stand
     requires { ⌜ (from .at ≤ length (now text)) × (from .n ≤ length (now out)) ⌝ }
-    ensures { λ r. ⌜ ((s : List ℕ) → Padded s (now (text .entry)) → from .at ≤ length s → Puts s from (now (out .entry)) r (now (out .exit))) ⌝ }
+    ensures { λ r. ⌜ Fills (now (text .entry)) from (now (out .entry)) r (now (out .exit)) ⌝ }
 {
     let mut at = from.at;
     let mut n = from.n;
@@ -195,7 +194,7 @@ fn decode(text: &[u8], room: &[u8], from: Stand, out: &mut [u32]) -> Answer
     requires { ⌜ (length (reading mailbox (now text) .cells) ≤ length (now out)) × (from .at ≤ length (now room)) ⌝ }
     requires { ⌜ Padded (now text) (now room) × Holds (now text) from (now out) ⌝ }
     ensures { λ r. ⌜ inNumbers r ≡ verdictOf (reading mailbox (now (text .entry))) ⌝ }
-    ensures { λ _. ⌜ take (length (reading mailbox (now (text .entry)) .cells)) (now (out .exit)) ≡ reading mailbox (now (text .entry)) .cells ⌝ }
+    ensures { λ _. ⌜ All (now (text .entry)) (now (out .exit)) ⌝ }
 {
     let reached = fill(room, from, out);
     let mut at = reached.at;
