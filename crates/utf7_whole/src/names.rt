@@ -365,15 +365,15 @@ fn through_4096(text: &[u8], out: &mut [u32]) -> Answer
     through(text, &mut room, &mut cells, out)
 }
 
-fn front_6144(text: &[u8], out: &mut [u32]) -> Answer
+fn front_4176(text: &[u8], out: &mut [u32]) -> Answer
     requires { ⌜ length (now text) ≤ limit ⌝ }
     ensures { λ r. ⌜ leaves r (now (out .exit)) ≡ readInto mailbox (now (text .entry)) (now (out .entry)) ⌝ }
 {
-    let mut cells = [0u32; 6144];
+    let mut cells = [0u32; 4176];
     front(text, &mut cells, out)
 }
 
-// Reads a text into an output, by way of buffers on the stack: 30 KiB at most, whatever the limit.
+// Reads a text into an output, by way of buffers on the stack: 22 KiB at most, whatever the limit.
 pub fn read(text: &[u8], out: &mut [u32]) -> Answer
     ensures { λ r. ⌜ leaves r (now (out .exit)) ≡ readInto mailbox (now (text .entry)) (now (out .entry)) ⌝ }
 {
@@ -392,7 +392,7 @@ pub fn read(text: &[u8], out: &mut [u32]) -> Answer
     if text.len() <= 4096 {
         return through_4096(text, out);
     }
-    front_6144(text, out)
+    front_4176(text, out)
 }
 
 // Goes on as long as a text reads as the cells, by way of a small buffer.

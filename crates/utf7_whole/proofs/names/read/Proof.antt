@@ -58,8 +58,8 @@ same-length-4 c = search needs
 returns-5 : tie.Need-returns-5
 returns-5 c = search needs
 
-front-6144-requires : tie.Need-front-6144-requires
-front-6144-requires c κs = within (c .before .before .before .before .before)
+front-4176-requires : tie.Need-front-4176-requires
+front-4176-requires c κs = within (c .before .before .before .before .before)
 
 same-length-5 : tie.Need-same-length-5
 same-length-5 c = search needs
@@ -86,6 +86,6 @@ read-spec =
     through-4096-requires
     same-length-4
     returns-5
-    front-6144-requires
+    front-4176-requires
     same-length-5
     returns-6)
