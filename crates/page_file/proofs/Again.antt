@@ -25,11 +25,11 @@ use Rattle.ledger.proofs.Words.{Whole, words, length-words, sizes-reverse}
 use Rattle.ledger.proofs.Marks.{weight-sizes}
 use Rattle.ledger.proofs.Sound.{Sound, records-sound}
 use Rattle.editor.proofs.Steps.{or-parts}
-use Rattle.page_file.specs.File.{form1, markWithin, InForm, fileOf}
+use Rattle.page_file.specs.File.{formFor, markWithin, InForm, fileOf}
 use Rattle.page_file.specs.Calls.{contentOf, belongs, keepParted, keepOf, stateFrom, readParted, readFitting}
 use Rattle.page_file.specs.Calls.{readParsed, readOf}
 use Rattle.page_file.specs.Promises.{Files, Calls, Typed, ReadsAgain}
-use Rattle.page_file.proofs.Laws.{file-reads, parse-right, only-there, one-spelling}
+use Rattle.page_file.proofs.Laws.{wide, due-form, file-reads, parse-right, only-there, one-spelling}
 use Rattle.page_file.proofs.Calls.{belongs-means, keep-leaves, read-stays, same-again}
 
 -- an end among steps is not beyond all of them
@@ -49,7 +49,7 @@ ends-below weigh (x ∷ rest) n h =
 
 pub mark-within :
     (m : Mark) (es : List Entry) → markFits inWords m (map stepOf es) ≡ true → sizes es ≤ limit →
-    markWithin form1 m
+    markWithin wide m
 mark-within None es h k = tt
 mark-within (At n) es h k = omega (arith, ends-below inWords (map stepOf es) n h, weight-sizes es)
 
@@ -144,7 +144,7 @@ module _ (s : State) (bytes out : List ℕ) where
     sound : Sound s (k .parted)
     sound = subst (Whole (Sound s)) (k .found) (records-sound s)
 
-    pub sound-in-form : InForm form1 (contentOf s bytes)
+    pub sound-in-form : InForm (formFor (contentOf s bytes)) (contentOf s bytes)
     sound-in-form =
         let f = frame-of s (sound .frame) in
         let v = k .parted in
@@ -155,7 +155,8 @@ module _ (s : State) (bytes out : List ℕ) where
         let parted : sizes (reverseAux (v .standing) (v .undone)) ≡ sizes (v .standing) + sizes (v .undone) =
         sizes-reverse (v .standing) (v .undone) in
         let used : s .page .used ≤ limit = omega (arith, f .used, k .few-history) in
-        record {
+        due-form (contentOf s bytes)
+        (record {
           opening = omega (arith, f .opening, k .few-text);
           size = omega (arith, f .size, k .few-text);
           used = used;
@@ -167,7 +168,7 @@ module _ (s : State) (bytes out : List ℕ) where
           bytes = typed .bytes;
           cells = each-take (λ w. w < 2 ^ 32) (s .text) (s .page .length) (typed .cells);
           words = each-take (λ w. w < 2 ^ 32) (s .history) (s .page .used) (typed .words);
-        }
+        })
 
     module _ (arrived text history : List ℕ) where
       abbrev there : State

@@ -1,6 +1,7 @@
 -- Keeping and reading page files: 16 first, what 15 asks, refusals change nothing, and a file that is read is kept
 -- again as the same bytes. Assumes nothing.
 use Prim.Native.Nat.{ℕ, _≤_}
+use native.Mathlib.Omega.{arith}
 use mathlib.Core.Path.{_≡_, refl, sym, ap, _∙_}
 use mathlib.Core.Bool.{Bool, true, false, _&&_, _||_, false≢true}
 use mathlib.Core.List.{List, [], _∷_, cons≢nil}
@@ -161,6 +162,7 @@ pub record Accepts (arrived text history file : List ℕ) (o : Outcome) : Type 0
   pub arrived-room : length (content .arrived) ≤ length arrived
   pub text-room : length (content .text) ≤ length text
   pub history-room : length (content .history) ≤ length history
+  pub arrived-few : length arrived ≤ limit
   pub text-few : length text ≤ limit
   pub history-few : length history ≤ limit
 
@@ -168,7 +170,12 @@ module _ (arrived text history file : List ℕ) where
   abbrev Finds : Outcome → Type 0
   Finds o = taken o ≡ true → Accepts arrived text history file o
 
-  module _ (c : Content) (e : parse file ≡ whole c) (tf : length text ≤ limit) (hf : length history ≤ limit) where
+  module _
+      (c : Content)
+      (e : parse file ≡ whole c)
+      (af : length arrived ≤ limit)
+      (tf : length text ≤ limit)
+      (hf : length history ≤ limit) where
     parted-finds :
         length (c .arrived) ≤ length arrived → length (c .text) ≤ length text → length (c .history) ≤ length history →
         (x : Option Parted) → records (stateFrom arrived text history c) ≡ x →
@@ -188,6 +195,7 @@ module _ (arrived text history file : List ℕ) where
           arrived-room = a;
           text-room = t;
           history-room = h;
+          arrived-few = af;
           text-few = tf;
           history-few = hf;
         })
@@ -203,19 +211,21 @@ module _ (arrived text history file : List ℕ) where
         (records (stateFrom arrived text history c)) refl)))
 
   parsed-finds :
-      length text ≤ limit → length history ≤ limit → (p : Whole Content) → parse file ≡ p →
+      length arrived ≤ limit → length text ≤ limit → length history ≤ limit → (p : Whole Content) → parse file ≡ p →
       Finds (readParsed arrived text history p)
   unfolding readParsed
-  parsed-finds tf hf (broken place) e = λ ok. absurd (false≢true ok)
-  parsed-finds tf hf (whole c) e = fitting-finds c e tf hf
+  parsed-finds af tf hf (broken place) e = λ ok. absurd (false≢true ok)
+  parsed-finds af tf hf (whole c) e = fitting-finds c e af tf hf
 
   pub accepts : Finds (readOf arrived text history file)
   unfolding readOf
   accepts =
       cond-case Finds (over arrived || (over text || over history)) (λ _ ok. absurd (false≢true ok))
       (λ q.
-      let p = or-parts (over text) (over history) (or-parts (over arrived) (over text || over history) q .1) in
-      parsed-finds (ltb-false limit (length text) (p .0)) (ltb-false limit (length history) (p .1)) (parse file) refl)
+      let a = or-parts (over arrived) (over text || over history) q in
+      let p = or-parts (over text) (over history) (a .1) in
+      parsed-finds (ltb-false limit (length arrived) (a .0)) (ltb-false limit (length text) (p .0))
+      (ltb-false limit (length history) (p .1)) (parse file) refl)
 
   module _ (out : List ℕ) where
     again :
@@ -234,7 +244,7 @@ module _ (arrived text history file : List ℕ) where
         rw (
           a .outcome,
           take-pad (length arrived) (c .arrived),
-          le-ltb limit (length (c .arrived)) (is .0 .few),
+          le-ltb limit (length (c .arrived)) (omega (arith, a .arrived-room, a .arrived-few)),
           length-pad (length text) (c .text) (a .text-room),
           le-ltb limit (length text) (a .text-few),
           length-pad (length history) (c .history) (a .history-room),

@@ -21,10 +21,11 @@ unfolding limit deliver reached lengthsFit endsAt recordsIn partAt zeros framed 
 hold = (refl, refl) and (refl, refl) and (refl, refl) and (refl, refl)
     and refl and refl and refl and refl and refl and refl and refl and refl and refl and refl and refl and refl
     and refl and refl and refl and refl and refl and refl and refl and refl and refl and refl and refl and refl
-    and refl and refl
+    and refl and refl and refl
+    and refl and refl and refl and refl and refl and (refl, refl) and (refl, refl) and refl
     and (rw letter-reads) and (rw letter-reads) and (λ _ e. rw e) and refl and (rw letter-reads)
     and (rw (letter-reads, letter-reads-other)) and (rw (letter-reads, letter-reads-as))
     and (rw letter-reads) and (rw (letter-reads, letter-reads-as))
-    and refl and refl and refl and refl and refl and refl and refl and refl
+    and refl and refl and refl and refl and refl and refl and refl and refl and refl
     and (rw letter-reads) and (rw (letter-reads, letter-reads-other))
     and tt

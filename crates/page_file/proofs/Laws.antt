@@ -1,33 +1,35 @@
 -- The page file: what is kept reads back, a file is the one file of what it keeps, and 18's place is that of the first
 -- byte no page file can have there. Assumes nothing.
-use Prim.Native.Nat.{ℕ, zero, suc, _^_, _/_, _%_, _<_, _≤_}
+use Prim.Native.Nat.{ℕ, zero, suc, _^_, _/_, _%_, _<_, _≤_, max}
 use Prim.Native.String.{String}
 use mathlib.Core.Path.{_≡_, refl, sym, ap, _∙_, subst}
+use mathlib.Core.Bool.{Bool, true, false, cond}
 use mathlib.Core.List.{List, [], _++_, append-assoc, append-nil}
-use mathlib.Core.Logic.{inl, inr}
+use mathlib.Core.Logic.{_↔_, inl, inr}
 use native.Mathlib.Omega.{arith}
 use native.Mathlib.Nat.{mod-lt}
 use lib.ListN.{length, getD, List·getD-append}
-use lib.Dec.{ltb, lit<, lit≤}
-use borrow.Author.Tests.{ltb-true}
+use lib.Dec.{ltb, leb, lit<, lit≤}
+use borrow.Author.Tests.{ltb-true, ltb-false, lt-ltb, le-ltb, leb-true, leb-false}
 use Rattle.answer.specs.Answer.{limit}
 use Rattle.answer.specs.Lists.{Each}
 use Rattle.answer.specs.Bytes.{bytes}
-use Rattle.answer.proofs.Below.{allBelow, below}
+use Rattle.answer.proofs.Below.{allBelow, below, cond-case}
 use Rattle.codec.specs.declared.Kind.{Kind}
 use Rattle.codec.specs.declared.Kind.the-variants.{Utf7Header, Utf7Body, Jp2}
 use Rattle.editor.specs.declared.Mark.{Mark}
 use Rattle.editor.specs.declared.Mark.the-variants.{None, At}
-use Rattle.parsing.specs.Parsing.{Parser, literal, done, _>>=_, Language, FirstFault, whole, broken}
+use Rattle.parsing.specs.Parsing.{Parser, either, literal, done, _>>=_, Language, FirstFault, whole, broken}
 use Rattle.parsing.specs.Parsing.{Right}
 use Rattle.parsing.specs.Digits.{digit, digits, groups, LF}
 use Rattle.parsing.proofs.Laws.{Parses, parses-as, Then, parses-then, Or, Apart, parses-either, parses-done, Is}
 use Rattle.parsing.proofs.Laws.{parses-literal, first-once, whole-reads, whole-right}
 use Rattle.parsing.proofs.Digits.{parses-number, parses-list}
-use Rattle.page_file.specs.File.{Content, Form, form1, nameOf, line, markOf, markWithin, fileIn, InForm}
-use Rattle.page_file.specs.File.{fileOf, IsFile}
+use Rattle.page_file.specs.File.{Content, Form, form1, form2, nameOf, line, markOf, markWithin, fileIn, InForm}
+use Rattle.page_file.specs.File.{markNumber, greatest, greatestIn, formFor, fileOf, IsFile}
 use Rattle.page_file.specs.File as file
-use Rattle.page_file.specs.Reading.{keyed, lineOf, listOf, named, kindName, decimal, mark, linesOf, parse}
+use Rattle.page_file.specs.Reading.{keyed, lineOf, listOf, named, kindName, pageBy, decimal, mark}
+use Rattle.page_file.specs.Reading.{least, contentLines, linesOf, parse}
 
 -- values that are in form, each spelled in one way
 abbrev Spelled : {A : Type 0} → (A → Type 0) → (A → List ℕ) → Language A
@@ -166,7 +168,25 @@ module _
       Parses (_>>=_ m f) (λ c w. P c × (Ok (get c) × In c) × (w ≡ spell (get c) ++ rest c))
   parses-part = parses-known (λ _ _ ok. ok) (λ _ _ ok. ok)
 
-module _ (form : Form) (some-digits : 0 < form .width) (enough : form .bound < 10 ^ form .width) where
+-- the fewest arrived bytes, where the greatest number is n, are what the form asks for
+least-due :
+    (floor n m : ℕ) (t : Bool) → leb floor n ≡ t → (cond t 0 floor ≤ m) ↔ (floor ≤ max n m)
+least-due floor n m true e = ((λ _. omega (arith, leb-true floor n e)), (λ _. omega arith))
+least-due floor n m false e = ((λ h. omega arith), (λ h. omega (arith, leb-false floor n e)))
+
+-- what a form asks for, of the numbers or the arrived length
+abbrev Due : Form → Content → Type 0
+Due form c = form .floor ≤ greatestIn c
+
+-- the files of a form
+abbrev Files : Form → Language Content
+Files form c w = Due form c × InForm form c × (w ≡ fileIn form c)
+
+module _
+    (form : Form)
+    (some-digits : 0 < form .width)
+    (enough : form .bound < 10 ^ form .width)
+    (sensible : form .floor ≤ form .bound) where
   abbrev Small : ℕ → Type 0
   Small n = n ≤ form .bound
 
@@ -203,6 +223,23 @@ module _ (form : Form) (some-digits : 0 < form .width) (enough : form .bound < 1
   within : (n m : ℕ) (xs : List ℕ) → m ≡ n → Sized m xs → Within 8 n n xs
   within n m xs e (a, c) = (omega arith, omega arith, c)
 
+  -- so many arrived bytes as the form asks for
+  least-few : (n : ℕ) → cond (leb (form .floor) n) 0 (form .floor) ≤ form .bound
+  least-few n = cond-case (λ (m : ℕ). m ≤ form .bound) (leb (form .floor) n) (λ _. omega arith) (λ _. sensible)
+
+  abbrev Arrives : Content → Type 0
+  Arrives c = Due form c × Within 2 0 (form .bound) (c .arrived)
+
+  module _ (c : Content) (n : ℕ) (e : greatest (c .page) ≡ n) where
+    arrives : Within 2 (cond (leb (form .floor) n) 0 (form .floor)) (form .bound) (c .arrived) → Arrives c
+    arrives (a, b, d) =
+        let due = least-due (form .floor) n (length (c .arrived)) (leb (form .floor) n) refl .0 a in
+        (rw e due, (omega arith, b, d))
+
+    arrived-so : Arrives c → Within 2 (cond (leb (form .floor) n) 0 (form .floor)) (form .bound) (c .arrived)
+    arrived-so (due, (_, b, d)) =
+        (least-due (form .floor) n (length (c .arrived)) (leb (form .floor) n) refl .1 (rw e at due), b, d)
+
   parses-form :
       Parses (lineOf "form" (literal (bytes (form .name)))) (Spelled Any (λ _. line "form" (bytes (form .name))))
   parses-form =
@@ -212,7 +249,7 @@ module _ (form : Form) (some-digits : 0 < form .width) (enough : form .bound < 1
   abbrev Lines : Content → Type 0
   Lines c =
       Unit {0} × (Unit {0} × (Small (c .page .opening) × (Small (c .page .length) × (Small (c .page .used)
-      × (Small (c .page .done) × (markWithin form (c .page .saved) × (Within 2 0 (form .bound) (c .arrived)
+      × (Small (c .page .done) × (markWithin form (c .page .saved) × (Arrives c
       × (Sized (c .page .length) (c .text) × (Sized (c .page .used) (c .history) × Unit {0})))))))))
 
   -- the content of which each part is known
@@ -220,7 +257,7 @@ module _ (form : Form) (some-digits : 0 < form .width) (enough : form .bound < 1
       (kind : Kind) (opening size used past : ℕ) (saved : Mark) (arrived text history : List ℕ) →
       Parses {A = Content}
       (done (record {
-        page = record { kind = kind; opening = opening; length = size; used = used; done = past; saved = saved };
+        page = pageBy kind opening size used past saved;
         arrived = arrived;
         text = text;
         history = history;
@@ -235,13 +272,20 @@ module _ (form : Form) (some-digits : 0 < form .width) (enough : form .bound < 1
       (λ c w (e, j). (rw e ((((((((((tt, refl), refl), refl), refl), refl), refl), refl), refl), refl), refl), tt, j))
       (λ c w (((((((((((_, _), k), o), l), u), d), m), a), t), h), _, j). (
         (λ i. record {
-          page = record { kind = k i; opening = o i; length = l i; used = u i; done = d i; saved = m i };
+          page = pageBy (k i) (o i) (l i) (u i) (d i) (m i);
           arrived = a i;
           text = t i;
           history = h i;
         }),
         j,
       ))
+
+  -- the greatest number is that of the lines before
+  greatest-is :
+      (c : Content) (kind : Kind) {opening size used past : ℕ} {saved : Mark} → c .page .opening ≡ opening →
+      c .page .length ≡ size → c .page .used ≡ used → c .page .done ≡ past → c .page .saved ≡ saved →
+      greatest (c .page) ≡ greatest (pageBy kind opening size used past saved)
+  greatest-is c kind o l u d m = λ i. greatest (pageBy kind (o i) (l i) (u i) (d i) (m i))
 
   lines : Parses (linesOf form) (λ c w. Unit {0} × Lines c × (w ≡ fileIn form c))
   unfolding fileIn
@@ -253,7 +297,13 @@ module _ (form : Form) (some-digits : 0 < form .width) (enough : form .bound < 1
       parses-part (λ c. c .page .used) (parses-line "used" parses-decimal) (λ used _.
       parses-part (λ c. c .page .done) (parses-line "done" parses-decimal) (λ past _.
       parses-part (λ c. c .page .saved) (parses-line "saved" parses-mark) (λ saved _.
-      parses-part (λ c. c .arrived) (parses-listed "arrived" 2 0 (form .bound) (lit< tt) (omega arith)) (λ arrived _.
+      parses-known (λ c. c .arrived)
+      (λ c known. arrives c (greatest (pageBy kind opening size used past saved))
+      (greatest-is c kind (known .0 .0 .0 .0 .1) (known .0 .0 .0 .1) (known .0 .0 .1) (known .0 .1) (known .1)))
+      (λ c known. arrived-so c (greatest (pageBy kind opening size used past saved))
+      (greatest-is c kind (known .0 .0 .0 .0 .1) (known .0 .0 .0 .1) (known .0 .0 .1) (known .0 .1) (known .1)))
+      (parses-listed "arrived" 2 (least form (pageBy kind opening size used past saved)) (form .bound) (lit< tt)
+      (least-few (greatest (pageBy kind opening size used past saved)))) (λ arrived _.
       parses-known (λ c. c .text) (λ c known. sized size (c .page .length) (c .text) (known .0 .0 .0 .0 .1))
       (λ c known. within size (c .page .length) (c .text) (known .0 .0 .0 .0 .1))
       (parses-listed "text" 8 size size (lit< tt) (omega arith)) (λ text _.
@@ -262,10 +312,11 @@ module _ (form : Form) (some-digits : 0 < form .width) (enough : form .bound < 1
       (parses-listed "history" 8 used used (lit< tt) (omega arith)) (λ history _.
       parses-all kind opening size used past saved arrived text history))))))))))
 
-  parses-lines : Parses (linesOf form) (λ c w. InForm form c × (w ≡ fileIn form c))
+  parses-lines : Parses (linesOf form) (Files form)
   parses-lines =
       parses-as lines
-      (λ c w (_, (_, (_, (o, (l, (u, (d, (m, ((_, n, b), ((t, tc), ((h, hc), _)))))))))), e). (
+      (λ c w (_, (_, (_, (o, (l, (u, (d, (m, ((due, (_, n, b)), ((t, tc), ((h, hc), _)))))))))), e). (
+        due,
         record {
           opening = o;
           size = l;
@@ -281,7 +332,7 @@ module _ (form : Form) (some-digits : 0 < form .width) (enough : form .bound < 1
         },
         e,
       ))
-      (λ c w (f, e). (
+      (λ c w (due, f, e). (
         tt,
         (
           tt,
@@ -298,7 +349,7 @@ module _ (form : Form) (some-digits : 0 < form .width) (enough : form .bound < 1
                     (
                       f .saved,
                       (
-                        (omega arith, f .few, f .bytes),
+                        (due, (omega arith, f .few, f .bytes)),
                         ((omega (arith, f .text), f .cells), ((omega (arith, f .history), f .words), tt)),
                       ),
                     ),
@@ -311,12 +362,75 @@ module _ (form : Form) (some-digits : 0 < form .width) (enough : form .bound < 1
         e,
       ))
 
-parses-file : Parses (linesOf form1) IsFile
+-- what is in a form is as small as the form is wide, and in every other that is as wide
+module _ (form : Form) where
+  mark-small : (m : Mark) → markWithin form m → markNumber m ≤ form .bound
+  mark-small None h = omega arith
+  mark-small (At n) h = h
+
+  small-mark : (m : Mark) → markNumber m ≤ form .bound → markWithin form m
+  small-mark None h = tt
+  small-mark (At n) h = h
+
+  all-small : (c : Content) → InForm form c → greatestIn c ≤ form .bound
+  all-small c f = omega (arith, f .opening, f .size, f .used, f .done, mark-small (c .page .saved) (f .saved), f .few)
+
+  small-all : {other : Form} (c : Content) → InForm other c → greatestIn c ≤ form .bound → InForm form c
+  small-all c f h =
+      record {
+        opening = omega arith;
+        size = omega arith;
+        used = omega arith;
+        done = omega arith;
+        saved = small-mark (c .page .saved) (omega arith);
+        few = omega arith;
+        text = f .text;
+        history = f .history;
+        bytes = f .bytes;
+        cells = f .cells;
+        words = f .words;
+      }
+
+-- as wide as the limit
+abbrev pub wide : Form
+wide = record { name = "1"; width = 5; bound = limit; floor = 0 }
+
+-- what is within the limit is in the form that is due
+pub due-form : (c : Content) → InForm wide c → InForm (formFor c) c
 unfolding limit
-parses-file = parses-lines form1 (lit< tt) (lit< tt)
+due-form c f =
+    cond-case (λ (form : Form). InForm form c) (ltb 65536 (greatestIn c))
+    (λ _. small-all form2 c f (omega (arith, all-small wide c f)))
+    (λ t. small-all form1 c f (ltb-false 65536 (greatestIn c) t))
+
+-- a file is of the form that is due
+
+to-file : (c : Content) (w : List ℕ) → Or (Files form1) (Files form2) c w → IsFile c w
+to-file c w (inl (_, f, e)) = rw (le-ltb 65536 (greatestIn c) (all-small form1 c f)) (f, e)
+to-file c w (inr (due, f, e)) = rw (lt-ltb 65536 (greatestIn c) due) (f, e)
+
+from-file : (c : Content) (w : List ℕ) → IsFile c w → Or (Files form1) (Files form2) c w
+from-file c w =
+    cond-case (λ (form : Form). InForm form c × (w ≡ fileIn form c) → Or (Files form1) (Files form2) c w)
+    (ltb 65536 (greatestIn c)) (λ t (f, e). inr (ltb-true 65536 (greatestIn c) t, f, e))
+    (λ _ (f, e). inl (omega arith, f, e))
+
+forms-apart : Apart (Files form1) (Files form2)
+unfolding fileIn
+forms-apart a b u v x y (_, _, i) (_, _, j) e =
+    let z : fileIn form1 a ++ x ≡ fileIn form2 b ++ y =
+    ap (λ (l : List ℕ). l ++ x) (sym i) ∙ e ∙ ap (λ (l : List ℕ). l ++ y) j in
+    omega (arith, ap (λ (l : List ℕ). getD l 5 0) z)
+
+parses-file : Parses (either (linesOf form1) (linesOf form2)) IsFile
+parses-file =
+    parses-as
+    (parses-either (parses-lines form1 (lit< tt) (lit< tt) (lit≤ tt)) (parses-lines form2 (lit< tt) (lit< tt) (lit≤ tt))
+    forms-apart)
+    to-file from-file
 
 -- "Reading gives page, buffers and arrived bytes back": what is kept, in form, is found again
-pub file-reads : (c : Content) → InForm form1 c → parse (fileOf c) ≡ whole c
+pub file-reads : (c : Content) → InForm (formFor c) c → parse (fileOf c) ≡ whole c
 unfolding parse
 file-reads c f = whole-reads parses-file c (fileOf c) (f, refl)
 

@@ -14,16 +14,17 @@ use Rattle.editor.specs.declared.Mark.{Mark}
 use Rattle.editor.specs.declared.Mark.the-variants.{None, At}
 use Rattle.ledger.specs.declared.Page.{Page}
 use Rattle.ledger.specs.Page.{State, stateOf}
-use Rattle.parsing.specs.Parsing.{whole, broken}
-use Rattle.page_file.specs.File.{Content, fileOf}
-use Rattle.page_file.specs.Reading.{parse}
+use Rattle.parsing.specs.Parsing.{whole, broken, wholly}
+use Rattle.page_file.specs.File.{Content, form1, fileOf}
+use Rattle.page_file.specs.Reading.{linesOf, parse}
 use Rattle.page_file.specs.Calls.{keepOf, readOf}
 
 pub data Case : Type 0 where
   -- the file of what is kept, which reads as that
   spells : List String → Content → Case
-  -- 18, and its place
+  -- 18, and its place; and where the reader of form 1 alone, which was order 6's, has it
   breaks : List String → ℕ → Case
+  old-breaks : List String → ℕ → Case
   -- keeping a page, with its arrived bytes and an output; the number, the place and the output then
   keeps : State → List ℕ → List ℕ → ℕ → ℕ → List ℕ → Case
   -- any bytes of this length lent as arrived: 16, whatever the page
@@ -44,6 +45,7 @@ nines n = replicate n 9
 abbrev pub Holds : Case → Type 0
 Holds (spells file c) = (fileOf c ≡ inParts file) × (parse (inParts file) ≡ whole c)
 Holds (breaks file place) = parse (inParts file) ≡ broken place
+Holds (old-breaks file place) = wholly (linesOf form1 (inParts file) 0) ≡ broken place
 Holds (keeps s arrived out number place left) = keepOf s arrived out ≡ leaving number place left
 Holds (keeps-long n s out) =
     (arrived : List ℕ) → length arrived ≡ n → keepOf s arrived out ≡ leaving 16 65536 out
@@ -117,6 +119,10 @@ numbers = "form=1␊kind=jp2␊opening=00000␊length=00001␊used=00000␊done=
 abbrev pub lists : String
 lists = "form=1␊kind=jp2␊opening=00000␊length=00001␊used=00000␊done=00000␊saved=none␊"
 
+-- the lines of form 2 before `saved`, of small numbers
+abbrev pub small2 : String
+small2 = "form=2␊kind=jp2␊opening=0000000␊length=0000000␊used=0000000␊done=0000000␊"
+
 abbrev pub files : List Case
 files =
     spells worked (record { page = body 4 4 5 5 (At 0); arrived = letter; text = edited; history = step })
@@ -144,7 +150,8 @@ files =
     -- the lines in their order, nothing between and nothing behind
     ∷ breaks ("Form=1␊" ∷ []) 0
     ∷ breaks ("form =1␊" ∷ []) 4
-    ∷ breaks ("form=2␊" ∷ []) 5
+    ∷ breaks ("form=3␊" ∷ []) 5
+    ∷ breaks ("form=2␊" ∷ []) 7
     ∷ breaks ("form=1␍␊" ∷ []) 6
     ∷ breaks ("form=1␊form=1␊" ∷ []) 7
     ∷ breaks ("form=1␊opening=00000␊" ∷ []) 7
@@ -168,6 +175,31 @@ files =
     ∷ breaks (lists ∷ "arrived=␊text=␊" ∷ []) 90
     ∷ breaks (lists ∷ "arrived=␊text=0000004100" ∷ []) 98
     ∷ breaks (lists ∷ "arrived=␊text=00000041␊history=0" ∷ []) 107
+    -- order 10: seven digits, at most 1,048,576
+    ∷ breaks ("form=2␊kind=jp2␊opening=1048577␊" ∷ []) 30
+    ∷ breaks ("form=2␊kind=jp2␊opening=00000␊" ∷ []) 29
+    ∷ breaks ("form=1␊kind=jp2␊opening=0000000␊" ∷ []) 29
+    -- "18 also, at the LF ending arrived, for form 2 where form 1 was due"
+    ∷ breaks (small2 ∷ "saved=0065536␊arrived=41␊text=␊history=␊" ∷ []) 97
+    ∷ breaks (small2 ∷ "saved=none␊arrived=␊text=␊history=␊" ∷ []) 92
+    -- some number is greater, whatever soundness says
+    ∷ spells (small2 ∷ "saved=0065537␊arrived=41␊text=␊history=␊" ∷ [])
+    (record {
+      page = record { kind = Jp2; opening = 0; length = 0; used = 0; done = 0; saved = At 65537 };
+      arrived = 0x41 ∷ [];
+      text = [];
+      history = [];
+    })
+    ∷ spells
+    ("form=2␊kind=jp2␊opening=1048576␊length=0000000␊used=0000000␊done=0000000␊saved=none␊arrived=␊text=␊history=␊" ∷ [])
+    (record {
+      page = record { kind = Jp2; opening = 1048576; length = 0; used = 0; done = 0; saved = None };
+      arrived = [];
+      text = [];
+      history = [];
+    })
+    -- "An old program refuses form 2 with 18 and shows nothing."
+    ∷ old-breaks (small2 ∷ "saved=0065537␊arrived=41␊text=␊history=␊" ∷ []) 5
     ∷ []
 
 -- the worked page in longer buffers; with text past its length, so not sound; another edit, of a page of three cells
@@ -216,6 +248,8 @@ readings =
     ∷ refuses
     (start ∷ "opening=00004␊length=00004␊used=00005␊done=00005␊saved=00003␊" ∷ arrivedLine ∷ editedLine ∷ stepLine ∷ [])
     9 4 5 14 0
+    -- of form 2, too
+    ∷ refuses (small2 ∷ "saved=0065537␊arrived=41␊text=␊history=␊" ∷ []) 9 4 5 14 0
     -- the text has room and the opening length has not
     ∷ refuses
     (start

@@ -1,11 +1,12 @@
 -- Document 02, order 6: "a page file of key=value lines, each ended by LF, in this order: form, kind, opening, length,
--- used, done, saved, arrived, text, history."
-use Prim.Native.Nat.{ℕ, _≤_, _<_, _^_}
+-- used, done, saved, arrived, text, history." Order 10: "Page files get form 2 with seven digits".
+use Prim.Native.Nat.{ℕ, _≤_, _<_, _^_, max}
 use Prim.Native.String.{String}
 use mathlib.Core.Path.{_≡_}
+use mathlib.Core.Bool.{cond}
 use mathlib.Core.List.{List, [], _∷_, _++_}
 use lib.ListN.{length}
-use Rattle.answer.specs.Answer.{limit}
+use lib.Dec.{ltb}
 use Rattle.answer.specs.Lists.{Each}
 use Rattle.answer.specs.Bytes.{bytes}
 use Rattle.codec.specs.declared.Kind.{Kind}
@@ -23,16 +24,37 @@ pub record Content : Type 0 where
   pub text : List ℕ
   pub history : List ℕ
 
--- a form of the file: how it is named, how many digits a number has, and the most that a number may be and a list may
--- hold
+-- a form of the file: how it is named, how many digits a number has, the most that a number may be and a list may hold,
+-- and what some number, or the arrived length, must reach
 pub record Form : Type 0 where
   pub name : String
   pub width : ℕ
   pub bound : ℕ
+  pub floor : ℕ
 
--- "Form is 1." "five decimal digits"; "over 65,536 [..] out of form"
+-- "Form is 1." "five decimal digits"; "All others stay form 1, bound 65,536"
 abbrev pub form1 : Form
-form1 = record { name = "1"; width = 5; bound = limit }
+form1 = record { name = "1"; width = 5; bound = 65536; floor = 0 }
+
+-- "form 2 with seven digits, written only when some number, or the arrived length, exceeds 65,536"
+abbrev pub form2 : Form
+form2 = record { name = "2"; width = 7; bound = 1048576; floor = 65537 }
+
+-- the greatest of a page's five numbers, and of the arrived length
+abbrev pub markNumber : Mark → ℕ
+markNumber None = 0
+markNumber (At n) = n
+
+abbrev pub greatest : Page → ℕ
+greatest page =
+    max (page .opening) (max (page .length) (max (page .used) (max (page .done) (markNumber (page .saved)))))
+
+abbrev pub greatestIn : Content → ℕ
+greatestIn c = max (greatest (c .page)) (length (c .arrived))
+
+-- the form that is due
+abbrev pub formFor : Content → Form
+formFor c = cond (ltb 65536 (greatestIn c)) form2 form1
 
 -- "Kind is utf7h, utf7b or jp2."
 abbrev pub nameOf : Kind → List ℕ
@@ -76,7 +98,7 @@ module _ (form : Form) where
       ∷ line "history" (groups 8 (c .history))
       ∷ [])
 
-  -- "a number or list over 65,536 or a list of the wrong length being out of form"; a byte is two hex digits, a cell or
+  -- "a number or list over [the bound] or a list of the wrong length being out of form"; a byte is two hex digits, a cell or
   -- word eight
   pub record InForm (c : Content) : Type 0 where
     pub opening : c .page .opening ≤ form .bound
@@ -93,8 +115,8 @@ module _ (form : Form) where
 
 -- the file of what is kept
 abbrev pub fileOf : Content → List ℕ
-fileOf c = fileIn form1 c
+fileOf c = fileIn (formFor c) c
 
--- the page files, and what they keep
+-- the page files, and what they keep: "one page still has one file"
 abbrev pub IsFile : Language Content
-IsFile c file = InForm form1 c × (file ≡ fileOf c)
+IsFile c file = InForm (formFor c) c × (file ≡ fileOf c)

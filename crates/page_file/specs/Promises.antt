@@ -19,14 +19,14 @@ use Rattle.ledger.specs.Words.{Entry, pad}
 use Rattle.ledger.specs.Page.{State, stateOf}
 use Rattle.ledger.specs.Calls.{over, noPage}
 use Rattle.parsing.specs.Parsing.{whole, broken, FirstFault, Right}
-use Rattle.page_file.specs.File.{Content, form1, InForm, fileOf, IsFile}
+use Rattle.page_file.specs.File.{Content, formFor, InForm, fileOf, IsFile}
 use Rattle.page_file.specs.Reading.{parse}
 use Rattle.page_file.specs.Calls.{belongs, keepOf, unread, readOf}
 
 -- of the syntax alone
 pub record Files : Type 0 where
   -- what is in form is found again in its file
-  pub reads-back : (c : Content) → InForm form1 c → parse (fileOf c) ≡ whole c
+  pub reads-back : (c : Content) → InForm (formFor c) c → parse (fileOf c) ≡ whole c
   -- any bytes are the file of what is found in them; or they are no page file, and 18 stands "at the first byte no page
   -- file can have there, or the length if it ends early"
   pub right : (file : List ℕ) → Right IsFile file (parse file)

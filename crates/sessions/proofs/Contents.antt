@@ -21,8 +21,9 @@ use Rattle.ledger.specs.Page.{State, records}
 use Rattle.ledger.specs.Layout.{editorFor}
 use Rattle.ledger.proofs.Words.{words, take-pad, length-words, sizes-reverse}
 use Rattle.ledger.proofs.Lying.{pageOf, Lies, page-lays}
-use Rattle.page_file.specs.File.{Content, form1, InForm}
+use Rattle.page_file.specs.File.{Content, formFor, InForm}
 use Rattle.page_file.specs.Calls.{contentOf, belongs}
+use Rattle.page_file.proofs.Laws.{due-form}
 use Rattle.page_file.proofs.Calls.{reads-means, belongs-means}
 use Rattle.page_file.proofs.Again.{mark-within}
 use Rattle.sessions.proofs.Cells.{Words, Adds, text-words, records-words, steps-words}
@@ -82,14 +83,15 @@ module _ {arrived : List ℕ} {s : State} {l : Ledger} (k : Kept page-lays arriv
       (rw (reverseAux-eq (k .back) (k .undone)) steps)
       reading)
 
-  pub in-form : Words l → InForm form1 kept
+  pub in-form : Words l → InForm (formFor kept) kept
   in-form h =
       let legal = k .lies .legal in
       let counted : length (words (entries here)) ≡ sizes (entries here) = length-words (entries here) in
       let parted : sizes (entries here) ≡ sizes (here .standing) + sizes (here .undone) =
       sizes-reverse (here .standing) (here .undone) in
       let few : length (words (entries here)) ≤ limit = omega (arith, k .lies .few, k .lies .small-history) in
-      record {
+      due-form kept
+      (record {
         opening = omega (arith, legal .opens, k .lies .small-text);
         size = omega (arith, legal .room, k .lies .small-text);
         used = few;
@@ -101,7 +103,7 @@ module _ {arrived : List ℕ} {s : State} {l : Ledger} (k : Kept page-lays arriv
         bytes = arrived-bytes (o .kind) arrived (reads-means (o .kind) arrived (o .reading) (k .good .reads) .0);
         cells = text-held h;
         words = words-held h;
-      }
+      })
 
   -- no 15 for the bytes opened on
   nothing-text : (back : List Step) → recordsBack (o .reading) back ≡ [] → textAt o back ≡ o .reading
