@@ -175,11 +175,11 @@ least-due floor n m true e = ((λ _. omega (arith, leb-true floor n e)), (λ _. 
 least-due floor n m false e = ((λ h. omega arith), (λ h. omega (arith, leb-false floor n e)))
 
 -- what a form asks for, of the numbers or the arrived length
-abbrev Due : Form → Content → Type 0
+abbrev pub Due : Form → Content → Type 0
 Due form c = form .floor ≤ greatestIn c
 
 -- the files of a form
-abbrev Files : Form → Language Content
+abbrev pub Files : Form → Language Content
 Files form c w = Due form c × InForm form c × (w ≡ fileIn form c)
 
 module _
@@ -422,12 +422,14 @@ forms-apart a b u v x y (_, _, i) (_, _, j) e =
     ap (λ (l : List ℕ). l ++ x) (sym i) ∙ e ∙ ap (λ (l : List ℕ). l ++ y) j in
     omega (arith, ap (λ (l : List ℕ). getD l 5 0) z)
 
+pub parses-form1 : Parses (linesOf form1) (Files form1)
+parses-form1 = parses-lines form1 (lit< tt) (lit< tt) (lit≤ tt)
+
+pub parses-form2 : Parses (linesOf form2) (Files form2)
+parses-form2 = parses-lines form2 (lit< tt) (lit< tt) (lit≤ tt)
+
 parses-file : Parses (either (linesOf form1) (linesOf form2)) IsFile
-parses-file =
-    parses-as
-    (parses-either (parses-lines form1 (lit< tt) (lit< tt) (lit≤ tt)) (parses-lines form2 (lit< tt) (lit< tt) (lit≤ tt))
-    forms-apart)
-    to-file from-file
+parses-file = parses-as (parses-either parses-form1 parses-form2 forms-apart) to-file from-file
 
 -- "Reading gives page, buffers and arrived bytes back": what is kept, in form, is found again
 pub file-reads : (c : Content) → InForm (formFor c) c → parse (fileOf c) ≡ whole c
