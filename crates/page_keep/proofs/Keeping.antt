@@ -1,5 +1,5 @@
 -- A file is its first lines and its lists, and how many bytes; what keeping answers. Assumes nothing.
-use Prim.Native.Nat.{ℕ, _+_, _*_, _≤_, _<_}
+use Prim.Native.Nat.{ℕ, _+_, _*_, _/_, _%_, _≤_, _<_}
 use Prim.Native.String.{String}
 use mathlib.Core.Path.{_≡_, refl, sym, ap, _∙_}
 use mathlib.Core.Bool.{Bool, true, false, cond, _||_}
@@ -7,8 +7,10 @@ use mathlib.Core.List.{List, [], _∷_, _++_, append-assoc, append-nil}
 use mathlib.Core.Option.{Option, none, some}
 use native.Mathlib.Omega.{arith}
 use native.Mathlib.Nat.{zero-add}
-use lib.ListN.{length, take, drop, length-append}
+use native.Mathlib.Numerals.{add-one}
+use lib.ListN.{length, take, drop, set, length-append}
 use lib.Seq.{sets, sets-eq, length-take-le}
+use lib.Dec.{lit≤}
 use borrow.Author.Tests.{lt-ltb, le-ltb}
 use Rattle.answer.specs.Answer.{numbered, inNumbers, tooLong}
 use Rattle.answer.specs.declared.Answer.{Answer}
@@ -27,59 +29,90 @@ use Rattle.records.specs.declared.Judged.{Judged}
 use Rattle.records.specs.declared.Judged.the-variants.{Unfit}
 use Rattle.records.specs.Walking.{judgeOf}
 use Rattle.records.proofs.Found.{Fit, unfit}
-use Rattle.parsing.specs.Digits.{digits, groups, LF}
-use Rattle.page_file.specs.File.{Content, form1, line, joined, nameOf, markOf, fileIn, fileOf}
+use Rattle.parsing.specs.Digits.{digit, digits, groups, LF}
+use Rattle.page_file.specs.File.{Content, Form, line, joined, nameOf, markOf, fileIn, fileOf}
 use Rattle.page_file.specs.Calls.{contentOf, countIs, counted, belongs, keepParted, keepOf}
-use Rattle.page_file.specs.Inner.{belongsBy}
+use Rattle.page_file.specs.Inner.{belongsBy, formIf}
 use Rattle.page_file.proofs.Belonging.{belongs-by}
-use Rattle.page_keep.specs.Inner.{decimal, kindLines, headOf, listsOf, contentBy}
+use Rattle.page_file.proofs.Forms.{form-if}
+use Rattle.page_keep.specs.Inner.{isLong, decimal, front, formLine, pageLines, headOf, listsOf}
+use Rattle.page_keep.specs.Inner.{contentBy}
 use Rattle.page_keep.proofs.Puts.{length-digits, length-groups}
 
 -- ten lines in two groups
 regroup :
     (a b c d e f g h i j : List ℕ) →
     joined (a ∷ b ∷ c ∷ d ∷ e ∷ f ∷ g ∷ h ∷ i ∷ j ∷ [])
-    ≡ (a ++ b) ++ (c ++ (d ++ (e ++ (f ++ g)))) ++ (h ++ (i ++ j))
+    ≡ (a ++ (b ++ (c ++ (d ++ (e ++ (f ++ g)))))) ++ (h ++ (i ++ j))
 regroup a b c d e f g h i j = simp (append-assoc, append-nil)
 
-module _ (page : Page) (cells words arrived : List ℕ) where
-  pub file-is : fileOf (contentBy page cells words arrived) ≡ headOf page ++ listsOf arrived cells words
+form-line : (two : Bool) → line "form" (bytes (formIf two .name)) ≡ formLine two
+form-line true = refl
+form-line false = refl
+
+module _ (two : Bool) (page : Page) (cells words arrived : List ℕ) where
+  file-by : fileIn (formIf two) (contentBy page cells words arrived) ≡ headOf two page ++ listsOf arrived cells words
   unfolding fileIn
-  file-is =
-      regroup (line "form" (bytes "1")) (line "kind" (nameOf (page .kind))) (line "opening" (decimal (page .opening)))
-      (line "length" (decimal (page .length))) (line "used" (decimal (page .used))) (line "done" (decimal (page .done)))
-      (line "saved" (markOf form1 (page .saved))) (line "arrived" (groups 2 arrived)) (line "text" (groups 8 cells))
-      (line "history" (groups 8 words))
+  file-by =
+      regroup (line "form" (bytes (formIf two .name))) (line "kind" (nameOf (page .kind)))
+      (line "opening" (decimal two (page .opening))) (line "length" (decimal two (page .length)))
+      (line "used" (decimal two (page .used))) (line "done" (decimal two (page .done)))
+      (line "saved" (markOf (formIf two) (page .saved))) (line "arrived" (groups 2 arrived))
+      (line "text" (groups 8 cells)) (line "history" (groups 8 words))
+      ∙ ap (λ (first : List ℕ). (first ++ pageLines two page) ++ listsOf arrived cells words) (form-line two)
+
+  pub file-is :
+      two ≡ isLong page arrived →
+      fileOf (contentBy page cells words arrived) ≡ headOf two page ++ listsOf arrived cells words
+  file-is e =
+      ap (λ (form : Form). fileIn form (contentBy page cells words arrived))
+      (sym (form-if (isLong page arrived)) ∙ ap formIf (sym e))
+      ∙ file-by
 
 pub line-size : (key : String) (value : List ℕ) → length (line key value) ≡ length (bytes key) + length value + 2
 line-size key value = simp length-append (omega arith)
 
-pub number-size : (key : String) (n : ℕ) → length (line key (decimal n)) ≡ length (bytes key) + 7
-number-size key n = line-size key (decimal n) ∙ omega (arith, length-digits 10 5 n)
+pub number-size :
+    (two : Bool) (key : String) (n : ℕ) →
+    length (line key (decimal two n)) ≡ length (bytes key) + formIf two .width + 2
+number-size two key n = line-size key (decimal two n) ∙ omega (arith, length-digits 10 (formIf two .width) n)
 
-six : (a b c d e f : List ℕ) → length (a ++ (b ++ (c ++ (d ++ (e ++ f))))) ≡ length a + length b + length c + length d
-    + length e + length f
-six a b c d e f = simp length-append (omega arith)
+pub form-size : (two : Bool) → length (formLine two) ≡ 7
+form-size true = refl
+form-size false = refl
 
-pub kind-size : (kind : Kind) → length (kindLines kind) ≡ 13 + length (nameOf kind)
-kind-size kind = length-append (line "form" (bytes "1")) (line "kind" (nameOf kind)) ∙ omega
-    (arith, line-size "kind" (nameOf kind))
+seven :
+    (a b c d e f g : List ℕ) →
+    length (a ++ (b ++ (c ++ (d ++ (e ++ (f ++ g))))))
+    ≡ length a + length b + length c + length d + length e + length f + length g
+seven a b c d e f g = simp length-append (omega arith)
 
-pub head-size : (page : Page) → length (headOf page) ≡ 69 + (length (nameOf (page .kind)) + length
-    (markOf form1 (page .saved)))
-head-size page =
-    six (kindLines (page .kind)) (line "opening" (decimal (page .opening))) (line "length" (decimal (page .length)))
-    (line "used" (decimal (page .used))) (line "done" (decimal (page .done)))
-    (line "saved" (markOf form1 (page .saved)))
+pub head-size :
+    (two : Bool) (page : Page) →
+    length (headOf two page)
+    ≡ 49 + formIf two .width * 4 + (length (nameOf (page .kind)) + length (markOf (formIf two) (page .saved)))
+head-size two page =
+    seven (formLine two) (line "kind" (nameOf (page .kind))) (line "opening" (decimal two (page .opening)))
+    (line "length" (decimal two (page .length))) (line "used" (decimal two (page .used)))
+    (line "done" (decimal two (page .done))) (line "saved" (markOf (formIf two) (page .saved)))
     ∙ omega (
       arith,
-      kind-size (page .kind),
-      number-size "opening" (page .opening),
-      number-size "length" (page .length),
-      number-size "used" (page .used),
-      number-size "done" (page .done),
-      line-size "saved" (markOf form1 (page .saved)),
+      form-size two,
+      line-size "kind" (nameOf (page .kind)),
+      number-size two "opening" (page .opening),
+      number-size two "length" (page .length),
+      number-size two "used" (page .used),
+      number-size two "done" (page .done),
+      line-size "saved" (markOf (formIf two) (page .saved)),
     )
+
+-- the last of the first lines
+pub saved-room :
+    (two : Bool) (page : Page) {n at : ℕ} → length (headOf two page) ≤ n →
+    at ≡ 42 + formIf two .width * 4 + length (nameOf (page .kind)) →
+    at + length (line "saved" (markOf (formIf two) (page .saved))) ≤ n
+saved-room two page h e =
+    omega (arith, head-size two page, line-size "saved" (markOf (formIf two) (page .saved)))
 
 pub lists-size : (arrived cells words : List ℕ) → length (listsOf arrived cells words) ≡ 24 +
     (length arrived * 2 + length cells * 8 + length words * 8)
@@ -97,14 +130,37 @@ lists-size arrived cells words =
     )
 
 pub file-size :
-    (page : Page) (cells words arrived : List ℕ) →
+    (two : Bool) (page : Page) (cells words arrived : List ℕ) → two ≡ isLong page arrived →
     length (fileOf (contentBy page cells words arrived))
-    ≡ 93 + (length (nameOf (page .kind)) + length (markOf form1 (page .saved))) + length arrived * 2 + length cells * 8
-    + length words * 8
-file-size page cells words arrived =
-    ap length (file-is page cells words arrived)
-    ∙ length-append (headOf page) (listsOf arrived cells words)
-    ∙ omega (arith, head-size page, lists-size arrived cells words)
+    ≡ 73 + formIf two .width * 4 + (length (nameOf (page .kind)) + length (markOf (formIf two) (page .saved)))
+    + length arrived * 2 + length cells * 8 + length words * 8
+file-size two page cells words arrived e =
+    ap length (file-is two page cells words arrived e)
+    ∙ length-append (headOf two page) (listsOf arrived cells words)
+    ∙ omega (arith, head-size two page, lists-size arrived cells words)
+
+-- a number is its first digits and its last five
+pub front-is : (two : Bool) (n : ℕ) → decimal two n ≡ front two n ++ digits 10 5 n
+unfolding digits
+front-is true n = refl
+front-is false n = refl
+
+pub front-size : (two : Bool) (n : ℕ) → length (front two n) + 5 ≡ formIf two .width
+front-size true n = refl
+front-size false n = refl
+
+pub width-least : (two : Bool) → 5 ≤ formIf two .width
+width-least true = lit≤ tt
+width-least false = lit≤ tt
+
+module _ (two : Bool) (n at : ℕ) (out : List ℕ) where
+  pub no-front : two ≡ false → (at + 5 ≡ at + formIf two .width) × (out ≡ sets out at (front two n))
+  no-front e = rw e (refl, refl)
+
+  pub two-front :
+      two ≡ true → {a b : ℕ} → a ≡ digit (n / 1000000 % 10) → b ≡ digit (n / 100000 % 10) →
+      (at + 2 + 5 ≡ at + formIf two .width) × (set (set out at a) (at + 1) b ≡ sets out at (front two n))
+  two-front e i j = rw (e, i, j, add-one at) (omega arith, refl)
 
 -- put whole, from the front
 pub put-whole : (out file : List ℕ) → length file ≤ length out → sets out 0 file ≡ filled file out

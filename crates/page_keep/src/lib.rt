@@ -17,10 +17,10 @@ ghost use lib.Seq.{sets};
 ghost use Rattle.answer.specs.Answer.{limit, numbered};
 ghost use Rattle.answer.specs.Output.{leaves, refusing, filled, deliver};
 ghost use Rattle.ledger.specs.Page.{stateOf};
-ghost use Rattle.page_file.specs.File.{form1, line, nameOf, markOf, fileOf};
-ghost use Rattle.page_file.specs.Inner.{belongsBy};
+ghost use Rattle.page_file.specs.File.{line, nameOf, markOf, fileOf};
+ghost use Rattle.page_file.specs.Inner.{belongsBy, formIf};
 ghost use Rattle.page_file.specs.Calls.{keepOf};
-ghost use Rattle.page_keep.specs.Inner.{kindLines, headOf, contentBy};
+ghost use Rattle.page_keep.specs.Inner.{formLine, headOf, contentBy, isLong};
 
 fn name_size(kind: Kind) -> usize
     ensures { λ r. ⌜ (r ≡ length (nameOf kind)) × (r ≤ 5) ⌝ }
@@ -32,71 +32,95 @@ fn name_size(kind: Kind) -> usize
     }
 }
 
-fn mark_size(mark: Mark) -> usize
-    ensures { λ r. ⌜ (r ≡ length (markOf form1 mark)) × (r ≤ 5) ⌝ }
+fn width_of(two: bool) -> usize
+    ensures { λ r. ⌜ (r ≡ formIf two .width) × (r ≤ 7) ⌝ }
+{
+    if two {
+        return 7;
+    }
+    5
+}
+
+fn mark_size(two: bool, mark: Mark) -> usize
+    ensures { λ r. ⌜ (r ≡ length (markOf (formIf two) mark)) × (r ≤ 7) ⌝ }
 {
     let Mark::At(_) = mark else {
         return 4;
     };
-    5
+    width_of(two)
 }
 
-// The size of a page's file: what every file has besides its kind, its mark and its lists is 93 bytes.
-fn size_of(page: Page, arrived: &[u8], cells: &[u32], words: &[u32]) -> usize
-    requires { ⌜ (length (now arrived) ≤ limit) × (length (now cells) ≤ limit) × (length (now words) ≤ limit) ⌝ }
+// The size of a page's file: what every file has besides its kind, its numbers and its lists is 73 bytes.
+fn size_of(two: bool, page: Page, arrived: &[u8], cells: &[u32], words: &[u32]) -> usize
+    requires { ⌜ (two ≡ isLong page (now arrived)) × (length (now arrived) ≤ limit) × (length (now cells) ≤ limit)
+        × (length (now words) ≤ limit) ⌝ }
     ensures { λ r. ⌜ r ≡ length (fileOf (contentBy page (now (cells .entry)) (now (words .entry))
         (now (arrived .entry)))) ⌝ }
 {
     let kind = page.kind;
     let saved = page.saved;
-    let names = name_size(kind) + mark_size(saved);
-    93 + names + arrived.len() * 2 + cells.len() * 8 + words.len() * 8
+    let names = name_size(kind) + mark_size(two, saved);
+    73 + width_of(two) * 4 + names + arrived.len() * 2 + cells.len() * 8 + words.len() * 8
 }
 
-fn put_kind(kind: Kind, out: &mut [u8]) -> usize
-    requires { ⌜ length (kindLines kind) ≤ length (now out) ⌝ }
-    ensures { λ r. ⌜ (r ≡ length (kindLines kind)) × (now (out .exit) ≡ sets (now (out .entry)) 0 (kindLines kind)) ⌝ }
+fn put_form(two: bool, out: &mut [u8]) -> usize
+    requires { ⌜ 7 ≤ length (now out) ⌝ }
+    ensures { λ r. ⌜ (r ≡ 7) × (now (out .exit) ≡ sets (now (out .entry)) 0 (formLine two)) ⌝ }
+{
+    if two {
+        return put::put_bytes(b"form=2\n", &mut *out, 0);
+    }
+    put::put_bytes(b"form=1\n", &mut *out, 0)
+}
+
+fn put_kind(kind: Kind, out: &mut [u8], at: usize) -> usize
+    requires { ⌜ at + length (line "kind" (nameOf kind)) ≤ length (now out) ⌝ }
+    ensures { λ r. ⌜ (r ≡ at + length (line "kind" (nameOf kind)))
+        × (now (out .exit) ≡ sets (now (out .entry)) at (line "kind" (nameOf kind))) ⌝ }
 {
     match kind {
-        Kind::Utf7Header => put::put_bytes(b"form=1\nkind=utf7h\n", &mut *out, 0),
-        Kind::Utf7Body => put::put_bytes(b"form=1\nkind=utf7b\n", &mut *out, 0),
-        Kind::Jp2 => put::put_bytes(b"form=1\nkind=jp2\n", &mut *out, 0),
+        Kind::Utf7Header => put::put_bytes(b"kind=utf7h\n", &mut *out, at),
+        Kind::Utf7Body => put::put_bytes(b"kind=utf7b\n", &mut *out, at),
+        Kind::Jp2 => put::put_bytes(b"kind=jp2\n", &mut *out, at),
     }
 }
 
-fn put_saved(mark: Mark, out: &mut [u8], at: usize) -> usize
-    requires { ⌜ at + length (line "saved" (markOf form1 mark)) ≤ length (now out) ⌝ }
-    ensures { λ r. ⌜ (r ≡ at + length (line "saved" (markOf form1 mark)))
-        × (now (out .exit) ≡ sets (now (out .entry)) at (line "saved" (markOf form1 mark))) ⌝ }
+fn put_saved(two: bool, mark: Mark, out: &mut [u8], at: usize) -> usize
+    requires { ⌜ at + length (line "saved" (markOf (formIf two) mark)) ≤ length (now out) ⌝ }
+    ensures { λ r. ⌜ (r ≡ at + length (line "saved" (markOf (formIf two) mark)))
+        × (now (out .exit) ≡ sets (now (out .entry)) at (line "saved" (markOf (formIf two) mark))) ⌝ }
 {
     let Mark::At(n) = mark else {
         return put::put_bytes(b"saved=none\n", &mut *out, at);
     };
-    put::put_number(b"saved=", n, &mut *out, at)
+    put::put_number(two, b"saved=", n, &mut *out, at)
 }
 
 // The first seven lines.
-fn put_head(page: Page, out: &mut [u8]) -> usize
-    requires { ⌜ length (headOf page) ≤ length (now out) ⌝ }
-    ensures { λ r. ⌜ (r ≡ length (headOf page)) × (now (out .exit) ≡ sets (now (out .entry)) 0 (headOf page)) ⌝ }
+fn put_head(two: bool, page: Page, out: &mut [u8]) -> usize
+    requires { ⌜ length (headOf two page) ≤ length (now out) ⌝ }
+    ensures { λ r. ⌜ (r ≡ length (headOf two page))
+        × (now (out .exit) ≡ sets (now (out .entry)) 0 (headOf two page)) ⌝ }
 {
     let kind = page.kind;
     let saved = page.saved;
-    let opening = put_kind(kind, &mut *out);
-    let length = put::put_number(b"opening=", page.opening, &mut *out, opening);
-    let used = put::put_number(b"length=", page.length, &mut *out, length);
-    let done = put::put_number(b"used=", page.used, &mut *out, used);
-    let mark = put::put_number(b"done=", page.done, &mut *out, done);
-    put_saved(saved, &mut *out, mark)
+    let name = put_form(two, &mut *out);
+    let opening = put_kind(kind, &mut *out, name);
+    let length = put::put_number(two, b"opening=", page.opening, &mut *out, opening);
+    let used = put::put_number(two, b"length=", page.length, &mut *out, length);
+    let done = put::put_number(two, b"used=", page.used, &mut *out, used);
+    let mark = put::put_number(two, b"done=", page.done, &mut *out, done);
+    put_saved(two, saved, &mut *out, mark)
 }
 
-fn put_file(page: Page, cells: &[u32], words: &[u32], arrived: &[u8], out: &mut [u8])
-    requires { ⌜ length (fileOf (contentBy page (now cells) (now words) (now arrived))) ≤ length (now out) ⌝ }
+fn put_file(two: bool, page: Page, cells: &[u32], words: &[u32], arrived: &[u8], out: &mut [u8])
+    requires { ⌜ (two ≡ isLong page (now arrived))
+        × (length (fileOf (contentBy page (now cells) (now words) (now arrived))) ≤ length (now out)) ⌝ }
     ensures { λ _. ⌜ now (out .exit)
         ≡ filled (fileOf (contentBy page (now (cells .entry)) (now (words .entry)) (now (arrived .entry))))
         (now (out .entry)) ⌝ }
 {
-    let head = put_head(page, &mut *out);
+    let head = put_head(two, page, &mut *out);
     let text = put::put_arrived(arrived, &mut *out, head);
     let history = put::put_words(b"text=", cells, &mut *out, text);
     put::put_words(b"history=", words, &mut *out, history);
@@ -114,11 +138,12 @@ fn keep_sound(page: Page, cells: &[u32], words: &[u32], arrived: &[u8], out: &mu
     if !opened::belongs(page, cells, arrived) {
         return Answer::Refused(Refusal::NotTheText, 0);
     }
-    let size = size_of(page, arrived, cells, words);
+    let two = page_file::is_long(page, arrived.len());
+    let size = size_of(two, page, arrived, cells, words);
     if out.len() < size {
         return Answer::Refused(Refusal::NoRoom, size);
     }
-    put_file(page, cells, words, arrived, &mut *out);
+    put_file(two, page, cells, words, arrived, &mut *out);
     Answer::Accepted(size)
 }
 

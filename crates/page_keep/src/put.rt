@@ -6,6 +6,8 @@ ghost use lib.ListN.{length};
 ghost use lib.Seq.{sets};
 ghost use Rattle.answer.specs.Bytes.{bytes as text};
 ghost use Rattle.parsing.specs.Digits.{digit, digits, groups, LF};
+ghost use Rattle.page_file.specs.Inner.{formIf};
+ghost use Rattle.page_keep.specs.Inner.{decimal, front};
 
 // These bytes.
 pub fn put_bytes(bytes: &[u8], out: &mut [u8], at: usize) -> usize
@@ -93,16 +95,31 @@ fn put_groups(words: &[u32], out: &mut [u8], at: usize) -> usize
     at + i * 8
 }
 
+// The digits before the last five, if there are any.
+fn put_front(two: bool, n: usize, out: &mut [u8], at: usize) -> usize
+    requires { ⌜ at + formIf two .width ≤ length (now out) ⌝ }
+    ensures { λ r. ⌜ (r + 5 ≡ at + formIf two .width)
+        × (now (out .exit) ≡ sets (now (out .entry)) at (front two n)) ⌝ }
+{
+    if !two {
+        return at;
+    }
+    out[at] = digit_of((n / 1000000 % 10) as u8);
+    out[at + 1] = digit_of((n / 100000 % 10) as u8);
+    at + 2
+}
+
 // A key with its '=', a number, and LF.
-pub fn put_number(key: &[u8], n: usize, out: &mut [u8], at: usize) -> usize
-    requires { ⌜ at + (length (now key) + 6) ≤ length (now out) ⌝ }
-    ensures { λ r. ⌜ (r ≡ at + (length (now (key .entry)) + 6))
-        × (now (out .exit) ≡ sets (now (out .entry)) at (now (key .entry) ++ (digits 10 5 n ++ LF))) ⌝ }
+pub fn put_number(two: bool, key: &[u8], n: usize, out: &mut [u8], at: usize) -> usize
+    requires { ⌜ at + (length (now key) + formIf two .width + 1) ≤ length (now out) ⌝ }
+    ensures { λ r. ⌜ (r ≡ at + (length (now (key .entry)) + formIf two .width + 1))
+        × (now (out .exit) ≡ sets (now (out .entry)) at (now (key .entry) ++ (decimal two n ++ LF))) ⌝ }
 {
     let value = put_bytes(key, &mut *out, at);
-    put_decimal(n, &mut *out, value);
-    out[value + 5] = b'\n';
-    value + 6
+    let last = put_front(two, n, &mut *out, value);
+    put_decimal(n, &mut *out, last);
+    out[last + 5] = b'\n';
+    last + 6
 }
 
 // A key with its '=', bytes, and LF.

@@ -2,10 +2,9 @@
 // and lines of hex digits.
 ghost use mathlib.Core.Path.{_≡_};
 ghost use mathlib.Core.Bool.{true, cond, _&&_};
-ghost use Prim.Native.Nat.{_+_, _-_, _*_, _/_, _<_, _≤_, _^_};
+ghost use Prim.Native.Nat.{_+_, _-_, _*_, _/_, _<_, _≤_, _^_, min};
 ghost use lib.ListN.{length, getD, drop};
 ghost use lib.Dec.{leb};
-ghost use Rattle.answer.specs.Answer.{limit};
 ghost use Rattle.answer.specs.Ahead.{Ahead};
 ghost use Rattle.parsing.specs.Parsing.{literal};
 ghost use Rattle.parsing.specs.Digits.{valueOf, number, list};
@@ -72,7 +71,7 @@ fn digit_value(b: u8) -> u8
 }
 
 fn tens(k: usize) -> usize
-    requires { ⌜ k < 5 ⌝ }
+    requires { ⌜ k < 7 ⌝ }
     ensures { λ r. ⌜ r ≡ 10 ^ k ⌝ }
 {
     if k == 0 {
@@ -87,7 +86,13 @@ fn tens(k: usize) -> usize
     if k == 3 {
         return 1000;
     }
-    10000
+    if k == 4 {
+        return 10000;
+    }
+    if k == 5 {
+        return 100000;
+    }
+    1000000
 }
 
 fn digit_at(s: &[u8], at: usize) -> usize
@@ -97,13 +102,34 @@ fn digit_at(s: &[u8], at: usize) -> usize
     digit_value(s[at]) as usize
 }
 
-// A number of five decimal digits, at most 65,536.
-pub fn decimal(s: &[u8], from: usize) -> Found
-    ensures { λ r. ⌜ foundIn (now (s .entry)) r ≡ number 10 5 limit (drop from (now (s .entry))) from ⌝ }
+// How many digits a number has, and the most that it may be.
+fn width_of(long: bool) -> usize
+    ensures { λ r. ⌜ r ≡ cond long 7 5 ⌝ }
 {
+    if long {
+        return 7;
+    }
+    5
+}
+
+fn most_of(long: bool) -> usize
+    ensures { λ r. ⌜ r ≡ cond long 1048576 65536 ⌝ }
+{
+    if long {
+        return 1048576;
+    }
+    65536
+}
+
+// A number of five decimal digits, at most 65,536; a long one of seven, at most 1,048,576.
+pub fn decimal(s: &[u8], from: usize, long: bool) -> Found
+    ensures { λ r. ⌜ foundIn (now (s .entry)) r
+        ≡ number 10 (cond long 7 5) (cond long 1048576 65536) (drop from (now (s .entry))) from ⌝ }
+{
+    let most = most_of(long);
     let mut at = from;
     let mut v: usize = 0;
-    let mut k: usize = 5;
+    let mut k = width_of(long);
     while 0 < k {
         if s.len() <= at {
             return not_found(at);
@@ -114,7 +140,7 @@ pub fn decimal(s: &[u8], from: usize) -> Found
         }
         k -= 1;
         let next = v * 10 + d;
-        if 65536 < next * tens(k) {
+        if most < next * tens(k) {
             return not_found(at);
         }
         v = next;
@@ -214,12 +240,21 @@ fn line_of(s: &[u8], from: usize, k: usize, least: usize, most: usize) -> Found
     }
 }
 
-// A line of bytes, at most 65,536.
-pub fn bytes_line(s: &[u8], from: usize) -> Found
-    ensures { λ r. ⌜ (numbersIn 2 from (now (s .entry)) r ≡ list 2 0 limit (drop from (now (s .entry))) from)
-        × Spans 2 0 limit from (now (s .entry)) r ⌝ }
+fn smaller(a: usize, b: usize) -> usize
+    ensures { λ r. ⌜ r ≡ min a b ⌝ }
 {
-    line_of(s, from, 2, 0, answer::LIMIT)
+    if a < b {
+        return a;
+    }
+    b
+}
+
+// A line of bytes, at least and at most so many.
+pub fn bytes_line(s: &[u8], from: usize, least: usize, most: usize) -> Found
+    ensures { λ r. ⌜ (numbersIn 2 from (now (s .entry)) r ≡ list 2 least most (drop from (now (s .entry))) from)
+        × Spans 2 0 most from (now (s .entry)) r ⌝ }
+{
+    line_of(s, from, 2, smaller(least, most), most)
 }
 
 // A line of so many words.

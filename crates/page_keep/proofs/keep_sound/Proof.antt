@@ -17,14 +17,17 @@ returns c =
     let if1′ = c .if1 in
     rw (sym (belongs′ .ensures) ∙ not-true _ (if1′ .taken))
 
+is-long-requires : tie.Need-is-long-requires
+is-long-requires c κs = search needs
+
 size-of-requires : tie.Need-size-of-requires
 size-of-requires c κs = search needs
 
 returns-2 : tie.Need-returns-2
 returns-2 c =
-    let a = c .before .before .before .before .before .before .before .before .args in
-    let belongs′ = c .before .before .before .belongs in
-    let if1′ = c .before .before .if1 in
+    let a = c .before .before .before .before .before .before .before .before .before .args in
+    let belongs′ = c .before .before .before .before .belongs in
+    let if1′ = c .before .before .before .if1 in
     let size-of′ = c .before .size-of in
     rw (sym (belongs′ .ensures) ∙ not-false _ (if1′ .left)) (no-room
     (fileOf (contentBy (a .page) (a .cells .now) (a .words .now) (a .arrived .now))) (a .out .now)
@@ -32,17 +35,18 @@ returns-2 c =
 
 put-file-requires : tie.Need-put-file-requires
 put-file-requires c κs =
+    let is-long′ = c .before .before .before .is-long in
     let size-of′ = c .before .before .size-of in
-    omega (arith, size-of′ .ensures)
+    (is-long′ .ensures, omega (arith, size-of′ .ensures))
 
 same-length : tie.Need-same-length
 same-length c = search needs
 
 returns-3 : tie.Need-returns-3
 returns-3 c =
-    let a = c .before .before .before .before .before .before .before .before .before .before .before .before .args in
-    let belongs′ = c .before .before .before .before .before .before .before .belongs in
-    let if1′ = c .before .before .before .before .before .before .if1 in
+    let a = c .before .before .before .before .before .before .before .before .before .before .before .before .before .args in
+    let belongs′ = c .before .before .before .before .before .before .before .before .belongs in
+    let if1′ = c .before .before .before .before .before .before .before .if1 in
     let size-of′ = c .before .before .before .before .before .size-of in
     let put-file′ = c .before .before .put-file in
     rw (sym (belongs′ .ensures) ∙ not-false _ (if1′ .left)) (has-room
@@ -55,6 +59,7 @@ keep-sound-spec =
     (tie.spec
     belongs-requires
     returns
+    is-long-requires
     size-of-requires
     returns-2
     put-file-requires

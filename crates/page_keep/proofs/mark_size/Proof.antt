@@ -1,4 +1,3 @@
-use lib.Dec.{lit≤}
 use mathlib.Core.Path.{sym, _∙_}
 use Rattle.page_keep.proofs.Puts.{length-digits}
 use borrow.Author.Needs.{needs}
@@ -14,10 +13,16 @@ enum-told-2 c = search needs
 returns : tie.Need-returns
 returns c = search needs
 
+width-of-requires : tie.Need-width-of-requires
+width-of-requires c κs = search needs
+
 returns-2 : tie.Need-returns-2
 returns-2 c =
-    let enum-told′ = c .enum-told in
-    (rw (enum-told′ .given .1) (sym (length-digits 10 5 (enum-told′ .given .0 .0))), lit≤ tt)
+    let enum-told′ = c .before .enum-told in
+    let width-of′ = c .width-of in (
+      width-of′ .ensures .0 ∙ rw (enum-told′ .given .1) (sym (length-digits 10 _ (enum-told′ .given .0 .0))),
+      width-of′ .ensures .1,
+    )
 
 pub mark-size-spec : {M : Type 1} → statement M
-mark-size-spec = tie.close (tie.spec enum-told enum-told-2 returns returns-2)
+mark-size-spec = tie.close (tie.spec enum-told enum-told-2 returns width-of-requires returns-2)

@@ -16,11 +16,12 @@ use Rattle.page_keep.proofs.put_file.Tie as tie
 put-head-requires : tie.Need-put-head-requires
 put-head-requires c κs =
     let a = c .before .before .before .before .before .args in
+    let p = c .before .before .before .before .before .pre in
     omega (
       arith,
-      ap length (file-is (a .page) (a .cells .now) (a .words .now) (a .arrived .now)),
+      ap length (file-is (a .two) (a .page) (a .cells .now) (a .words .now) (a .arrived .now) (p .0)),
       length-append
-          (headOf (a .page)) (listsOf (a .arrived .now) (a .cells .now) (a .words .now)),
+          (headOf (a .two) (a .page)) (listsOf (a .arrived .now) (a .cells .now) (a .words .now)),
       lists-size (a .arrived .now)
           (a .cells .now) (a .words .now),
     )
@@ -28,11 +29,12 @@ put-head-requires c κs =
 put-arrived-requires : tie.Need-put-arrived-requires
 put-arrived-requires c κs =
     let a = c .before .before .before .before .before .before .before .before .before .args in
+    let p = c .before .before .before .before .before .before .before .before .before .pre in
     omega (
       arith,
-      ap length (file-is (a .page) (a .cells .now) (a .words .now) (a .arrived .now)),
+      ap length (file-is (a .two) (a .page) (a .cells .now) (a .words .now) (a .arrived .now) (p .0)),
       length-append
-          (headOf (a .page)) (listsOf (a .arrived .now) (a .cells .now) (a .words .now)),
+          (headOf (a .two) (a .page)) (listsOf (a .arrived .now) (a .cells .now) (a .words .now)),
       lists-size (a .arrived .now)
           (a .cells .now) (a .words .now),
     )
@@ -44,11 +46,13 @@ put-words-requires : tie.Need-put-words-requires
 put-words-requires c κs =
     let a = c .before .before .before .before .before .before .before .before .before .before .before .before .before
     .before .args in
+    let p = c .before .before .before .before .before .before .before .before .before .before .before .before .before
+    .before .pre in
     omega (
       arith,
-      ap length (file-is (a .page) (a .cells .now) (a .words .now) (a .arrived .now)),
+      ap length (file-is (a .two) (a .page) (a .cells .now) (a .words .now) (a .arrived .now) (p .0)),
       length-append
-          (headOf (a .page)) (listsOf (a .arrived .now) (a .cells .now) (a .words .now)),
+          (headOf (a .two) (a .page)) (listsOf (a .arrived .now) (a .cells .now) (a .words .now)),
       lists-size (a .arrived .now)
           (a .cells .now) (a .words .now),
     )
@@ -60,11 +64,13 @@ put-words-requires-2 : tie.Need-put-words-requires-2
 put-words-requires-2 c κs =
     let a = c .before .before .before .before .before .before .before .before .before .before .before .before .before
     .before .before .before .before .before .before .args in
+    let p = c .before .before .before .before .before .before .before .before .before .before .before .before .before
+    .before .before .before .before .before .before .pre in
     omega (
       arith,
-      ap length (file-is (a .page) (a .cells .now) (a .words .now) (a .arrived .now)),
+      ap length (file-is (a .two) (a .page) (a .cells .now) (a .words .now) (a .arrived .now) (p .0)),
       length-append
-          (headOf (a .page)) (listsOf (a .arrived .now) (a .cells .now) (a .words .now)),
+          (headOf (a .two) (a .page)) (listsOf (a .arrived .now) (a .cells .now) (a .words .now)),
       lists-size (a .arrived .now)
           (a .cells .now) (a .words .now),
     )
@@ -84,12 +90,12 @@ returns c =
     .before .put-arrived in
     let put-words′ = c .before .before .before .before .before .before .before .put-words in
     let put-words2′ = c .before .before .put-words2 in
-    let h : List ℕ = headOf (a .page) in
+    let h : List ℕ = headOf (a .two) (a .page) in
     let l1 : List ℕ = line "arrived" (groups 2 (a .arrived .now)) in
     let l2 : List ℕ = line "text" (groups 8 (a .cells .now)) in
     let l3 : List ℕ = line "history" (groups 8 (a .words .now)) in
     sets-then (a .out .now) _ _ h (l1 ++ (l2 ++ l3)) 0 (put-head′ .result) (put-head′ .ensures .1) (omega arith)
-    (sets-then (put-head′ .last .1 .0) _ _ l1 (l2 ++ l3) (put-head′ .result) (put-arrived′ .result)
+    (sets-then (put-head′ .last .1 .1 .0) _ _ l1 (l2 ++ l3) (put-head′ .result) (put-arrived′ .result)
     (put-arrived′ .ensures .1) (omega (
       arith,
       line-size "arrived" (groups 2 (a .arrived .now)),
@@ -104,9 +110,9 @@ returns c =
           (a .cells .now),
     ))
     (put-words2′ .ensures .1)))
-    ∙ rw (← file-is (a .page) (a .cells .now) (a .words .now) (a .arrived .now))
+    ∙ rw (← file-is (a .two) (a .page) (a .cells .now) (a .words .now) (a .arrived .now) (pre′ .0))
     (put-whole (a .out .now) (fileOf (contentBy (a .page) (a .cells .now) (a .words .now) (a .arrived .now)))
-    (pre′))
+    (pre′ .1))
 
 pub put-file-spec : {M : Type 1} → statement M
 put-file-spec =

@@ -35,7 +35,8 @@ put-number-requires : tie.Need-put-number-requires
 put-number-requires c κs =
     let pre′ = c .before .before .before .before .before .before .pre in
     let mark′ = c .before .before .before .mark in
-    omega (arith, rw (mark′ .given .1) at (pre′), number-size "saved" (mark′ .given .0 .0))
+    let a = c .before .before .before .before .before .before .args in
+    omega (arith, rw (mark′ .given .1) at (pre′), number-size (a .two) "saved" (mark′ .given .0 .0))
 
 same-length-2 : tie.Need-same-length-2
 same-length-2 c = search needs
@@ -44,7 +45,8 @@ returns-2 : tie.Need-returns-2
 returns-2 c =
     let mark′ = c .before .before .before .before .before .before .mark in
     let put-number′ = c .before .before .put-number in
-    rw (mark′ .given .1) (omega (arith, number-size "saved" (mark′ .given .0 .0)), put-number′ .ensures .1)
+    let a = c .before .before .before .before .before .before .before .before .before .args in
+    rw (mark′ .given .1) (omega (arith, number-size (a .two) "saved" (mark′ .given .0 .0)), put-number′ .ensures .1)
 
 pub put-saved-spec : {M : Type 1} → statement M
 put-saved-spec =

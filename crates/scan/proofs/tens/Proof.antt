@@ -21,7 +21,13 @@ returns-4 : tie.Need-returns-4
 returns-4 c = at-power (c .before .before .before .before .args .k) 3 (omega arith)
 
 returns-5 : tie.Need-returns-5
-returns-5 c = at-power (c .before .before .before .before .args .k) 4 (omega arith)
+returns-5 c = at-power (c .before .before .before .before .before .args .k) 4 (omega arith)
+
+returns-6 : tie.Need-returns-6
+returns-6 c = at-power (c .before .before .before .before .before .before .args .k) 5 (omega arith)
+
+returns-7 : tie.Need-returns-7
+returns-7 c = at-power (c .before .before .before .before .before .before .args .k) 6 (omega arith)
 
 pub tens-spec : {M : Type 1} → statement M
-tens-spec = tie.close (tie.spec returns returns-2 returns-3 returns-4 returns-5)
+tens-spec = tie.close (tie.spec returns returns-2 returns-3 returns-4 returns-5 returns-6 returns-7)
