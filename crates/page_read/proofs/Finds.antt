@@ -1,5 +1,5 @@
 -- What code found, line by line. Assumes nothing.
-use Prim.Native.Nat.{ℕ, _+_, _*_, _≤_, max}
+use Prim.Native.Nat.{ℕ, _+_, _*_, _≤_, _<_, max}
 use Prim.Native.String.{String}
 use mathlib.Core.Path.{_≡_, refl, sym, ap, _∙_, subst}
 use mathlib.Core.Bool.{Bool, true, false, cond, not, false≢true}
@@ -7,19 +7,23 @@ use mathlib.Core.List.{List, [], _∷_, _++_}
 use native.Mathlib.Omega.{arith}
 use lib.ListN.{length, drop, drop-of-length-le}
 use lib.Seq.{drop-cons}
-use lib.Dec.{eqb}
-use Rattle.answer.specs.Answer.{limit}
+use lib.Dec.{eqb, leb}
+use borrow.Author.Tests.{le-leb, lt-leb}
+use Rattle.answer.proofs.Below.{cond-case}
 use Rattle.answer.specs.Bytes.{bytes}
 use Rattle.codec.specs.declared.Kind.{Kind}
 use Rattle.codec.specs.declared.Kind.the-variants.{Utf7Header, Utf7Body, Jp2}
 use Rattle.editor.specs.declared.Mark.{Mark}
 use Rattle.editor.specs.declared.Mark.the-variants.{None, At}
-use Rattle.parsing.specs.Parsing.{Parsed, found, failed, Parser, onParsed, done, literal, whole, broken, wholly}
+use Rattle.parsing.specs.Parsing.{Parsed, found, failed, Parser, onParsed, done, either, literal, whole, broken}
+use Rattle.parsing.specs.Parsing.{wholly}
 use Rattle.parsing.specs.Digits.{number, list, LF}
 use Rattle.scan.specs.declared.Found.{Found}
 use Rattle.scan.specs.Found.{foundAs, passedIn, foundIn}
-use Rattle.page_file.specs.File.{Content, form1}
-use Rattle.page_file.specs.Reading.{keyed, lineOf, listOf, linesOf, parse}
+use Rattle.ledger.specs.declared.Page.{Page}
+use Rattle.page_file.specs.File.{Content, form1, form2, greatest}
+use Rattle.page_file.specs.Reading.{keyed, lineOf, listOf, least, linesOf, parse}
+use Rattle.page_file.specs.Inner.{formIf}
 use Rattle.page_read.specs.declared.lines.Head.{Head}
 use Rattle.page_read.specs.declared.lines.Plan.{Plan}
 use Rattle.page_read.specs.Inner.{keyLine, keyList, listLines, headThen, contentIn, planIn}
@@ -96,17 +100,37 @@ ends-so (found a rest at) v = refl
 ends-so (failed at) v = refl
 
 -- the first line
-pub form-is : (bs : List ℕ) (at : ℕ) → lineOf "form" (literal (bytes "1")) bs at ≡ literal (bytes "form=1␊") bs at
-form-is bs at =
-    line-is "form" (literal (bytes "1")) bs at
-    ∙ same-on (literal (bytes "form=") bs at) (λ _ bs at. onParsed (literal (bytes "1") bs at)
+form-is :
+    (name bs : List ℕ) (at : ℕ) →
+    lineOf "form" (literal name) bs at ≡ literal (bytes "form=" ++ (name ++ LF)) bs at
+form-is name bs at =
+    line-is "form" (literal name) bs at
+    ∙ same-on (literal (bytes "form=") bs at) (λ _ bs at. onParsed (literal name bs at)
     (λ v bs at. onParsed (literal LF bs at) (λ _. done v)))
-    (λ _. literal (bytes "1␊"))
+    (λ _. literal (name ++ LF))
     (λ _ bs at.
-    same-on (literal (bytes "1") bs at) (λ v bs at. onParsed (literal LF bs at) (λ _. done v)) (λ _. literal LF)
+    same-on (literal name bs at) (λ v bs at. onParsed (literal LF bs at) (λ _. done v)) (λ _. literal LF)
     (λ v bs at. ends-so (literal LF bs at) v)
-    ∙ sym (literal-on (bytes "1") LF bs at))
-    ∙ sym (literal-on (bytes "form=") (bytes "1␊") bs at)
+    ∙ sym (literal-on name LF bs at))
+    ∙ sym (literal-on (bytes "form=") (name ++ LF) bs at)
+
+-- which names no form
+pub no-form :
+    (s : List ℕ) {p q : ℕ} → literal (bytes "form=1␊") s 0 ≡ failed p → literal (bytes "form=2␊") s 0 ≡ failed q →
+    either (linesOf form1) (linesOf form2) s 0 ≡ failed (max p q)
+no-form s e f = rw (form-is (bytes "1") s 0 ∙ e, form-is (bytes "2") s 0 ∙ f)
+
+-- the fewest arrived bytes
+module _ (two : Bool) (page : Page) where
+  pub least-one : two ≡ false → 0 ≡ least (formIf two) page
+  least-one e = rw e (cond-case (λ (n : ℕ). 0 ≡ n) (leb 0 (greatest page)) (λ _. refl) (λ _. refl))
+
+  module _ (e : two ≡ true) {g : ℕ} (is : g ≡ greatest page) where
+    pub least-great : 65537 ≤ g → 0 ≡ least (formIf two) page
+    least-great h = rw (e, le-leb 65537 (greatest page) (omega arith))
+
+    pub least-small : g < 65537 → 65537 ≡ least (formIf two) page
+    least-small h = rw (e, lt-leb 65537 (greatest page) (omega arith))
 
 -- a value, if LF stands behind it
 passing : List ℕ → Bool → ℕ → Parsed (Unit {0})
@@ -129,12 +153,12 @@ pub never : {X : Type 0} (t : Bool) → t ≡ false → t ≡ true → X
 never t e h = absurd (false≢true (sym e ∙ h))
 
 -- the whole file, by its first lines
-module _ (s : List ℕ) (h : Head) (e : headThen s h ≡ linesOf form1 s 0) where
+module _ (s : List ℕ) (h : Head) (e : headThen s h ≡ either (linesOf form1) (linesOf form2) s 0) where
   pub head-failed : h .ok ≡ false → parse s ≡ broken (h .at)
   unfolding parse
   head-failed q = sym (ap wholly e) ∙ rw q
 
-  pub head-found : h .ok ≡ true → parse s ≡ wholly (listLines (h .page) (drop (h .at) s) (h .at))
+  pub head-found : h .ok ≡ true → parse s ≡ wholly (listLines (h .two) (h .page) (drop (h .at) s) (h .at))
   unfolding parse
   head-found q = sym (ap wholly e) ∙ rw q
 

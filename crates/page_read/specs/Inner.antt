@@ -6,7 +6,6 @@ use mathlib.Core.List.{List}
 use mathlib.Core.Option.{Option, none, some}
 use lib.ListN.{length, take, drop}
 use lib.Dec.{eqb}
-use Rattle.answer.specs.Answer.{limit}
 use Rattle.codec.specs.declared.Kind.{Kind}
 use Rattle.codec.specs.declared.Kind.the-variants.{Utf7Header, Utf7Body, Jp2}
 use Rattle.ledger.specs.declared.Page.{Page}
@@ -17,7 +16,8 @@ use Rattle.scan.specs.declared.Found.{Found}
 use Rattle.scan.specs.Found.{foundAs}
 use Rattle.scan.specs.Inner.{hexesAt}
 use Rattle.page_file.specs.File.{Content}
-use Rattle.page_file.specs.Reading.{listOf}
+use Rattle.page_file.specs.Reading.{listOf, least}
+use Rattle.page_file.specs.Inner.{formIf}
 use Rattle.page_read.specs.declared.lines.Head.{Head}
 use Rattle.page_read.specs.declared.lines.Listed.{Listed}
 use Rattle.page_read.specs.declared.lines.FoundMark.{FoundMark}
@@ -55,17 +55,17 @@ listedIn k s r = cond (r .ok) (found (hexesAt s (r .from) k (r .count)) (drop (r
 abbrev pub Lies : ℕ → List ℕ → Listed → Type 0
 Lies k s r = r .ok ≡ true → (r .at ≡ r .from + r .count * k + 1) × (r .at ≤ length s)
 
--- the last three lines of a page's file
-abbrev pub listLines : Page → Parser Content
-listLines page = do
-  arrived ← listOf "arrived" 2 0 limit
+-- the last three lines of a page's file, of form 2 or not
+abbrev pub listLines : Bool → Page → Parser Content
+listLines two page = do
+  arrived ← listOf "arrived" 2 (least (formIf two) page) (formIf two .bound)
   text ← listOf "text" 8 (page .length) (page .length)
   history ← listOf "history" 8 (page .used) (page .used)
   done (record { page = page; arrived = arrived; text = text; history = history })
 
 -- the file, where its first lines were found
 abbrev pub headThen : List ℕ → Head → Parsed Content
-headThen s h = cond (h .ok) (listLines (h .page) (drop (h .at) s) (h .at)) (failed (h .at))
+headThen s h = cond (h .ok) (listLines (h .two) (h .page) (drop (h .at) s) (h .at)) (failed (h .at))
 
 -- the content of a file by where its lists lie
 abbrev pub contentIn : List ℕ → Plan → Content
@@ -82,7 +82,6 @@ planIn s p = cond (p .ok) (whole (contentIn s p)) (broken (p .at))
 
 -- where the lists of a file lie
 pub record Lists (s : List ℕ) (p : Plan) : Type 0 where
-  pub few : p .count ≤ limit
   pub arrived : p .arrived + p .count * 2 ≤ length s
   pub text : p .text + p .page .length * 8 ≤ length s
   pub history : p .history + p .page .used * 8 ≤ length s

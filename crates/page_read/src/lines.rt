@@ -5,15 +5,15 @@ use ledger::Page;
 use scan::Found;
 ghost use mathlib.Core.Path.{_≡_};
 ghost use mathlib.Core.Bool.{true, false, cond};
-ghost use Prim.Native.Nat.{_+_, _*_, _≤_, max};
+ghost use Prim.Native.Nat.{_+_, _*_, _≤_};
 ghost use lib.ListN.{length, drop};
-ghost use Rattle.answer.specs.Answer.{limit};
 ghost use Rattle.answer.specs.Bytes.{bytes};
-ghost use Rattle.parsing.specs.Parsing.{literal};
-ghost use Rattle.parsing.specs.Digits.{number, LF};
+ghost use Rattle.parsing.specs.Parsing.{either, literal};
+ghost use Rattle.parsing.specs.Digits.{LF};
 ghost use Rattle.scan.specs.Found.{foundIn, passedIn};
-ghost use Rattle.page_file.specs.File.{form1};
-ghost use Rattle.page_file.specs.Reading.{kindName, mark, linesOf, parse};
+ghost use Rattle.page_file.specs.File.{form1, form2};
+ghost use Rattle.page_file.specs.Reading.{kindName, decimal, mark, least, contentLines, linesOf, parse};
+ghost use Rattle.page_file.specs.Inner.{formIf};
 ghost use Rattle.page_read.specs.Inner.{kindOf, kindIn, markIn, keyLine, keyList};
 ghost use Rattle.page_read.specs.Inner.{listedIn, listLines, headThen, planIn, Lies, Planned};
 
@@ -32,9 +32,10 @@ pub struct Listed {
     pub at: usize,
 }
 
-// The page of the first seven lines, and the place behind them.
+// The page of the first seven lines, whether they are of form 2, and the place behind them.
 pub struct Head {
     pub ok: bool,
+    pub two: bool,
     pub page: Page,
     pub at: usize,
 }
@@ -60,15 +61,6 @@ fn failed(at: usize) -> Found
     }
 }
 
-fn further(a: usize, b: usize) -> usize
-    ensures { λ r. ⌜ r ≡ max a b ⌝ }
-{
-    if a < b {
-        return b;
-    }
-    a
-}
-
 // A value, if LF stands behind it.
 fn ended(file: &[u8], value: usize, at: usize) -> Found
     ensures { λ r. ⌜ (r .value ≡ value)
@@ -82,15 +74,15 @@ fn ended(file: &[u8], value: usize, at: usize) -> Found
     }
 }
 
-fn number_line(file: &[u8], from: usize, key: &[u8]) -> Found
+fn number_line(file: &[u8], from: usize, key: &[u8], two: bool) -> Found
     ensures { λ r. ⌜ foundIn (now (file .entry)) r
-        ≡ keyLine (now (key .entry)) (number 10 5 limit) (drop from (now (file .entry))) from ⌝ }
+        ≡ keyLine (now (key .entry)) (decimal (formIf two)) (drop from (now (file .entry))) from ⌝ }
 {
     let start = scan::word(file, from, key);
     if !start.ok {
         return failed(start.at);
     }
-    let value = scan::decimal(file, start.at);
+    let value = scan::decimal(file, start.at, two);
     if !value.ok {
         return failed(value.at);
     }
@@ -118,7 +110,7 @@ fn kind_name(file: &[u8], from: usize) -> Found
         };
     }
     let jp2 = scan::word(file, from, b"jp2");
-    let last = further(body.at, jp2.at);
+    let last = page_file::greater(body.at, jp2.at);
     if jp2.ok {
         return Found {
             ok: true,
@@ -126,7 +118,7 @@ fn kind_name(file: &[u8], from: usize) -> Found
             at: jp2.at,
         };
     }
-    failed(further(header.at, last))
+    failed(page_file::greater(header.at, last))
 }
 
 fn kind_line(file: &[u8], from: usize) -> Found
@@ -168,8 +160,8 @@ fn no_mark(at: usize) -> FoundMark
 }
 
 // "none", or a number.
-fn mark_value(file: &[u8], from: usize) -> FoundMark
-    ensures { λ r. ⌜ markIn (now (file .entry)) r ≡ mark form1 (drop from (now (file .entry))) from ⌝ }
+fn mark_value(file: &[u8], from: usize, two: bool) -> FoundMark
+    ensures { λ r. ⌜ markIn (now (file .entry)) r ≡ mark (formIf two) (drop from (now (file .entry))) from ⌝ }
 {
     let none = scan::word(file, from, b"none");
     if none.ok {
@@ -180,7 +172,7 @@ fn mark_value(file: &[u8], from: usize) -> FoundMark
             at: none.at,
         };
     }
-    let value = scan::decimal(file, from);
+    let value = scan::decimal(file, from, two);
     if value.ok {
         let mark = Mark::At(value.value);
         return FoundMark {
@@ -189,18 +181,18 @@ fn mark_value(file: &[u8], from: usize) -> FoundMark
             at: value.at,
         };
     }
-    no_mark(further(none.at, value.at))
+    no_mark(page_file::greater(none.at, value.at))
 }
 
-fn mark_line(file: &[u8], from: usize) -> FoundMark
+fn mark_line(file: &[u8], from: usize, two: bool) -> FoundMark
     ensures { λ r. ⌜ markIn (now (file .entry)) r
-        ≡ keyLine (bytes "saved=") (mark form1) (drop from (now (file .entry))) from ⌝ }
+        ≡ keyLine (bytes "saved=") (mark (formIf two)) (drop from (now (file .entry))) from ⌝ }
 {
     let start = scan::word(file, from, b"saved=");
     if !start.ok {
         return no_mark(start.at);
     }
-    let value = mark_value(file, start.at);
+    let value = mark_value(file, start.at, two);
     if !value.ok {
         return no_mark(value.at);
     }
@@ -220,6 +212,7 @@ fn no_head(at: usize) -> Head
     let saved = Mark::None;
     Head {
         ok: false,
+        two: false,
         page: Page {
             kind,
             opening: 0,
@@ -239,14 +232,17 @@ fn head_of(
     used: usize,
     done: usize,
     saved: Mark,
+    two: bool,
     at: usize,
 ) -> Head
     ensures { λ r. ⌜ (r .ok ≡ true) × (r .at ≡ at)
         × (r .page
-        ≡ record { kind = kind; opening = opening; length = length; used = used; done = done; saved = saved }) ⌝ }
+        ≡ record { kind = kind; opening = opening; length = length; used = used; done = done; saved = saved })
+        × (r .two ≡ two) ⌝ }
 {
     Head {
         ok: true,
+        two,
         page: Page {
             kind,
             opening,
@@ -259,35 +255,32 @@ fn head_of(
     }
 }
 
-// The first seven lines.
-fn first_lines(file: &[u8]) -> Head
-    ensures { λ r. ⌜ headThen (now (file .entry)) r ≡ linesOf form1 (now (file .entry)) 0 ⌝ }
+// The lines from the second to the seventh, of a form.
+fn page_lines(file: &[u8], from: usize, two: bool) -> Head
+    ensures { λ r. ⌜ headThen (now (file .entry)) r
+        ≡ contentLines (formIf two) (drop from (now (file .entry))) from ⌝ }
 {
-    let form = scan::word(file, 0, b"form=1\n");
-    if !form.ok {
-        return no_head(form.at);
-    }
-    let kind = kind_line(file, form.at);
+    let kind = kind_line(file, from);
     if !kind.ok {
         return no_head(kind.at);
     }
-    let opening = number_line(file, kind.at, b"opening=");
+    let opening = number_line(file, kind.at, b"opening=", two);
     if !opening.ok {
         return no_head(opening.at);
     }
-    let length = number_line(file, opening.at, b"length=");
+    let length = number_line(file, opening.at, b"length=", two);
     if !length.ok {
         return no_head(length.at);
     }
-    let used = number_line(file, length.at, b"used=");
+    let used = number_line(file, length.at, b"used=", two);
     if !used.ok {
         return no_head(used.at);
     }
-    let done = number_line(file, used.at, b"done=");
+    let done = number_line(file, used.at, b"done=", two);
     if !done.ok {
         return no_head(done.at);
     }
-    let saved = mark_line(file, done.at);
+    let saved = mark_line(file, done.at, two);
     if !saved.ok {
         return no_head(saved.at);
     }
@@ -300,8 +293,24 @@ fn first_lines(file: &[u8]) -> Head
         used.value,
         done.value,
         mark,
+        two,
         saved.at,
     )
+}
+
+// The first seven lines, of the form that the first names.
+fn first_lines(file: &[u8]) -> Head
+    ensures { λ r. ⌜ headThen (now (file .entry)) r ≡ either (linesOf form1) (linesOf form2) (now (file .entry)) 0 ⌝ }
+{
+    let one = scan::word(file, 0, b"form=1\n");
+    if one.ok {
+        return page_lines(file, one.at, false);
+    }
+    let two = scan::word(file, 0, b"form=2\n");
+    if two.ok {
+        return page_lines(file, two.at, true);
+    }
+    no_head(page_file::greater(one.at, two.at))
 }
 
 fn no_list(at: usize) -> Listed
@@ -315,16 +324,41 @@ fn no_list(at: usize) -> Listed
     }
 }
 
-fn arrived_line(file: &[u8], from: usize) -> Listed
+// The fewest arrived bytes of a form, and the most.
+fn least_of(two: bool, page: Page) -> usize
+    ensures { λ r. ⌜ r ≡ least (formIf two) page ⌝ }
+{
+    if !two {
+        return 0;
+    }
+    if 65537 <= page_file::greatest_of(page) {
+        return 0;
+    }
+    65537
+}
+
+fn most_of(two: bool) -> usize
+    ensures { λ r. ⌜ r ≡ formIf two .bound ⌝ }
+{
+    if two {
+        return 1048576;
+    }
+    65536
+}
+
+fn arrived_line(file: &[u8], from: usize, two: bool, page: Page) -> Listed
     ensures { λ r. ⌜ (listedIn 2 (now (file .entry)) r
-        ≡ keyList (bytes "arrived=") 2 0 limit (drop from (now (file .entry))) from)
-        × Lies 2 (now (file .entry)) r × (r .ok ≡ true → r .count ≤ limit) ⌝ }
+        ≡ keyList (bytes "arrived=") 2 (least (formIf two) page) (formIf two .bound)
+        (drop from (now (file .entry))) from)
+        × Lies 2 (now (file .entry)) r ⌝ }
 {
     let key = scan::word(file, from, b"arrived=");
     if !key.ok {
         return no_list(key.at);
     }
-    let line = scan::bytes_line(file, key.at);
+    let least = least_of(two, page);
+    let most = most_of(two);
+    let line = scan::bytes_line(file, key.at, least, most);
     Listed {
         ok: line.ok,
         from: key.at,
@@ -376,7 +410,7 @@ pub fn plan_of(file: &[u8]) -> Plan
         return no_plan(first.at);
     }
     let page = first.page;
-    let arrived = arrived_line(file, first.at);
+    let arrived = arrived_line(file, first.at, first.two, page);
     if !arrived.ok {
         return no_plan(arrived.at);
     }

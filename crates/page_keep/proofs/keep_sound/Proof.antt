@@ -44,7 +44,8 @@ same-length c = search needs
 
 returns-3 : tie.Need-returns-3
 returns-3 c =
-    let a = c .before .before .before .before .before .before .before .before .before .before .before .before .before .args in
+    let a = c .before .before .before .before .before .before .before .before .before .before .before .before .before
+    .args in
     let belongs′ = c .before .before .before .before .before .before .before .before .belongs in
     let if1′ = c .before .before .before .before .before .before .before .if1 in
     let size-of′ = c .before .before .before .before .before .size-of in

@@ -51,7 +51,8 @@ slice-aggregate-put-number-2 c = search needs
 
 put-number-requires-2 : tie.Need-put-number-requires-2
 put-number-requires-2 c κs =
-    let a = c .before .before .before .before .before .before .before .before .before .before .before .before .before .before .before .before .args in
+    let a = c .before .before .before .before .before .before .before .before .before .before .before .before .before
+    .before .before .before .args in
     omega (
       arith,
       head-size (a .two) (a .page),
@@ -64,7 +65,8 @@ slice-aggregate-put-number-3 c = search needs
 
 put-number-requires-3 : tie.Need-put-number-requires-3
 put-number-requires-3 c κs =
-    let a = c .before .before .before .before .before .before .before .before .before .before .before .before .before .before .before .before .before .before .before .before .before .args in
+    let a = c .before .before .before .before .before .before .before .before .before .before .before .before .before
+    .before .before .before .before .before .before .before .before .args in
     omega (
       arith,
       head-size (a .two) (a .page),
@@ -77,7 +79,8 @@ slice-aggregate-put-number-4 c = search needs
 
 put-number-requires-4 : tie.Need-put-number-requires-4
 put-number-requires-4 c κs =
-    let a = c .before .before .before .before .before .before .before .before .before .before .before .before .before .before .before .before .before .before .before .before .before .before .before .before .before .before .args in
+    let a = c .before .before .before .before .before .before .before .before .before .before .before .before .before
+    .before .before .before .before .before .before .before .before .before .before .before .before .before .args in
     omega (
       arith,
       head-size (a .two) (a .page),
@@ -87,12 +90,21 @@ put-number-requires-4 c κs =
 
 put-saved-requires : tie.Need-put-saved-requires
 put-saved-requires c κs =
-    let a = c .before .before .before .before .before .before .before .before .before .before .before .before .before .before .before .before .before .before .before .before .before .before .before .before .before .before .before .before .before .before .args in
-    let pre′ = c .before .before .before .before .before .before .before .before .before .before .before .before .before .before .before .before .before .before .before .before .before .before .before .before .before .before .before .before .before .before .pre in
-    let f = c .before .before .before .before .before .before .before .before .before .before .before .before .before .before .before .before .before .before .before .before .before .before .before .before .before .before .before .put-form in
-    let k = c .before .before .before .before .before .before .before .before .before .before .before .before .before .before .before .before .before .before .before .before .before .before .before .put-kind in
-    let n1 = c .before .before .before .before .before .before .before .before .before .before .before .before .before .before .before .before .before .before .put-number in
-    let n2 = c .before .before .before .before .before .before .before .before .before .before .before .before .before .put-number2 in
+    let a = c .before .before .before .before .before .before .before .before .before .before .before .before .before
+    .before .before .before .before .before .before .before .before .before .before .before .before .before .before
+    .before .before .before .args in
+    let pre′ = c .before .before .before .before .before .before .before .before .before .before .before .before .before
+    .before .before .before .before .before .before .before .before .before .before .before .before .before .before
+    .before .before .before .pre in
+    let f = c .before .before .before .before .before .before .before .before .before .before .before .before .before
+    .before .before .before .before .before .before .before .before .before .before .before .before .before .before
+    .put-form in
+    let k = c .before .before .before .before .before .before .before .before .before .before .before .before .before
+    .before .before .before .before .before .before .before .before .before .before .put-kind in
+    let n1 = c .before .before .before .before .before .before .before .before .before .before .before .before .before
+    .before .before .before .before .before .put-number in
+    let n2 = c .before .before .before .before .before .before .before .before .before .before .before .before .before
+    .put-number2 in
     let n3 = c .before .before .before .before .before .before .before .before .put-number3 in
     let n4 = c .before .before .before .put-number4 in
     let w : ℕ = formIf (a .two) .width in
@@ -108,20 +120,36 @@ same-length : tie.Need-same-length
 same-length c =
     ap length (c .before .before .put-saved .ensures .1) ∙ simp length-sets
     (ap length (c .before .before .before .before .before .before .put-number4 .ensures .1) ∙ simp length-sets
-    (ap length (c .before .before .before .before .before .before .before .before .before .before .before .put-number3 .ensures .1) ∙ simp length-sets
-    (ap length (c .before .before .before .before .before .before .before .before .before .before .before .before .before .before .before .before .put-number2 .ensures .1) ∙ simp length-sets
-    (ap length (c .before .before .before .before .before .before .before .before .before .before .before .before .before .before .before .before .before .before .before .before .before .put-number .ensures .1) ∙ simp length-sets
-    (ap length (c .before .before .before .before .before .before .before .before .before .before .before .before .before .before .before .before .before .before .before .before .before .before .before .before .before .before .put-kind .ensures .1) ∙ simp length-sets
-    (ap length (c .before .before .before .before .before .before .before .before .before .before .before .before .before .before .before .before .before .before .before .before .before .before .before .before .before .before .before .before .before .before .put-form .ensures .1) ∙ simp length-sets))))))
+    (ap length (c .before .before .before .before .before .before .before .before .before .before .before .put-number3
+    .ensures .1) ∙ simp length-sets
+    (ap length (c .before .before .before .before .before .before .before .before .before .before .before .before
+    .before .before .before .before .put-number2 .ensures .1) ∙ simp length-sets
+    (ap length (c .before .before .before .before .before .before .before .before .before .before .before .before
+    .before .before .before .before .before .before .before .before .before .put-number .ensures .1) ∙ simp length-sets
+    (ap length (c .before .before .before .before .before .before .before .before .before .before .before .before
+    .before .before .before .before .before .before .before .before .before .before .before .before .before .before
+    .put-kind .ensures .1) ∙ simp length-sets
+    (ap length (c .before .before .before .before .before .before .before .before .before .before .before .before
+    .before .before .before .before .before .before .before .before .before .before .before .before .before .before
+    .before .before .before .before .put-form .ensures .1) ∙ simp length-sets))))))
 
 returns : tie.Need-returns
 returns c =
-    let a = c .before .before .before .before .before .before .before .before .before .before .before .before .before .before .before .before .before .before .before .before .before .before .before .before .before .before .before .before .before .before .before .before .before .args in
-    let put-form′ = c .before .before .before .before .before .before .before .before .before .before .before .before .before .before .before .before .before .before .before .before .before .before .before .before .before .before .before .before .before .before .put-form in
-    let put-kind′ = c .before .before .before .before .before .before .before .before .before .before .before .before .before .before .before .before .before .before .before .before .before .before .before .before .before .before .put-kind in
-    let put-number′ = c .before .before .before .before .before .before .before .before .before .before .before .before .before .before .before .before .before .before .before .before .before .put-number in
-    let put-number2′ = c .before .before .before .before .before .before .before .before .before .before .before .before .before .before .before .before .put-number2 in
-    let put-number3′ = c .before .before .before .before .before .before .before .before .before .before .before .put-number3 in
+    let a = c .before .before .before .before .before .before .before .before .before .before .before .before .before
+    .before .before .before .before .before .before .before .before .before .before .before .before .before .before
+    .before .before .before .before .before .before .args in
+    let put-form′ = c .before .before .before .before .before .before .before .before .before .before .before .before
+    .before .before .before .before .before .before .before .before .before .before .before .before .before .before
+    .before .before .before .before .put-form in
+    let put-kind′ = c .before .before .before .before .before .before .before .before .before .before .before .before
+    .before .before .before .before .before .before .before .before .before .before .before .before .before .before
+    .put-kind in
+    let put-number′ = c .before .before .before .before .before .before .before .before .before .before .before .before
+    .before .before .before .before .before .before .before .before .before .put-number in
+    let put-number2′ = c .before .before .before .before .before .before .before .before .before .before .before .before
+    .before .before .before .before .put-number2 in
+    let put-number3′ = c .before .before .before .before .before .before .before .before .before .before .before
+    .put-number3 in
     let put-number4′ = c .before .before .before .before .before .before .put-number4 in
     let put-saved′ = c .before .before .put-saved in
     let p = a .page in

@@ -34,11 +34,13 @@ same-length : tie.Need-same-length
 same-length c =
     simp length-set (ap length (c .before .before .put-decimal .ensures) ∙ simp length-sets
     (ap length (c .before .before .before .before .before .before .put-front .ensures .1) ∙ simp length-sets
-    (ap length (c .before .before .before .before .before .before .before .before .before .before .put-bytes .ensures .1) ∙ simp length-sets)))
+    (ap length (c .before .before .before .before .before .before .before .before .before .before .put-bytes .ensures
+    .1) ∙ simp length-sets)))
 
 returns : tie.Need-returns
 returns c =
-    let a = c .before .before .before .before .before .before .before .before .before .before .before .before .before .before .args in
+    let a = c .before .before .before .before .before .before .before .before .before .before .before .before .before
+    .before .args in
     let put-bytes′ = c .before .before .before .before .before .before .before .before .before .before .put-bytes in
     let put-front′ = c .before .before .before .before .before .before .put-front in
     let v = put-bytes′ .result in

@@ -25,22 +25,28 @@ returns c =
             .ensures .1,
       ),
       never _ (no-list′ .ensures .0),
-      never _ (no-list′ .ensures .0),
     )
+
+least-of-requires : tie.Need-least-of-requires
+least-of-requires c κs = search needs
+
+most-of-requires : tie.Need-most-of-requires
+most-of-requires c κs = search needs
 
 bytes-line-requires : tie.Need-bytes-line-requires
 bytes-line-requires c κs = search needs
 
 returns-2 : tie.Need-returns-2
 returns-2 c =
-    let a = c .before .before .before .before .before .before .args in
-    let word′ = c .before .before .before .word in
-    let if1′ = c .before .if1 in
-    let bytes-line′ = c .bytes-line in
-    let e = bytes-line′ .ensures in (
-      rw (found-if tt (a .file .now) (word′ .result) (word′ .ensures) (if1′ .left)) (e .0),
+    let a = c .before .before .before .before .before .before .before .before .args in
+    let word′ = c .before .before .before .before .before .word in
+    let if1′ = c .before .before .before .if1 in
+    let least-of′ = c .before .before .least-of in
+    let most-of′ = c .before .most-of in
+    let e = c .bytes-line .ensures in (
+      rw (found-if tt (a .file .now) (word′ .result) (word′ .ensures) (if1′ .left))
+          (rw (least-of′ .ensures, most-of′ .ensures) at (e .0)),
       (λ h. (e .1 h .2, e .1 h .3)),
-      (λ h. e .1 h .1),
     )
 
 pub arrived-line-spec : {M : Type 1} → statement M
@@ -51,5 +57,7 @@ arrived-line-spec =
     word-requires
     no-list-requires
     returns
+    least-of-requires
+    most-of-requires
     bytes-line-requires
     returns-2)

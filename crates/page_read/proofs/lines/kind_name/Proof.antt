@@ -42,8 +42,8 @@ slice-aggregate-word-3 c = search needs
 word-requires-3 : tie.Need-word-requires-3
 word-requires-3 c κs = search needs
 
-further-requires : tie.Need-further-requires
-further-requires c κs = search needs
+greater-requires : tie.Need-greater-requires
+greater-requires c κs = search needs
 
 returns-3 : tie.Need-returns-3
 returns-3 c =
@@ -62,8 +62,8 @@ returns-3 c =
           (a .file .now) (word3′ .result .ok) (word3′ .result .at) (word3′ .ensures) (if3′ .taken),
     )
 
-further-requires-2 : tie.Need-further-requires-2
-further-requires-2 c κs = search needs
+greater-requires-2 : tie.Need-greater-requires-2
+greater-requires-2 c κs = search needs
 
 failed-requires : tie.Need-failed-requires
 failed-requires c κs = search needs
@@ -77,9 +77,9 @@ returns-4 c =
     let word2′ = c .before .before .before .before .before .before .before .word2 in
     let if2′ = c .before .before .before .before .before .before .if2 in
     let word3′ = c .before .before .before .before .word3 in
-    let further′ = c .before .before .before .further in
+    let greater′ = c .before .before .before .greater in
     let if3′ = c .before .before .if3 in
-    let further2′ = c .before .further2 in
+    let greater2′ = c .before .greater2 in
     let failed′ = c .failed in
     rw (
       is-failed tt (a .file .now) (word′ .result .ok) (word′ .result .at) (word′ .ensures) (if1′ .left),
@@ -87,9 +87,9 @@ returns-4 c =
           (a .file .now) (word2′ .result .ok) (word2′ .result .at) (word2′ .ensures) (if2′ .left),
       is-failed tt
           (a .file .now) (word3′ .result .ok) (word3′ .result .at) (word3′ .ensures) (if3′ .left),
-      ← further′ .ensures,
+      ← greater′ .ensures,
       ←
-          further2′ .ensures,
+          greater2′ .ensures,
     ) (handed (kindOf (failed′ .result .value)) (a .file .now) (failed′ .result)
     (failed′ .ensures))
 
@@ -105,8 +105,8 @@ kind-name-spec =
     returns-2
     slice-aggregate-word-3
     word-requires-3
-    further-requires
+    greater-requires
     returns-3
-    further-requires-2
+    greater-requires-2
     failed-requires
     returns-4)

@@ -33,8 +33,8 @@ returns-2 c =
           (if2′ .taken),
     )
 
-further-requires : tie.Need-further-requires
-further-requires c κs = search needs
+greater-requires : tie.Need-greater-requires
+greater-requires c κs = search needs
 
 no-mark-requires : tie.Need-no-mark-requires
 no-mark-requires c κs = search needs
@@ -46,7 +46,7 @@ returns-3 c =
     let if1′ = c .before .before .before .before .if1 in
     let decimal′ = c .before .before .before .decimal in
     let if2′ = c .before .before .if2 in
-    let further′ = c .before .further in
+    let greater′ = c .before .greater in
     let no-mark′ = c .no-mark in
     rw (
       is-failed tt (a .file .now) (word′ .result .ok) (word′ .result .at) (word′ .ensures) (if1′ .left),
@@ -55,7 +55,7 @@ returns-3 c =
           (if2′ .left),
       no-mark′ .ensures .0,
       no-mark′ .ensures .1,
-      further′ .ensures,
+      greater′ .ensures,
     )
 
 pub mark-value-spec : {M : Type 1} → statement M
@@ -67,6 +67,6 @@ mark-value-spec =
     returns
     decimal-requires
     returns-2
-    further-requires
+    greater-requires
     no-mark-requires
     returns-3)

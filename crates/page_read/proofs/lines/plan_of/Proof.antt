@@ -1,8 +1,9 @@
 use mathlib.Core.Path.{sym, _∙_}
 use native.Mathlib.Omega.{arith}
 use lib.ListN.{drop}
-use Rattle.answer.specs.Answer.{limit}
 use Rattle.scan.specs.Inner.{hexesAt}
+use Rattle.page_file.specs.Reading.{least}
+use Rattle.page_file.specs.Inner.{formIf}
 use Rattle.page_read.specs.Inner.{contentIn}
 use Rattle.page_read.proofs.Finds.{is-found, is-failed, not-yes, not-no, never, list-is, head-failed, head-found}
 use Rattle.page_read.proofs.Finds.{ends-here, goes-on}
@@ -42,8 +43,8 @@ returns-2 c =
     let if2′ = c .before .if2 in
     let no-plan2′ = c .no-plan2 in (
       rw (no-plan2′ .ensures .0, no-plan2′ .ensures .1) (sym (head-found (a .file .now) (first-lines′ .result)
-          (first-lines′ .ensures) (not-no _ (if1′ .left)) ∙ rw (list-is "arrived" 2 0 limit
-          (drop (first-lines′ .result .at) (a .file .now)) (first-lines′ .result .at) ∙ is-failed
+          (first-lines′ .ensures) (not-no _ (if1′ .left)) ∙ rw (list-is "arrived" 2 (least (formIf (first-lines′ .result .two)) (first-lines′ .result .page))
+            (formIf (first-lines′ .result .two) .bound) (drop (first-lines′ .result .at) (a .file .now)) (first-lines′ .result .at) ∙ is-failed
           (hexesAt (a .file .now) (arrived-line′ .result .from) 2 (arrived-line′ .result .count)) (a .file .now)
           (arrived-line′ .result .ok) (arrived-line′ .result .at) (arrived-line′ .ensures .0)
           (not-yes _ (if2′ .taken))))),
@@ -73,8 +74,8 @@ returns-3 c =
     let no-plan3′ = c .no-plan3 in (
       rw (no-plan3′ .ensures .0, no-plan3′ .ensures .1) (sym (head-found (a .file .now) (first-lines′ .result)
           (first-lines′ .ensures) (not-no _ (if1′ .left)) ∙ rw (
-            list-is "arrived" 2 0 limit
-                (drop (first-lines′ .result .at) (a .file .now)) (first-lines′ .result .at) ∙ is-found
+            list-is "arrived" 2 (least (formIf (first-lines′ .result .two)) (first-lines′ .result .page))
+            (formIf (first-lines′ .result .two) .bound) (drop (first-lines′ .result .at) (a .file .now)) (first-lines′ .result .at) ∙ is-found
                 (hexesAt (a .file .now) (arrived-line′ .result .from) 2 (arrived-line′ .result .count)) (a .file .now)
                 (arrived-line′ .result .ok) (arrived-line′ .result .at) (arrived-line′ .ensures .0)
                 (not-no _ (if2′ .left)),
@@ -113,8 +114,8 @@ returns-4 c =
     let no-plan4′ = c .no-plan4 in (
       rw (no-plan4′ .ensures .0, no-plan4′ .ensures .1) (sym (head-found (a .file .now) (first-lines′ .result)
           (first-lines′ .ensures) (not-no _ (if1′ .left)) ∙ rw (
-            list-is "arrived" 2 0 limit
-                (drop (first-lines′ .result .at) (a .file .now)) (first-lines′ .result .at) ∙ is-found
+            list-is "arrived" 2 (least (formIf (first-lines′ .result .two)) (first-lines′ .result .page))
+            (formIf (first-lines′ .result .two) .bound) (drop (first-lines′ .result .at) (a .file .now)) (first-lines′ .result .at) ∙ is-found
                 (hexesAt (a .file .now) (arrived-line′ .result .from) 2 (arrived-line′ .result .count)) (a .file .now)
                 (arrived-line′ .result .ok) (arrived-line′ .result .at) (arrived-line′ .ensures .0)
                 (not-no _ (if2′ .left)),
@@ -154,8 +155,8 @@ returns-5 c =
     let no-plan5′ = c .no-plan5 in (
       rw (no-plan5′ .ensures .0, no-plan5′ .ensures .1) (sym (head-found (a .file .now) (first-lines′ .result)
           (first-lines′ .ensures) (not-no _ (if1′ .left)) ∙ rw (
-            list-is "arrived" 2 0 limit
-                (drop (first-lines′ .result .at) (a .file .now)) (first-lines′ .result .at) ∙ is-found
+            list-is "arrived" 2 (least (formIf (first-lines′ .result .two)) (first-lines′ .result .page))
+            (formIf (first-lines′ .result .two) .bound) (drop (first-lines′ .result .at) (a .file .now)) (first-lines′ .result .at) ∙ is-found
                 (hexesAt (a .file .now) (arrived-line′ .result .from) 2 (arrived-line′ .result .count)) (a .file .now)
                 (arrived-line′ .result .ok) (arrived-line′ .result .at) (arrived-line′ .ensures .0)
                 (not-no _ (if2′ .left)),
@@ -205,7 +206,8 @@ returns-6 c =
     let n = words-line′ .ensures .2 (not-no _ (if3′ .left)) in
     let m = words-line2′ .ensures .2 (not-no _ (if4′ .left)) in (
       sym (head-found (a .file .now) (first-lines′ .result) (first-lines′ .ensures) (not-no _ (if1′ .left)) ∙ rw (
-        list-is "arrived" 2 0 limit (drop (first-lines′ .result .at) (a .file .now)) (first-lines′ .result .at) ∙
+        list-is "arrived" 2 (least (formIf (first-lines′ .result .two)) (first-lines′ .result .page))
+            (formIf (first-lines′ .result .two) .bound) (drop (first-lines′ .result .at) (a .file .now)) (first-lines′ .result .at) ∙
             is-found (hexesAt (a .file .now) (arrived-line′ .result .from) 2 (arrived-line′ .result .count))
             (a .file .now) (arrived-line′ .result .ok) (arrived-line′ .result .at) (arrived-line′ .ensures .0)
             (not-no _ (if2′ .left)),
@@ -230,7 +232,6 @@ returns-6 c =
       }) (a .file .now) (words-line2′ .result .at)
           (if5′ .left) ∙ rw (n, m))),
       (λ _. record {
-        few = arrived-line′ .ensures .2 (not-no _ (if2′ .left));
         arrived = omega arith;
         text = omega
             arith;
