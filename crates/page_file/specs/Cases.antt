@@ -191,7 +191,9 @@ files =
       history = [];
     })
     ∷ spells
-    ("form=2␊kind=jp2␊opening=1048576␊length=0000000␊used=0000000␊done=0000000␊saved=none␊arrived=␊text=␊history=␊" ∷ [])
+    ("form=2␊kind=jp2␊opening=1048576␊length=0000000␊used=0000000␊done=0000000␊saved=none␊"
+    ∷ "arrived=␊text=␊history=␊"
+    ∷ [])
     (record {
       page = record { kind = Jp2; opening = 1048576; length = 0; used = 0; done = 0; saved = None };
       arrived = [];

@@ -98,8 +98,8 @@ module _ (form : Form) where
       ∷ line "history" (groups 8 (c .history))
       ∷ [])
 
-  -- "a number or list over [the bound] or a list of the wrong length being out of form"; a byte is two hex digits, a cell or
-  -- word eight
+  -- "a number or list over [the bound] or a list of the wrong length being out of form"; a byte is two hex digits, a
+  -- cell or word eight
   pub record InForm (c : Content) : Type 0 where
     pub opening : c .page .opening ≤ form .bound
     pub size : c .page .length ≤ form .bound

@@ -13,8 +13,8 @@ same-length : tie.Need-same-length
 same-length c = search needs
 
 returns : tie.Need-returns
-returns c = rw (c .before .before .before .before .before .if1 .taken) (omega arith, c .before .before .put-bytes
-.ensures .1)
+returns c =
+    rw (c .before .before .before .before .before .if1 .taken) (omega arith, c .before .before .put-bytes .ensures .1)
 
 slice-aggregate-put-bytes-2 : tie.Need-slice-aggregate-put-bytes-2
 slice-aggregate-put-bytes-2 c = search needs
@@ -26,8 +26,8 @@ same-length-2 : tie.Need-same-length-2
 same-length-2 c = search needs
 
 returns-2 : tie.Need-returns-2
-returns-2 c = rw (c .before .before .before .before .before .if1 .left) (omega arith, c .before .before .put-bytes2
-.ensures .1)
+returns-2 c =
+    rw (c .before .before .before .before .before .if1 .left) (omega arith, c .before .before .put-bytes2 .ensures .1)
 
 pub put-form-spec : {M : Type 1} → statement M
 put-form-spec =

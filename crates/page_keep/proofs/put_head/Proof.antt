@@ -171,7 +171,8 @@ returns c =
           (put-kind′ .result) (put-kind′ .ensures .1) (put-kind′ .ensures .0)
           (sets-then (put-kind′ .last .1 .0) _ _ l2 (l3 ++ (l4 ++ (l5 ++ l6))) (put-kind′ .result) (put-number′ .result)
           (put-number′ .ensures .1) (omega (arith, number-size (a .two) "opening" (p .opening)))
-          (sets-then (put-number′ .last .1 .1 .1 .0) _ _ l3 (l4 ++ (l5 ++ l6)) (put-number′ .result) (put-number2′ .result)
+          (sets-then (put-number′ .last .1 .1 .1 .0) _ _ l3 (l4 ++ (l5 ++ l6)) (put-number′ .result) (put-number2′
+          .result)
           (put-number2′ .ensures .1) (omega (arith, number-size (a .two) "length" (p .length)))
           (sets-then (put-number2′ .last .1 .1 .1 .0) _ _ l4 (l5 ++ l6) (put-number2′ .result) (put-number3′ .result)
           (put-number3′ .ensures .1) (omega (arith, number-size (a .two) "used" (p .used)))

@@ -52,7 +52,8 @@ returns-2 c =
     let l = c .before .before .before .before .before .loop in
     let digit-at′ = c .before .before .digit-at in
     let not-found2′ = c .not-found2 in
-    rw (not-found2′ .ensures) (code-none _ _ (omega arith) (l .inv .0) (omega arith) (digit-at′ .ensures .0) (omega arith))
+    rw (not-found2′ .ensures) (code-none _ _ (omega arith) (l .inv .0) (omega arith) (digit-at′ .ensures .0) (omega
+    arith))
 
 sub-k : tie.Need-sub-k Inv-loop μ-loop
 sub-k c = search needs
@@ -93,7 +94,8 @@ returns-3 c =
     let tens′ = c .before .before .tens in
     let if3′ = c .before .if3 in
     let not-found3′ = c .not-found3 in
-    rw (not-found3′ .ensures) (code-big _ _ (omega arith) (l .inv .0) (omega arith) (digit-at′ .ensures .0) (tens′ .ensures)
+    rw (not-found3′ .ensures) (code-big _ _ (omega arith) (l .inv .0) (omega arith) (digit-at′ .ensures .0) (tens′
+    .ensures)
     (omega arith) (omega (arith, if3′ .taken, l .inv .1)))
 
 add-at : tie.Need-add-at Inv-loop μ-loop
