@@ -86,7 +86,8 @@ returns-3 c =
       line-is "opening" (decimal (formIf (a .two)))
           (drop (kind-line′ .result .at) (a .file .now)) (kind-line′ .result .at) ∙ found-if
           (number-line′ .result .value) (a .file .now) (number-line′ .result) (number-line′ .ensures) (if2′ .left),
-      line-is "length" (decimal (formIf (a .two))) (drop (number-line′ .result .at) (a .file .now)) (number-line′ .result .at) ∙
+      line-is "length" (decimal (formIf (a .two))) (drop (number-line′ .result .at) (a .file .now)) (number-line′
+          .result .at) ∙
           failed-if (number-line2′ .result .value) (a .file .now) (number-line2′ .result) (number-line2′ .ensures)
           (if3′ .taken),
     )
@@ -125,7 +126,8 @@ returns-4 c =
       line-is "opening" (decimal (formIf (a .two)))
           (drop (kind-line′ .result .at) (a .file .now)) (kind-line′ .result .at) ∙ found-if
           (number-line′ .result .value) (a .file .now) (number-line′ .result) (number-line′ .ensures) (if2′ .left),
-      line-is "length" (decimal (formIf (a .two))) (drop (number-line′ .result .at) (a .file .now)) (number-line′ .result .at) ∙
+      line-is "length" (decimal (formIf (a .two))) (drop (number-line′ .result .at) (a .file .now)) (number-line′
+          .result .at) ∙
           found-if (number-line2′ .result .value) (a .file .now) (number-line2′ .result) (number-line2′ .ensures)
           (if3′ .left),
       line-is "used" (decimal (formIf (a .two))) (drop (number-line2′ .result .at) (a .file .now))
@@ -171,7 +173,8 @@ returns-5 c =
       line-is "opening" (decimal (formIf (a .two)))
           (drop (kind-line′ .result .at) (a .file .now)) (kind-line′ .result .at) ∙ found-if
           (number-line′ .result .value) (a .file .now) (number-line′ .result) (number-line′ .ensures) (if2′ .left),
-      line-is "length" (decimal (formIf (a .two))) (drop (number-line′ .result .at) (a .file .now)) (number-line′ .result .at) ∙
+      line-is "length" (decimal (formIf (a .two))) (drop (number-line′ .result .at) (a .file .now)) (number-line′
+          .result .at) ∙
           found-if (number-line2′ .result .value) (a .file .now) (number-line2′ .result) (number-line2′ .ensures)
           (if3′ .left),
       line-is "used" (decimal (formIf (a .two))) (drop (number-line2′ .result .at) (a .file .now))
@@ -220,7 +223,8 @@ returns-6 c =
       line-is "opening" (decimal (formIf (a .two)))
           (drop (kind-line′ .result .at) (a .file .now)) (kind-line′ .result .at) ∙ found-if
           (number-line′ .result .value) (a .file .now) (number-line′ .result) (number-line′ .ensures) (if2′ .left),
-      line-is "length" (decimal (formIf (a .two))) (drop (number-line′ .result .at) (a .file .now)) (number-line′ .result .at) ∙
+      line-is "length" (decimal (formIf (a .two))) (drop (number-line′ .result .at) (a .file .now)) (number-line′
+          .result .at) ∙
           found-if (number-line2′ .result .value) (a .file .now) (number-line2′ .result) (number-line2′ .ensures)
           (if3′ .left),
       line-is "used" (decimal (formIf (a .two))) (drop (number-line2′ .result .at) (a .file .now))
@@ -229,7 +233,8 @@ returns-6 c =
       line-is "done" (decimal (formIf (a .two)))
           (drop (number-line3′ .result .at) (a .file .now)) (number-line3′ .result .at) ∙ found-if
           (number-line4′ .result .value) (a .file .now) (number-line4′ .result) (number-line4′ .ensures) (if5′ .left),
-      line-is "saved" (mark (formIf (a .two))) (drop (number-line4′ .result .at) (a .file .now)) (number-line4′ .result .at) ∙
+      line-is "saved" (mark (formIf (a .two))) (drop (number-line4′ .result .at) (a .file .now)) (number-line4′
+          .result .at) ∙
           is-failed (mark-line′ .result .mark) (a .file .now) (mark-line′ .result .ok) (mark-line′ .result .at)
           (mark-line′ .ensures) (not-yes _ (if6′ .taken)),
     )
@@ -277,7 +282,8 @@ returns-7 c =
       line-is "opening" (decimal (formIf (a .two)))
           (drop (kind-line′ .result .at) (a .file .now)) (kind-line′ .result .at) ∙ found-if
           (number-line′ .result .value) (a .file .now) (number-line′ .result) (number-line′ .ensures) (if2′ .left),
-      line-is "length" (decimal (formIf (a .two))) (drop (number-line′ .result .at) (a .file .now)) (number-line′ .result .at) ∙
+      line-is "length" (decimal (formIf (a .two))) (drop (number-line′ .result .at) (a .file .now)) (number-line′
+          .result .at) ∙
           found-if (number-line2′ .result .value) (a .file .now) (number-line2′ .result) (number-line2′ .ensures)
           (if3′ .left),
       line-is "used" (decimal (formIf (a .two))) (drop (number-line2′ .result .at) (a .file .now))
@@ -286,7 +292,8 @@ returns-7 c =
       line-is "done" (decimal (formIf (a .two)))
           (drop (number-line3′ .result .at) (a .file .now)) (number-line3′ .result .at) ∙ found-if
           (number-line4′ .result .value) (a .file .now) (number-line4′ .result) (number-line4′ .ensures) (if5′ .left),
-      line-is "saved" (mark (formIf (a .two))) (drop (number-line4′ .result .at) (a .file .now)) (number-line4′ .result .at) ∙
+      line-is "saved" (mark (formIf (a .two))) (drop (number-line4′ .result .at) (a .file .now)) (number-line4′
+          .result .at) ∙
           is-found (mark-line′ .result .mark) (a .file .now) (mark-line′ .result .ok) (mark-line′ .result .at)
           (mark-line′ .ensures) (not-no _ (if6′ .left)),
     )

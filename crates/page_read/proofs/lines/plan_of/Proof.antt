@@ -43,8 +43,10 @@ returns-2 c =
     let if2′ = c .before .if2 in
     let no-plan2′ = c .no-plan2 in (
       rw (no-plan2′ .ensures .0, no-plan2′ .ensures .1) (sym (head-found (a .file .now) (first-lines′ .result)
-          (first-lines′ .ensures) (not-no _ (if1′ .left)) ∙ rw (list-is "arrived" 2 (least (formIf (first-lines′ .result .two)) (first-lines′ .result .page))
-            (formIf (first-lines′ .result .two) .bound) (drop (first-lines′ .result .at) (a .file .now)) (first-lines′ .result .at) ∙ is-failed
+          (first-lines′ .ensures) (not-no _ (if1′ .left)) ∙ rw (list-is "arrived" 2 (least (formIf (first-lines′
+          .result .two)) (first-lines′ .result .page))
+            (formIf (first-lines′ .result .two) .bound) (drop (first-lines′ .result .at) (a .file .now)) (first-lines′
+            .result .at) ∙ is-failed
           (hexesAt (a .file .now) (arrived-line′ .result .from) 2 (arrived-line′ .result .count)) (a .file .now)
           (arrived-line′ .result .ok) (arrived-line′ .result .at) (arrived-line′ .ensures .0)
           (not-yes _ (if2′ .taken))))),
@@ -75,7 +77,8 @@ returns-3 c =
       rw (no-plan3′ .ensures .0, no-plan3′ .ensures .1) (sym (head-found (a .file .now) (first-lines′ .result)
           (first-lines′ .ensures) (not-no _ (if1′ .left)) ∙ rw (
             list-is "arrived" 2 (least (formIf (first-lines′ .result .two)) (first-lines′ .result .page))
-            (formIf (first-lines′ .result .two) .bound) (drop (first-lines′ .result .at) (a .file .now)) (first-lines′ .result .at) ∙ is-found
+            (formIf (first-lines′ .result .two) .bound) (drop (first-lines′ .result .at) (a .file .now)) (first-lines′
+            .result .at) ∙ is-found
                 (hexesAt (a .file .now) (arrived-line′ .result .from) 2 (arrived-line′ .result .count)) (a .file .now)
                 (arrived-line′ .result .ok) (arrived-line′ .result .at) (arrived-line′ .ensures .0)
                 (not-no _ (if2′ .left)),
@@ -115,7 +118,8 @@ returns-4 c =
       rw (no-plan4′ .ensures .0, no-plan4′ .ensures .1) (sym (head-found (a .file .now) (first-lines′ .result)
           (first-lines′ .ensures) (not-no _ (if1′ .left)) ∙ rw (
             list-is "arrived" 2 (least (formIf (first-lines′ .result .two)) (first-lines′ .result .page))
-            (formIf (first-lines′ .result .two) .bound) (drop (first-lines′ .result .at) (a .file .now)) (first-lines′ .result .at) ∙ is-found
+            (formIf (first-lines′ .result .two) .bound) (drop (first-lines′ .result .at) (a .file .now)) (first-lines′
+            .result .at) ∙ is-found
                 (hexesAt (a .file .now) (arrived-line′ .result .from) 2 (arrived-line′ .result .count)) (a .file .now)
                 (arrived-line′ .result .ok) (arrived-line′ .result .at) (arrived-line′ .ensures .0)
                 (not-no _ (if2′ .left)),
@@ -156,7 +160,8 @@ returns-5 c =
       rw (no-plan5′ .ensures .0, no-plan5′ .ensures .1) (sym (head-found (a .file .now) (first-lines′ .result)
           (first-lines′ .ensures) (not-no _ (if1′ .left)) ∙ rw (
             list-is "arrived" 2 (least (formIf (first-lines′ .result .two)) (first-lines′ .result .page))
-            (formIf (first-lines′ .result .two) .bound) (drop (first-lines′ .result .at) (a .file .now)) (first-lines′ .result .at) ∙ is-found
+            (formIf (first-lines′ .result .two) .bound) (drop (first-lines′ .result .at) (a .file .now)) (first-lines′
+            .result .at) ∙ is-found
                 (hexesAt (a .file .now) (arrived-line′ .result .from) 2 (arrived-line′ .result .count)) (a .file .now)
                 (arrived-line′ .result .ok) (arrived-line′ .result .at) (arrived-line′ .ensures .0)
                 (not-no _ (if2′ .left)),
@@ -207,7 +212,8 @@ returns-6 c =
     let m = words-line2′ .ensures .2 (not-no _ (if4′ .left)) in (
       sym (head-found (a .file .now) (first-lines′ .result) (first-lines′ .ensures) (not-no _ (if1′ .left)) ∙ rw (
         list-is "arrived" 2 (least (formIf (first-lines′ .result .two)) (first-lines′ .result .page))
-            (formIf (first-lines′ .result .two) .bound) (drop (first-lines′ .result .at) (a .file .now)) (first-lines′ .result .at) ∙
+            (formIf (first-lines′ .result .two) .bound) (drop (first-lines′ .result .at) (a .file .now)) (first-lines′
+            .result .at) ∙
             is-found (hexesAt (a .file .now) (arrived-line′ .result .from) 2 (arrived-line′ .result .count))
             (a .file .now) (arrived-line′ .result .ok) (arrived-line′ .result .at) (arrived-line′ .ensures .0)
             (not-no _ (if2′ .left)),
