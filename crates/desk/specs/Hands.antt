@@ -24,7 +24,7 @@ Holds h buf = (h .from ≤ h .to) × (h .to ≤ length buf) × (length buf ≤ l
 
 -- how many bytes are lent for a page file: one more than the longest has (proofs/Room.antt)
 abbrev pub pageRoom : ℕ
-pageRoom = 1179752
+pageRoom = 1179762
 
 -- the bytes in a buffer after a read behind its first `at`
 abbrev pub Within : Got → ℕ → List ℕ → Type 0

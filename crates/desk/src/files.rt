@@ -26,12 +26,12 @@ enum Spot {
     Barred,
 }
 
-// Zeros, a byte more than the longest page file has: 103 besides its lists, 2 for each byte that arrived, and 8 for each
+// Zeros, a byte more than the longest page file has: 113 besides its lists, 2 for each byte that arrived, and 8 for each
 // cell and word.
-pub fn page_room() -> [u8; 1179752]
+pub fn page_room() -> [u8; 1179762]
     ensures { λ r. ⌜ pageRoom ≡ length r ⌝ }
 {
-    [0; 1179752]
+    [0; 1179762]
 }
 
 // Reads once behind the first bytes of a buffer, and says how many there are then: no more at the end of the file.
