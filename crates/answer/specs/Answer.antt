@@ -5,9 +5,9 @@ use Rattle.answer.specs.declared.Refusal.the-variants.{HighByte, LoneSig
 use Rattle.answer.specs.declared.Answer.{Answer}
 use Rattle.answer.specs.declared.Answer.the-variants.{Accepted, Refused}
 
--- "16, over 65,536": the most elements that may be lent
+-- "16, over 65,536" (document 02, order 10: "Raise 65,536 to 1,048,576"): the most elements that may be lent
 unfoldable pub limit : ℕ
-limit = 65536
+limit = 1048576
 
 -- a number given back, and the place or count that goes with it
 pub record Verdict : Type 0 where

@@ -39,13 +39,13 @@ cases =
     ∷ delivers (1 ∷ 2 ∷ 3 ∷ []) (7 ∷ 8 ∷ 9 ∷ []) 0 3 (1 ∷ 2 ∷ 3 ∷ [])
     ∷ delivers (1 ∷ 2 ∷ 3 ∷ []) (5 ∷ 6 ∷ 7 ∷ 8 ∷ 9 ∷ []) 0 3 (1 ∷ 2 ∷ 3 ∷ 8 ∷ 9 ∷ [])
     ∷ delivers [] (8 ∷ 9 ∷ []) 0 0 (8 ∷ 9 ∷ [])
-    -- "16, over 65,536", before 10 and 9
-    ∷ writes 65537 0 (1 ∷ 2 ∷ []) (9 ∷ []) 16 65536 (9 ∷ [])
-    -- "first 10, then 9": the last of 65,536 cells is not writable, and there is too little room
-    ∷ writes 65536 65535 (1 ∷ 2 ∷ []) (9 ∷ []) 10 65535 (9 ∷ [])
+    -- "16 gives 1,048,576", before 10 and 9
+    ∷ writes 1048577 0 (1 ∷ 2 ∷ []) (9 ∷ []) 16 1048576 (9 ∷ [])
+    -- "first 10, then 9": the last of 1,048,576 cells is not writable, and there is too little room
+    ∷ writes 1048576 1048575 (1 ∷ 2 ∷ []) (9 ∷ []) 10 1048575 (9 ∷ [])
     -- every cell is writable
     ∷ writes 2 2 (1 ∷ 2 ∷ 3 ∷ []) (8 ∷ 9 ∷ []) 9 3 (8 ∷ 9 ∷ [])
-    ∷ writes 65536 65536 (1 ∷ 2 ∷ 3 ∷ []) (6 ∷ 7 ∷ 8 ∷ 9 ∷ []) 0 3 (1 ∷ 2 ∷ 3 ∷ 9 ∷ [])
+    ∷ writes 1048576 1048576 (1 ∷ 2 ∷ 3 ∷ []) (6 ∷ 7 ∷ 8 ∷ 9 ∷ []) 0 3 (1 ∷ 2 ∷ 3 ∷ 9 ∷ [])
     ∷ []
 
 abbrev pub AllHold : Type 0

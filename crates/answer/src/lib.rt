@@ -3,8 +3,8 @@ ghost use mathlib.Core.Path.{_≡_};
 ghost use lib.Dec.{ltb};
 ghost use Rattle.answer.specs.Answer.{limit, tooLong, inNumbers, numberOf};
 
-// "over 65,536": the most elements that a lent text, list, text buffer or history may have.
-pub const LIMIT: usize = 65536;
+// "over 65,536", raised to 1,048,576 by document 02, order 10: the most elements that a lent text, list, text buffer or history may have.
+pub const LIMIT: usize = 1048576;
 
 // Why a call was refused, in the order of document 01's table, from number 1 on; those from 17 on are document 02's, orders 1, 6 and 8.
 pub enum Refusal {

@@ -34,12 +34,12 @@ few-in Jp2 text = few-cells _ text
 few-in Mailbox text = few-cells _ text
 
 read-short :
-    (f : Format) (text out : List ℕ) → length text ≤ 65536 →
+    (f : Format) (text out : List ℕ) → length text ≤ 1048576 →
     readIn f text out ≡ onEnding (readingOf f text .ending) (readingOf f text .cells) out
 unfolding readIn readInto readingOf limit
-read-short Utf7 text out h = rw (le-ltb 65536 (length text) h)
-read-short Jp2 text out h = rw (le-ltb 65536 (length text) h)
-read-short Mailbox text out h = rw (le-ltb 65536 (length text) h)
+read-short Utf7 text out h = rw (le-ltb 1048576 (length text) h)
+read-short Jp2 text out h = rw (le-ltb 1048576 (length text) h)
+read-short Mailbox text out h = rw (le-ltb 1048576 (length text) h)
 
 -- a refusal is listed alone
 alone :
@@ -166,7 +166,7 @@ module _
     unfolding listInto limit
     accepted-prints count k size out =
         let c : count ≡ n = rw told at k in
-        rw (told, c, le-ltb 65536 (length (take n o)) (simp length-take (omega arith))) (listed out _ (counted .1))
+        rw (told, c, le-ltb 1048576 (length (take n o)) (simp length-take (omega arith))) (listed out _ (counted .1))
 
   pub refused-prints :
       (why : Refusal) (place : ℕ) → found ≡ Refused why place → (out : List ℕ) →

@@ -48,7 +48,7 @@ Holds (breaks file place) = parse (inParts file) ≡ broken place
 Holds (old-breaks file place) = wholly (linesOf form1 (inParts file) 0) ≡ broken place
 Holds (keeps s arrived out number place left) = keepOf s arrived out ≡ leaving number place left
 Holds (keeps-long n s out) =
-    (arrived : List ℕ) → length arrived ≡ n → keepOf s arrived out ≡ leaving 16 65536 out
+    (arrived : List ℕ) → length arrived ≡ n → keepOf s arrived out ≡ leaving 16 1048576 out
 Holds (gives file a t h page arrived text history) =
     readOf (nines a) (nines t) (nines h) (inParts file)
     ≡ record { verdict = numbered 0 9; state = stateOf page text history; output = arrived }
@@ -219,7 +219,7 @@ abbrev pub keepings : List Case
 keepings =
     keeps onPage letter (nines 194) 0 193 (inParts worked ++ 9 ∷ [])
     ∷ keeps onPage letter (nines 192) 9 193 (nines 192)
-    ∷ keeps-long 65537 onDamaged []
+    ∷ keeps-long 1048577 onDamaged []
     ∷ keeps onDamaged letter [] 14 0 []
     -- a step stands: the count only
     ∷ keeps onThree letter [] 15 0 []
