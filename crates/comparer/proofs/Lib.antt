@@ -1,3 +1,4 @@
 pub mod Places
 pub mod Comparing
+pub mod Laws
 pub mod Cases
