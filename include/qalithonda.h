@@ -2,8 +2,9 @@
  * Qalithonda: the text part of a journal program.
  *
  * It reads and writes UTF-7 (RFC 2152), ISO-2022-JP-2 (RFC 1554, "JP-2") and mailbox names of IMAP
- * (RFC 3501, section 5.1.3), steps through a text cell by cell, and has an editable page with undo
- * and redo, which a file can keep. Link with libqalithonda.a or libqalithonda.so.
+ * (RFC 3501, section 5.1.3), steps through a text cell by cell, compares two texts, and has an
+ * editable page with undo and redo, which a file can keep. Link with libqalithonda.a or
+ * libqalithonda.so.
  *
  * Cells. A text is read to cells, which are 32-bit numbers. A cell of UTF-7 or of a mailbox name is
  * a UTF-16 unit, 0 to 65535; half a surrogate pair is a unit like any other. A JP-2 cell is its
@@ -285,6 +286,41 @@ qalithonda_jp2_stepped qalithonda_jp2_step(const uint8_t *text, size_t text_len,
                                            qalithonda_jp2_cursor cursor);
 qalithonda_mailbox_stepped qalithonda_mailbox_step(const uint8_t *text, size_t text_len,
                                                    qalithonda_mailbox_cursor cursor);
+
+
+/* ---- Comparing ----
+ *
+ * Whether two texts of one format are the same letter: whether they read as the same cells, however
+ * each spells them. Both texts are read to their ends, side by side; no buffer is lent.
+ */
+
+/* What a comparison gives. Where nothing is said of them, `text`, `same`, `index`, `first` and
+   `second` are 0.
+   - The same: the answer is 0 with the count of cells, and `same` is 1.
+   - They part: the answer is 0 with place 0; `index`, `first` and `second` say where.
+   - Refused: the answer is the refusal of a text, and `text` says of which. */
+typedef struct {
+    qalithonda_numbers answer;
+    uint32_t text;  /* the text that is refused: 1 the first, 2 the second; 0 none is */
+    uint32_t same;  /* 1: they are the same; 0: they part, or one is refused */
+    size_t index;   /* the first cell that is not the same in both, or that only one text has */
+    size_t first;   /* where its bytes begin in the first text; the text's length if it has ended */
+    size_t second;  /* and so in the second text */
+} qalithonda_compared;
+
+/*
+ * Compare two texts, or two mailbox names.
+ * Accepted: the count of cells if they are the same, and 0 if they part.
+ * Refused, wherever they part: as in reading, but for 9; all of the first text's come before the
+ * second's. UTF-7: 16; 1, 2, 3, 4. JP-2: 16; 1, 3, 5, 6, 7, 8. Mailbox names: 16; 1, 2, 3, 4, 7,
+ * 17.
+ */
+qalithonda_compared qalithonda_utf7_compare(const uint8_t *first, size_t first_len,
+                                            const uint8_t *second, size_t second_len);
+qalithonda_compared qalithonda_jp2_compare(const uint8_t *first, size_t first_len,
+                                           const uint8_t *second, size_t second_len);
+qalithonda_compared qalithonda_mailbox_compare(const uint8_t *first, size_t first_len,
+                                               const uint8_t *second, size_t second_len);
 
 
 /* ---- The page ----

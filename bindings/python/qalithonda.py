@@ -19,9 +19,24 @@ import operator
 import os
 from array import array
 from pathlib import Path
-from typing import Callable, Iterable, List, NamedTuple, Optional, TypeVar
+from typing import Callable, Iterable, List, NamedTuple, Optional, TypeVar, Union
 
-__all__ = ["LIMIT", "Kind", "Page", "Refusal", "Refused", "Step", "Steps", "jp2", "mailbox", "utf7"]
+__all__ = [
+    "LIMIT",
+    "Kind",
+    "Page",
+    "Part",
+    "Refusal",
+    "Refused",
+    "RefusedText",
+    "Same",
+    "Step",
+    "Steps",
+    "Text",
+    "jp2",
+    "mailbox",
+    "utf7",
+]
 
 #: The most bytes that a text may have, the most cells that a list or a page may have, and the most words of a history.
 LIMIT = 65536
@@ -106,6 +121,30 @@ class Refused(Exception):
         return "refused with {}: {}".format(self.number, _MESSAGES[self.refusal].format(self.place))
 
 
+class Text(enum.IntEnum):
+    """One of two texts that are compared."""
+
+    FIRST = 1
+    SECOND = 2
+
+
+class RefusedText(Refused):
+    """A refusal of one of two texts that are compared: `text` says of which.
+
+    >>> utf7.compare(b"ab", b"b~")
+    Traceback (most recent call last):
+    qalithonda.RefusedText: the second text is refused with 3: no rule allows the byte at 1 there
+    """
+
+    def __init__(self, text: Text, number: int, place: int) -> None:
+        super().__init__(number, place)
+        self.args = (text, number, place)
+        self.text = Text(text)
+
+    def __str__(self) -> str:
+        return "the {} text is {}".format(self.text.name.lower(), super().__str__())
+
+
 # The C interface, as include/qalithonda.h declares it.
 
 _Byte, _Word, _Size = ctypes.c_uint8, ctypes.c_uint32, ctypes.c_size_t
@@ -136,6 +175,17 @@ class _Edited(ctypes.Structure):
 
 class _Asked(ctypes.Structure):
     _fields_ = [("answer", _Numbers), ("unchanged", _Word)]
+
+
+class _Compared(ctypes.Structure):
+    _fields_ = [
+        ("answer", _Numbers),
+        ("text", _Word),
+        ("same", _Word),
+        ("index", _Size),
+        ("first", _Size),
+        ("second", _Size),
+    ]
 
 
 class _Utf7Cursor(ctypes.Structure):
@@ -221,16 +271,19 @@ _utf7_header_write = _function("utf7_header_write", _Numbers, *_WORDS, *_OUT)
 _utf7_body_write = _function("utf7_body_write", _Numbers, *_WORDS, *_OUT)
 _utf7_start = _function("utf7_start", _Utf7Cursor)
 _utf7_step = _function("utf7_step", _Utf7Stepped, *_BYTES, _Utf7Cursor)
+_utf7_compare = _function("utf7_compare", _Compared, *_BYTES, *_BYTES)
 _jp2_read = _function("jp2_read", _Numbers, *_BYTES, *_WORDS)
 _jp2_plain_read = _function("jp2_plain_read", _Numbers, *_BYTES, *_WORDS)
 _jp2_write = _function("jp2_write", _Numbers, *_WORDS, *_OUT)
 _jp2_tally = _function("jp2_tally", _Numbers, *_WORDS, ctypes.POINTER(_Word))
 _jp2_start = _function("jp2_start", _Jp2Cursor)
 _jp2_step = _function("jp2_step", _Jp2Stepped, *_BYTES, _Jp2Cursor)
+_jp2_compare = _function("jp2_compare", _Compared, *_BYTES, *_BYTES)
 _mailbox_read = _function("mailbox_read", _Numbers, *_BYTES, *_WORDS)
 _mailbox_write = _function("mailbox_write", _Numbers, *_WORDS, *_OUT)
 _mailbox_start = _function("mailbox_start", _MailboxCursor)
 _mailbox_step = _function("mailbox_step", _MailboxStepped, *_BYTES, _MailboxCursor)
+_mailbox_compare = _function("mailbox_compare", _Compared, *_BYTES, *_BYTES)
 _utf7_header_open = _function("utf7_header_open", _Edited, *_BYTES, *_WORDS, *_WORDS)
 _utf7_body_open = _function("utf7_body_open", _Edited, *_BYTES, *_WORDS, *_WORDS)
 _jp2_open = _function("jp2_open", _Edited, *_BYTES, *_WORDS, *_WORDS)
@@ -349,6 +402,29 @@ class Steps:
         return self._function(self._text, len(self._text), cursor)
 
 
+class Same(NamedTuple):
+    """Two texts that read as the same cells, and how many these are."""
+
+    count: int
+
+
+class Part(NamedTuple):
+    """Where two texts part: the index of the first cell that is not the same in both, or that only one text has, and where
+    its bytes begin in each; a text that has ended has its length there."""
+
+    index: int
+    first: int
+    second: int
+
+
+def _compare(function, first, second) -> Union[Same, Part]:
+    first, second = _bytes(first), _bytes(second)
+    found = function(first, len(first), second, len(second))
+    if found.answer.number != 0:
+        raise RefusedText(Text(found.text), found.answer.number, found.answer.place)
+    return Same(found.answer.place) if found.same else Part(found.index, found.first, found.second)
+
+
 class utf7:
     """UTF-7 (RFC 2152). A cell is a UTF-16 unit, 0 to 65535; half a surrogate pair is a unit like any other.
 
@@ -377,6 +453,19 @@ class utf7:
     def steps(text: bytes) -> Steps:
         """Steps through a text, one cell at a time, each with where its bytes begin and end."""
         return Steps(text, _utf7_start, _utf7_step)
+
+    @staticmethod
+    def compare(first: bytes, second: bytes) -> Union[Same, Part]:
+        """Whether two texts read as the same cells, however each spells them, or where they part.
+
+        Both are read to their ends: RefusedText, with the numbers of read, is raised for the first text before the second.
+
+        >>> utf7.compare(b"A+ImIDkQ.", b"A+ImI-+A5E-.")
+        Same(count=4)
+        >>> utf7.compare(b"Hi!", b"Hi+ADs-")
+        Part(index=2, first=2, second=3)
+        """
+        return _compare(_utf7_compare, first, second)
 
 
 class jp2:
@@ -420,6 +509,11 @@ class jp2:
         """Steps through a text, one cell at a time, each with where its bytes begin and end."""
         return Steps(text, _jp2_start, _jp2_step)
 
+    @staticmethod
+    def compare(first: bytes, second: bytes) -> Union[Same, Part]:
+        """Whether two texts read as the same cells, or where they part, as utf7.compare does."""
+        return _compare(_jp2_compare, first, second)
+
 
 class mailbox:
     """Mailbox names of IMAP: the modified UTF-7 of RFC 3501, section 5.1.3. A cell is a UTF-16 unit, 0 to 65535.
@@ -450,6 +544,11 @@ class mailbox:
     def steps(name: bytes) -> Steps:
         """Steps through a name, one cell at a time, each with where its bytes begin and end."""
         return Steps(name, _mailbox_start, _mailbox_step)
+
+    @staticmethod
+    def compare(first: bytes, second: bytes) -> Union[Same, Part]:
+        """Whether two names read as the same cells, or where they part, as utf7.compare does."""
+        return _compare(_mailbox_compare, first, second)
 
 
 class Kind(enum.IntEnum):

@@ -11,7 +11,7 @@ import unittest
 from pathlib import Path
 
 import qalithonda
-from qalithonda import LIMIT, Kind, Page, Refusal, Refused, Step, jp2, mailbox, utf7
+from qalithonda import LIMIT, Kind, Page, Part, Refusal, Refused, RefusedText, Same, Step, Text, jp2, mailbox, utf7
 
 HERE = Path(__file__).resolve().parent
 HEADER, BODY = utf7.Style.HEADER, utf7.Style.BODY
@@ -242,6 +242,39 @@ class Stepping(Case):
             steps = form.steps(b"A" * (LIMIT + 1))
             self.assertEqual(list(steps), [])
             self.refused(16, LIMIT, steps.answer)
+
+
+class Comparing(Case):
+    def test_texts_of_the_same_cells_are_the_same(self):
+        self.assertEqual(utf7.compare(b"", b""), Same(0))
+        self.assertEqual(utf7.compare(P2, b"A+ImI-+A5E-."), Same(4))
+        self.assertEqual(utf7.compare(b"a+AKM", b"a+AKM-"), Same(2))
+        self.assertEqual(jp2.compare(b"a", b"\x1b(Ba"), Same(1))
+        self.assertEqual(mailbox.compare(NAME, bytearray(NAME)), Same(len(mailbox.read(NAME))))
+
+    def test_texts_part_where_a_cell_begins_or_a_text_ends(self):
+        self.assertEqual(utf7.compare(P2, b"A+ImI-+A5A-."), Part(2, 4, 7))
+        self.assertEqual(utf7.compare(b"a+AGI-", b"abc"), Part(2, 6, 2))
+        self.assertEqual(utf7.compare(b"abc", b"a+AGI-"), Part(2, 2, 6))
+        self.assertEqual(jp2.compare(b"\x1b(Ba", b"b"), Part(0, 3, 0))
+        self.assertEqual(mailbox.compare(b"a&-b", b"a&-&AKM-"), Part(2, 3, 4))
+
+    def test_a_refusal_of_the_first_comes_before_one_of_the_second(self):
+        def refused(text, number, place, compare, *texts):
+            with self.assertRaises(RefusedText) as caught:
+                compare(*texts)
+            told = caught.exception
+            self.assertEqual((told.text, told.number, told.place), (text, number, place))
+
+        refused(Text.FIRST, 3, 2, utf7.compare, b"ax~", b"by")
+        refused(Text.SECOND, 3, 2, utf7.compare, b"ax", b"by~")
+        refused(Text.FIRST, 3, 3, utf7.compare, b"abc~", b"~")
+        refused(Text.SECOND, 7, 2, jp2.compare, b"a", b"b\x1b")
+        refused(Text.SECOND, 17, 3, mailbox.compare, b"ab", b"b&A-")
+        long = b"a" * (LIMIT + 1)
+        refused(Text.FIRST, 16, LIMIT, utf7.compare, long, b"~")
+        refused(Text.SECOND, 16, LIMIT, utf7.compare, b"b", long)
+        refused(Text.FIRST, 3, 0, utf7.compare, b"~", long)
 
 
 class Pages(Case):
@@ -544,6 +577,8 @@ class Refusals(Case):
     def test_a_refusal_can_be_pickled(self):
         copy = pickle.loads(pickle.dumps(Refused(4, 8)))
         self.assertEqual((copy.number, copy.place, copy.refusal), (4, 8, Refusal.LEFT_OVER_BITS))
+        copy = pickle.loads(pickle.dumps(RefusedText(Text.SECOND, 4, 8)))
+        self.assertEqual((copy.text, copy.number, copy.place), (Text.SECOND, 4, 8))
 
 
 class Loading(unittest.TestCase):
@@ -554,6 +589,7 @@ class Loading(unittest.TestCase):
             qalithonda._Page: 48,
             qalithonda._Edited: 64,
             qalithonda._Asked: 24,
+            qalithonda._Compared: 48,
             qalithonda._Utf7Cursor: 32,
             qalithonda._Utf7Stepped: 72,
             qalithonda._Jp2Cursor: 24,

@@ -51,6 +51,16 @@ pub struct Asked {
     pub unchanged: u32,
 }
 
+#[repr(C)]
+pub struct Compared {
+    pub answer: Numbers,
+    pub text: u32,
+    pub same: u32,
+    pub index: usize,
+    pub first: usize,
+    pub second: usize,
+}
+
 #[derive(Clone, Copy, Debug)]
 #[repr(C)]
 pub struct Utf7Cursor {
@@ -119,6 +129,12 @@ extern "C" {
     pub fn qalithonda_utf7_body_write(cells: *const u32, cells_len: usize, out: *mut u8, out_len: usize) -> Numbers;
     pub fn qalithonda_utf7_start() -> Utf7Cursor;
     pub fn qalithonda_utf7_step(text: *const u8, text_len: usize, cursor: Utf7Cursor) -> Utf7Stepped;
+    pub fn qalithonda_utf7_compare(
+        first: *const u8,
+        first_len: usize,
+        second: *const u8,
+        second_len: usize,
+    ) -> Compared;
 
     pub fn qalithonda_jp2_read(text: *const u8, text_len: usize, cells: *mut u32, cells_len: usize) -> Numbers;
     pub fn qalithonda_jp2_plain_read(text: *const u8, text_len: usize, cells: *mut u32, cells_len: usize) -> Numbers;
@@ -126,11 +142,23 @@ extern "C" {
     pub fn qalithonda_jp2_tally(cells: *const u32, cells_len: usize, counts: *mut [u32; 9]) -> Numbers;
     pub fn qalithonda_jp2_start() -> Jp2Cursor;
     pub fn qalithonda_jp2_step(text: *const u8, text_len: usize, cursor: Jp2Cursor) -> Jp2Stepped;
+    pub fn qalithonda_jp2_compare(
+        first: *const u8,
+        first_len: usize,
+        second: *const u8,
+        second_len: usize,
+    ) -> Compared;
 
     pub fn qalithonda_mailbox_read(text: *const u8, text_len: usize, cells: *mut u32, cells_len: usize) -> Numbers;
     pub fn qalithonda_mailbox_write(cells: *const u32, cells_len: usize, out: *mut u8, out_len: usize) -> Numbers;
     pub fn qalithonda_mailbox_start() -> MailboxCursor;
     pub fn qalithonda_mailbox_step(text: *const u8, text_len: usize, cursor: MailboxCursor) -> MailboxStepped;
+    pub fn qalithonda_mailbox_compare(
+        first: *const u8,
+        first_len: usize,
+        second: *const u8,
+        second_len: usize,
+    ) -> Compared;
 
     pub fn qalithonda_utf7_header_open(
         arrived: *const u8,

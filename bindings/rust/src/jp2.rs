@@ -9,7 +9,7 @@
 //! # Ok::<(), qalithonda::Refused>(())
 //! ```
 
-use crate::{ffi, room, Refused, Steps};
+use crate::{compare, ffi, room, Comparison, Refused, RefusedText, Steps};
 
 /// The registration numbers of the nine sets, in the order of [`tally`]'s counts: ASCII, JIS X 0201-Roman,
 /// JIS X 0208-1978, GB2312-1980, JIS X 0208-1983, ISO8859-1, ISO8859-7, KSC5601-1987 and JIS X 0212-1990.
@@ -122,4 +122,9 @@ pub fn tally(cells: &[u32]) -> Result<[u32; 9], Refused> {
 /// ```
 pub fn steps(text: &[u8]) -> Steps<'_> {
     Steps::jp2(text)
+}
+
+/// Compares two texts, as [`utf7::compare`](crate::utf7::compare) does.
+pub fn compare(first: &[u8], second: &[u8]) -> Result<Comparison, RefusedText> {
+    compare::compare(ffi::qalithonda_jp2_compare, first, second)
 }

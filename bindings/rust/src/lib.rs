@@ -1,6 +1,7 @@
 #![doc = include_str!("../README.md")]
 #![warn(missing_docs)]
 
+mod compare;
 mod ffi;
 pub mod jp2;
 pub mod mailbox;
@@ -10,6 +11,7 @@ mod room;
 mod steps;
 pub mod utf7;
 
+pub use compare::{Comparison, RefusedText, Text};
 pub use page::{Kind, Page};
 pub use refused::{Refusal, Refused};
 pub use steps::{Step, Steps};

@@ -13,7 +13,7 @@
 //! # Ok::<(), qalithonda::Refused>(())
 //! ```
 
-use crate::{ffi, room, Refused, Steps};
+use crate::{compare, ffi, room, Comparison, Refused, RefusedText, Steps};
 
 /// Reads a name into the first elements of `cells`, and gives their count. A name of n bytes has at most n cells.
 ///
@@ -87,4 +87,9 @@ pub fn write_to_vec(cells: &[u32]) -> Result<Vec<u8>, Refused> {
 /// ```
 pub fn steps(name: &[u8]) -> Steps<'_> {
     Steps::mailbox(name)
+}
+
+/// Compares two names, as [`utf7::compare`](crate::utf7::compare) does.
+pub fn compare(first: &[u8], second: &[u8]) -> Result<Comparison, RefusedText> {
+    compare::compare(ffi::qalithonda_mailbox_compare, first, second)
 }

@@ -9,7 +9,7 @@
 //! # Ok::<(), qalithonda::Refused>(())
 //! ```
 
-use crate::{ffi, room, Refused, Steps};
+use crate::{compare, ffi, room, Comparison, Refused, RefusedText, Steps};
 
 /// Which characters are written as themselves.
 #[derive(Clone, Copy, Debug, PartialEq, Eq, Hash)]
@@ -90,4 +90,17 @@ pub fn write_to_vec(style: Style, cells: &[u32]) -> Result<Vec<u8>, Refused> {
 /// ```
 pub fn steps(text: &[u8]) -> Steps<'_> {
     Steps::utf7(text)
+}
+
+/// Compares two texts: whether they read as the same cells, however each spells them, or where they part. Both are read
+/// to their ends: a refusal of the first comes before all else, and one of the second before what was found.
+///
+/// ```
+/// use qalithonda::{utf7, Comparison};
+///
+/// assert_eq!(utf7::compare(b"A+ImIDkQ.", b"A+ImI-+A5E-."), Ok(Comparison::Same { count: 4 }));
+/// assert_eq!(utf7::compare(b"Hi!", b"Hi+ADs-"), Ok(Comparison::Part { index: 2, first: 2, second: 3 }));
+/// ```
+pub fn compare(first: &[u8], second: &[u8]) -> Result<Comparison, RefusedText> {
+    compare::compare(ffi::qalithonda_utf7_compare, first, second)
 }

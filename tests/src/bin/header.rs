@@ -14,8 +14,13 @@ use header::item::{self, Item};
 use header::{c, layout, rattle};
 
 const HEADER: &str = "include/qalithonda.h";
-const SOURCES: [&str; 4] =
-    ["crates/qalithonda/src", "crates/host_numbers/src", "crates/host_steps/src", "crates/host_pages/src"];
+const SOURCES: [&str; 5] = [
+    "crates/qalithonda/src",
+    "crates/host_numbers/src",
+    "crates/host_steps/src",
+    "crates/host_compare/src",
+    "crates/host_pages/src",
+];
 const ANSWER: &str = "crates/answer/src/lib.rt";
 
 /// A check: its name, and what it found, good or bad.

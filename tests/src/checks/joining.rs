@@ -13,10 +13,10 @@ use crate::second::{outcome, Answer, LIMIT};
 use crate::texts::{lengths, Alphabet, Source};
 use crate::trial::{quote, try_all, without, Input};
 
-/// Two texts that are joined.
-struct Pair {
-    first: Vec<u8>,
-    second: Vec<u8>,
+/// Two texts that are joined, or compared.
+pub struct Pair {
+    pub first: Vec<u8>,
+    pub second: Vec<u8>,
 }
 
 impl Input for Pair {

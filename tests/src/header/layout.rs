@@ -44,6 +44,9 @@ structs! {
     qalithonda_page { kind: u32, opening: usize, length: usize, used: usize, done: usize, saved: usize }
     qalithonda_edited { answer: qalithonda_numbers, page: qalithonda_page }
     qalithonda_asked { answer: qalithonda_numbers, unchanged: u32 }
+    qalithonda_compared {
+        answer: qalithonda_numbers, text: u32, same: u32, index: usize, first: usize, second: usize
+    }
     qalithonda_utf7_cursor { at: usize, handed: usize, shift: u32, pending: u32, value: u32 }
     qalithonda_utf7_stepped {
         given: u32, cell: u32, begin: usize, end: usize, answer: qalithonda_numbers, next: qalithonda_utf7_cursor

@@ -4,11 +4,12 @@ use super::item::{Item, What};
 use super::tokens::{cut, split, start, tokens};
 
 /// The structs that cross, as C names them. (A step is `stepped` in C: `step` is the function that makes it.)
-const STRUCTS: [(&str, &str); 10] = [
+const STRUCTS: [(&str, &str); 11] = [
     ("Numbers", "qalithonda_numbers"),
     ("HostPage", "qalithonda_page"),
     ("HostEdited", "qalithonda_edited"),
     ("HostAsked", "qalithonda_asked"),
+    ("HostCompared", "qalithonda_compared"),
     ("HostUtf7Cursor", "qalithonda_utf7_cursor"),
     ("HostUtf7Step", "qalithonda_utf7_stepped"),
     ("HostJp2Cursor", "qalithonda_jp2_cursor"),
