@@ -44,7 +44,7 @@ pub fn parts(settings: Settings) -> Vec<Part> {
     parts.push(Part::new("jp2-plain", move |report| plain::run(report, seed)));
     parts.extend(of_format(formats::mailbox, &library::MAILBOX, icu::MAILBOX, seed));
     parts.push(Part::new("mailbox-spelling", move |report| spelling::run(report, seed)));
-    parts.push(Part::new("same-letter", move |report| same_letter::run(report, seed)));
+    parts.extend(same_letter::parts(seed));
     parts.extend(page::parts(seed));
     parts.extend(page_file::parts(seed));
     parts.extend(squeeze::parts(seed));

@@ -4,6 +4,7 @@ use super::joining::Pair;
 use crate::examples::compare::{examples, Example};
 use crate::formats::{self, Format};
 use crate::library::compare::{self as library, Comparer};
+use crate::parts::Part;
 use crate::report::{Report, Statuses};
 use crate::rng::Rng;
 use crate::second::compare::{compare, Comparison};
@@ -11,10 +12,17 @@ use crate::second::LIMIT;
 use crate::texts::{lengths, Alphabet, Source};
 use crate::trial::{try_all, Input};
 
-pub fn run(report: &mut Report, seed: u64) {
-    of_format(report, &formats::utf7(), &library::UTF7, seed);
-    of_format(report, &formats::jp2(), &library::JP2, seed);
-    of_format(report, &formats::mailbox(), &library::MAILBOX, seed);
+/// A part for each format.
+pub fn parts(seed: u64) -> Vec<Part> {
+    let part = |format: fn() -> Format, comparer: &'static Comparer| {
+        let name = format!("same-letter-{}", format().name);
+        Part::new(name, move |report| of_format(report, &format(), comparer, seed))
+    };
+    vec![
+        part(formats::utf7, &library::UTF7),
+        part(formats::jp2, &library::JP2),
+        part(formats::mailbox, &library::MAILBOX),
+    ]
 }
 
 fn of_format(report: &mut Report, format: &Format, comparer: &Comparer, seed: u64) {
@@ -123,13 +131,14 @@ fn nearly_same<'a>(format: &'a Format, seed: u64) -> impl Iterator<Item = Pair> 
     })
 }
 
+/// Long texts, each with itself and with the next, in both orders.
 fn at_limit(source: &'static Source) -> impl Iterator<Item = Pair> {
     let texts: Vec<Vec<u8>> =
         [LIMIT - 1, LIMIT, LIMIT + 1].into_iter().flat_map(|length| source.texts_of_length(length)).collect();
-    let firsts = texts.clone();
-    firsts
-        .into_iter()
-        .flat_map(move |first| texts.clone().into_iter().map(move |second| Pair { first: first.clone(), second }))
+    (0..texts.len()).flat_map(move |index| {
+        let (this, next) = (&texts[index], &texts[(index + 1) % texts.len()]);
+        [(this, this), (this, next), (next, this)].map(|(first, second)| Pair { first: first.clone(), second: second.clone() })
+    })
 }
 
 /// Cells in some spelling, as gateways differ: in any of the writers' styles, all at once or in stretches (so in other

@@ -47,19 +47,6 @@ pub fn compare(steps: fn(&[u8]) -> Steps, first: &[u8], second: &[u8]) -> Compar
     }
 }
 
-/// What the program `same_letter` prints.
-pub fn print(found: Comparison) -> String {
-    match found {
-        Comparison::Same { count } => format!("status=0\ncount={count}\n"),
-        Comparison::Part { index, first, second } => {
-            format!("status=0\nindex={index}\nfirst={first}\nsecond={second}\n")
-        }
-        Comparison::Refused { text, answer: Answer { number, place } } => {
-            format!("status={number}\ntext={text}\nplace={place}\n")
-        }
-    }
-}
-
 #[cfg(test)]
 mod tests {
     use super::*;
@@ -72,14 +59,5 @@ mod tests {
                 assert_eq!(compare(format.steps, &first, &second), expected);
             }
         }
-    }
-
-    #[test]
-    fn prints_each_answer() {
-        assert_eq!(print(Comparison::Same { count: 4 }), "status=0\ncount=4\n");
-        let part = Comparison::Part { index: 2, first: 4, second: 7 };
-        assert_eq!(print(part), "status=0\nindex=2\nfirst=4\nsecond=7\n");
-        let refused = Comparison::Refused { text: 2, answer: Answer { number: 3, place: 1 } };
-        assert_eq!(print(refused), "status=3\ntext=2\nplace=1\n");
     }
 }
