@@ -142,12 +142,8 @@ extern "C" {
     pub fn qalithonda_jp2_tally(cells: *const u32, cells_len: usize, counts: *mut [u32; 9]) -> Numbers;
     pub fn qalithonda_jp2_start() -> Jp2Cursor;
     pub fn qalithonda_jp2_step(text: *const u8, text_len: usize, cursor: Jp2Cursor) -> Jp2Stepped;
-    pub fn qalithonda_jp2_compare(
-        first: *const u8,
-        first_len: usize,
-        second: *const u8,
-        second_len: usize,
-    ) -> Compared;
+    pub fn qalithonda_jp2_compare(first: *const u8, first_len: usize, second: *const u8, second_len: usize)
+        -> Compared;
 
     pub fn qalithonda_mailbox_read(text: *const u8, text_len: usize, cells: *mut u32, cells_len: usize) -> Numbers;
     pub fn qalithonda_mailbox_write(cells: *const u32, cells_len: usize, out: *mut u8, out_len: usize) -> Numbers;

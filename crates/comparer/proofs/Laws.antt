@@ -113,3 +113,18 @@ module _ (f : Format) (first second : List ℕ) (k : ℕ) where
       rw (eq-eqb (verdictIn f first .number) 0 (a .one), eq-eqb (verdictIn f second .number) 0 (a .two), a .count)
       (equal-same (length first) (length second) 0 (marksOf f first) (marksOf f second) (a .cells)
       ∙ ap same (omega arith))
+
+-- a text and itself: its refusal, or the count of its cells
+judged-once :
+    (t : Bool) (v : Verdict) {c d : Comparison} → c ≡ d →
+    cond t (cond t c (refused Second v)) (refused First v) ≡ cond t d (refused First v)
+judged-once true v e = e
+judged-once false v e = refl
+
+pub with-itself :
+    (f : Format) (text : List ℕ) →
+    compareOf f text text ≡ unlessRefused First (verdictIn f text) (same (length (marksOf f text)))
+unfolding compareOf
+with-itself f text =
+    judged-once (eqb (verdictIn f text .number) 0) (verdictIn f text)
+    (equal-same (length text) (length text) 0 (marksOf f text) (marksOf f text) refl ∙ ap same (omega arith))

@@ -9,8 +9,8 @@ ghost use mathlib.Core.Path.{_≡_};
 ghost use Rattle.comparer.specs.Compare.{comparedAs, compareOf};
 ghost use Rattle.host_compare.specs.Compared.{inHost, hears, textNumber};
 
-// The answer, which text is refused (0: none, 1, 2), whether they are the same (1) and else where they part: the cell's index, and
-// where it begins in each.
+// The answer, which text is refused (0: none, 1, 2), whether they are the same (1) and else where they part: the cell's
+// index, and where it begins in each.
 #[repr(C)]
 pub struct HostCompared {
     pub answer: Numbers,

@@ -90,7 +90,8 @@ fn seeded(source: &'static Source, seed: u64) -> impl Iterator<Item = Pair> {
     texts("first letters").zip(texts("second letters")).map(|(first, second)| Pair { first, second })
 }
 
-/// Two whole texts, a text and itself, or a text and a part of it, with a byte that no text may have behind one or both.
+/// Two whole texts, a text and itself, or a text and a part of it, with a byte that no text may have behind one or
+/// both.
 fn with_faults(source: &'static Source, seed: u64) -> impl Iterator<Item = Pair> {
     let mut rng = Rng::new(seed, "faults behind the parting");
     (0..20_000).map(move |_| {
@@ -137,7 +138,8 @@ fn at_limit(source: &'static Source) -> impl Iterator<Item = Pair> {
         [LIMIT - 1, LIMIT, LIMIT + 1].into_iter().flat_map(|length| source.texts_of_length(length)).collect();
     (0..texts.len()).flat_map(move |index| {
         let (this, next) = (&texts[index], &texts[(index + 1) % texts.len()]);
-        [(this, this), (this, next), (next, this)].map(|(first, second)| Pair { first: first.clone(), second: second.clone() })
+        let pair = |(first, second): (&Vec<u8>, &Vec<u8>)| Pair { first: first.clone(), second: second.clone() };
+        [(this, this), (this, next), (next, this)].map(pair)
     })
 }
 

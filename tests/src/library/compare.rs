@@ -14,12 +14,8 @@ struct RawCompared {
 }
 
 extern "C" {
-    fn qalithonda_utf7_compare(
-        first: *const u8,
-        first_len: usize,
-        second: *const u8,
-        second_len: usize,
-    ) -> RawCompared;
+    fn qalithonda_utf7_compare(first: *const u8, first_len: usize, second: *const u8, second_len: usize)
+        -> RawCompared;
     fn qalithonda_jp2_compare(first: *const u8, first_len: usize, second: *const u8, second_len: usize) -> RawCompared;
     fn qalithonda_mailbox_compare(
         first: *const u8,

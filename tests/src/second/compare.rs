@@ -1,5 +1,5 @@
-//! Order 11 of document 02, "Are these the same letter?": two texts of one format, read apart, and then their cells laid
-//! side by side.
+//! Order 11 of document 02, "Are these the same letter?": two texts of one format, read apart, and then their cells
+//! laid side by side.
 
 use std::fmt::{self, Display, Formatter};
 
@@ -41,9 +41,7 @@ pub fn compare(steps: fn(&[u8]) -> Steps, first: &[u8], second: &[u8]) -> Compar
     let longest = one.cells.len().max(two.cells.len());
     match (0..longest).find(|&index| cell(&one, index) != cell(&two, index)) {
         None => Comparison::Same { count: longest },
-        Some(index) => {
-            Comparison::Part { index, first: begin(&one, index, first), second: begin(&two, index, second) }
-        }
+        Some(index) => Comparison::Part { index, first: begin(&one, index, first), second: begin(&two, index, second) },
     }
 }
 
