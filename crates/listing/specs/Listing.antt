@@ -57,6 +57,10 @@ answerLines v =
 unfoldable pub listing : Verdict → List ℕ → List ℕ
 listing v cells = answerLines v ++ cond (eqb (v .number) 0) (line cellsName (drop 1 (spaced cells))) []
 
+-- a line that says a number goes into an output: 9 where it does not fit
+unfoldable pub sayInto : List ℕ → ℕ → List ℕ → Outcome
+sayInto name n out = deliver (line name (decimal n)) out
+
 -- an answer goes into an output: 9 where it does not fit
 unfoldable pub tellInto : Verdict → List ℕ → Outcome
 tellInto v out = deliver (answerLines v) out

@@ -7,7 +7,7 @@ ghost use Prim.Native.Nat.{_<_, _≤_};
 ghost use lib.ListN.{length, drop};
 ghost use Rattle.answer.specs.Answer.{limit, numbered, inNumbers};
 ghost use Rattle.answer.specs.Output.{leaves, filled};
-ghost use Rattle.listing.specs.Listing.{digit, decimal, hexIn, spaced, line, cellsName, answerLines, listing, tellInto, listInto};
+ghost use Rattle.listing.specs.Listing.{digit, decimal, hexIn, spaced, line, cellsName, answerLines, listing, sayInto, tellInto, listInto};
 
 fn digit_of(d: u32) -> u8
     requires { ⌜ d < 16 ⌝ }
@@ -172,6 +172,19 @@ fn put_listing(number: usize, place: usize, cells: &[u32], out: &mut [u8])
     if number == 0 {
         put_row(cells, &mut out[at..]);
     }
+}
+
+// Spells a line that says a number into an output.
+pub fn say(name: &[u8], n: usize, out: &mut [u8]) -> Answer
+    ensures { λ r. ⌜ leaves r (now (out .exit)) ≡ sayInto (now (name .entry)) n (now (out .entry)) ⌝ }
+{
+    // beside the name and the number '=' and LF
+    let need = name.len() + places(n) + 2;
+    if out.len() < need {
+        return Answer::Refused(Refusal::NoRoom, need);
+    }
+    put_number(name, n, out);
+    Answer::Accepted(need)
 }
 
 // Spells an answer alone into an output.
