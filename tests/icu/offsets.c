@@ -10,8 +10,8 @@
 #include <stdlib.h>
 #include <unicode/ucnv.h>
 
-/* A text of n bytes has at most n units; the longest text is 65,536 bytes. */
-#define ROOM 65536
+/* A text of n bytes has at most n units; the longest text is 1,048,576 bytes. */
+#define ROOM 1048576
 
 static char text[ROOM];
 static UChar units[ROOM];

@@ -4,6 +4,8 @@
 use std::ffi::{c_int, c_void};
 use std::{ptr, slice};
 
+use crate::second::LIMIT;
+
 extern "C" {
     fn mmap(address: *mut c_void, length: usize, access: c_int, flags: c_int, file: c_int, offset: i64) -> *mut c_void;
     fn mprotect(address: *mut c_void, length: usize, access: c_int) -> c_int;
@@ -22,7 +24,7 @@ const OWN_PAGES: c_int = 0x22;
 const GUARD: usize = 65_536;
 
 /// Bytes between the guards: the longest page file, with as many arrived bytes, cells and words as can be, and more.
-const CAPACITY: usize = 20 * 65_536;
+const CAPACITY: usize = 20 * LIMIT;
 
 /// The guard that lent memory touches.
 #[derive(Clone, Copy, PartialEq, Eq)]
@@ -136,8 +138,8 @@ mod tests {
     #[test]
     fn both_guards_are_touched_by_what_is_lent() {
         let mut memory = Guarded::new();
-        for length in [0, 1, 3, 300, 65_537] {
-            let list: Vec<u32> = (0..length).collect();
+        for length in [0, 1, 3, 300, LIMIT + 1] {
+            let list: Vec<u32> = (0..length as u32).collect();
             let lent = memory.lend(&list, Side::Front);
             assert!(*lent == list);
             assert!(!can_read(lent.as_ptr().cast::<u8>().wrapping_sub(1)));

@@ -3,7 +3,7 @@
 use super::{Change, List, Move, Reading, Sort};
 use crate::rng::Rng;
 use crate::second::page::{self, mark_of, Page, State};
-use crate::second::page_file::{self, Content};
+use crate::second::page_file::{self, Content, FORM_1, FORM_2};
 use crate::second::squeeze::squeeze;
 use crate::second::{Call, Kind};
 use crate::texts::{self, Source};
@@ -214,8 +214,8 @@ impl Draft {
         self.list.moves.push(Move::Read(reading));
     }
 
-    /// A file of the page as it is, sound or not, with bytes that may not belong to it; where the page says that it has
-    /// a little more than it has, the rest is zeros.
+    /// A file of the page as it is, sound or not, with bytes that may not belong to it, now and then in the form that is
+    /// not due; where the page says that it has a little more than it has, the rest is zeros.
     pub fn file(&self, rng: &mut Rng) -> Vec<u8> {
         let State { page, text, history } = &self.state;
         let list = |list: &[u32], length: usize| {
@@ -227,7 +227,9 @@ impl Draft {
             _ => Vec::new(),
         };
         let page = Page { kind: page.kind % 3, ..*page };
-        Content { page, arrived, text: list(text, page.length), history: list(history, page.used) }.file()
+        let content = Content { page, arrived, text: list(text, page.length), history: list(history, page.used) };
+        let form = if rng.one_in(20) { rng.pick(&[FORM_1, FORM_2]) } else { content.form() };
+        content.file_in(form)
     }
 
     /// Bytes to lend as arrived: those that were opened, others that read as the text, or others still.

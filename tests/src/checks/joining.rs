@@ -45,7 +45,8 @@ pub fn run(report: &mut Report, format: &Format, function: &Function<u8, u32>, s
     };
     check("short", "every pair of accepted texts of up to three parts", &mut short(format.source, read));
     check("seeded", "pairs of accepted seeded texts", &mut seeded(format.source, seed, read));
-    check("limit", "pairs of accepted texts, at the limit and one off it when joined", &mut at_limit(format.source));
+    let what = "pairs of accepted texts, at the limit and one off it when joined";
+    check("limit", what, &mut at_limit(format.source, read));
 }
 
 /// Every pair of accepted texts of a few parts.
@@ -73,11 +74,19 @@ fn seeded<'a>(
     pairs.map(|(first, second)| Pair { first, second }).take(50_000)
 }
 
-/// Long texts, of which the first have one length.
-fn at_limit(source: &'static Source) -> impl Iterator<Item = Pair> {
+/// Accepted long texts, of which the first have one length; each of the others is joined to two of these.
+fn at_limit<'a>(
+    source: &'static Source,
+    read: impl Fn(&[u8], &mut [u32]) -> Answer + Copy + 'a,
+) -> impl Iterator<Item = Pair> + 'a {
     const FIRST: usize = 40_000;
-    let seconds = [LIMIT - 1, LIMIT, LIMIT + 1].into_iter().flat_map(|length| source.texts_of_length(length - FIRST));
-    seconds.flat_map(|second| source.texts_of_length(FIRST).map(move |first| Pair { first, second: second.clone() }))
+    let accepted = move |length| source.texts_of_length(length).filter(move |text| cells(&read, text).is_some());
+    let firsts: Vec<Vec<u8>> = accepted(FIRST).collect();
+    let seconds = [LIMIT - 1, LIMIT, LIMIT + 1].into_iter().flat_map(move |length| accepted(length - FIRST));
+    seconds.enumerate().flat_map(move |(index, second)| {
+        let pair = |first: &Vec<u8>| Pair { first: first.clone(), second: second.clone() };
+        firsts.iter().cycle().skip(index).take(2).map(pair).collect::<Vec<Pair>>()
+    })
 }
 
 /// The cells of a text, if it is accepted.

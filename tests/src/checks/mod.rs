@@ -28,6 +28,7 @@ use crate::parts::Part;
 use crate::report::Report;
 use crate::second::LIMIT;
 use crate::settings::Settings;
+use crate::texts::lengths::{LONG, OLD_LIMIT};
 use crate::texts::{self, Source};
 use icu::Icu;
 use subject::Subject;
@@ -83,7 +84,9 @@ fn check_on_lists(report: &mut Report, subject: &impl Subject<Element = u32>, so
     let lone = (source.lone_cells)().into_iter().map(|cell| vec![cell]);
     subject.check(report, "lone-cells", "each writable cell by itself, and many that are not writable", lone);
     subject.check(report, "seeded", "seeded lists", seeded_lists(source, seed));
-    let long = source.long_lists(seed, 200);
+    let old = OLD_LIMIT.flat_map(|length| source.lists_of_length(length));
+    subject.check(report, "old-limit", "lists of about 65,536 cells", old);
+    let long = source.long_lists(seed, LONG);
     subject.check(report, "long", "seeded lists near the limit and over it, writable and not", long);
     let near = [LIMIT - 1, LIMIT, LIMIT + 1].into_iter().flat_map(|length| source.lists_of_length(length));
     subject.check(report, "limit", "lists at the limit and one off it", near);

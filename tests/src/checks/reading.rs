@@ -6,7 +6,8 @@ use crate::formats::Format;
 use crate::library::Function;
 use crate::report::Report;
 use crate::second::LIMIT;
-use crate::texts::{self, lengths};
+use crate::texts;
+use crate::texts::lengths::{self, LONG, OLD_LIMIT};
 
 pub fn run(report: &mut Report, format: &Format, function: &Function<u8, u32>, seed: u64) {
     // No byte gives more than one cell.
@@ -27,7 +28,9 @@ pub fn check_on_texts(report: &mut Report, subject: &impl Subject<Element = u8>,
     subject.check(report, "seeded", "seeded texts, whole and damaged", short);
     let longer = source.texts(seed, "longer texts for the library", 2_000, |rng| rng.below(20_000));
     subject.check(report, "longer", "longer seeded texts, whole and damaged", longer);
-    let long = source.long_texts(seed, 200);
+    let old = OLD_LIMIT.flat_map(|length| source.texts_of_length(length));
+    subject.check(report, "old-limit", "texts of about 65,536 bytes, with a fault of each kind", old);
+    let long = source.long_texts(seed, LONG);
     subject.check(report, "long", "seeded texts near the limit and over it, whole and damaged", long);
     let near = [LIMIT - 1, LIMIT, LIMIT + 1].into_iter().flat_map(|length| source.texts_of_length(length));
     subject.check(report, "limit", "texts at the limit and one off it, with a fault of each kind", near);

@@ -132,14 +132,14 @@ fn nearly_same<'a>(format: &'a Format, seed: u64) -> impl Iterator<Item = Pair> 
     })
 }
 
-/// Long texts, each with itself and with the next, in both orders.
+/// Long texts, each with itself, with the next, or that with it.
 fn at_limit(source: &'static Source) -> impl Iterator<Item = Pair> {
     let texts: Vec<Vec<u8>> =
         [LIMIT - 1, LIMIT, LIMIT + 1].into_iter().flat_map(|length| source.texts_of_length(length)).collect();
     (0..texts.len()).flat_map(move |index| {
         let (this, next) = (&texts[index], &texts[(index + 1) % texts.len()]);
         let pair = |(first, second): (&Vec<u8>, &Vec<u8>)| Pair { first: first.clone(), second: second.clone() };
-        [(this, this), (this, next), (next, this)].map(pair)
+        [pair([(this, this), (this, next), (next, this)][index % 3])]
     })
 }
 

@@ -43,7 +43,7 @@ fn names(seed: u64) -> impl Iterator<Item = Vec<u8>> {
     let seeded = NAMES.texts(seed, "names to write again", 200_000, lengths::mostly_short);
     let longer = NAMES.texts(seed, "longer names to write again", 2_000, |rng| rng.below(20_000));
     let at_limit = [LIMIT - 1, LIMIT].into_iter().flat_map(|length| NAMES.texts_of_length(length));
-    short_names().chain(seeded).chain(longer).chain(NAMES.long_texts(seed, 50)).chain(at_limit)
+    short_names().chain(seeded).chain(longer).chain(NAMES.long_texts(seed, lengths::LONG)).chain(at_limit)
 }
 
 /// The cells of a name, if the library accepts it.

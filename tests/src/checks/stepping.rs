@@ -143,7 +143,7 @@ pub fn run<C: Cursor>(report: &mut Report, format: &Format, stepper: &Stepper<C>
 mod tests {
     use super::*;
     use crate::formats;
-    use crate::second::Answer;
+    use crate::second::{Answer, LIMIT};
 
     /// A cursor that counts the bytes and the cells behind it.
     #[derive(Clone, Copy, Debug, PartialEq, Eq)]
@@ -188,7 +188,7 @@ mod tests {
         let stepper = Stepper { name: "step", start: || Counts(0, 0), step };
         let subject = stepping(&stepper);
         let is_same = |text: &[u8]| subject.compare(text, &subject.second(text), &mut Statuses::default()).is_ok();
-        [&b"A+ImIDkQ."[..], b"+AKN-", b"", b"ab~", &[b'a'; 65_537]].into_iter().all(is_same)
+        [&b"A+ImIDkQ."[..], b"+AKN-", b"", b"ab~", &vec![b'a'; LIMIT + 1]].into_iter().all(is_same)
     }
 
     /// Whether steps from cursors made by hand are as the second program says.
@@ -251,7 +251,7 @@ mod tests {
 
     #[test]
     fn a_cell_of_a_text_over_the_limit_is_noticed() {
-        assert!(!passes(|text, cursor| second(&text[..text.len().min(65_536)], cursor)));
+        assert!(!passes(|text, cursor| second(&text[..text.len().min(LIMIT)], cursor)));
     }
 
     #[test]

@@ -24,7 +24,7 @@ fn refused(text: u32, number: u32, place: usize) -> Comparison {
 
 /// The examples of a format.
 pub fn examples(format: &str) -> Vec<Example> {
-    let long = [b'a'; LIMIT + 1];
+    let long = vec![b'a'; LIMIT + 1];
     let list: &[(&[u8], &[u8], Comparison)] = match format {
         "utf7" => &[
             (b"", b"", same(0)),

@@ -4,7 +4,7 @@ use std::fmt::{self, Display, Formatter};
 
 use crate::calls::{blank, Change};
 use crate::second::page::{Asked, Left, Page, State};
-use crate::second::{Answer, Call, Kind};
+use crate::second::{Answer, Call, Kind, LIMIT};
 
 /// Calls one after another.
 pub struct Course {
@@ -284,11 +284,11 @@ pub fn questions() -> Vec<Question> {
         question("a page on which nothing was done", nothing_used(Some(0)), 0, 0, true),
         question("a page on which nothing was done, with no mark", nothing_used(None), 0, 0, false),
         question("an empty page in empty buffers", body([0; 4], Some(0), &[], &[]), 0, 0, true),
-        question("a text buffer over the limit", too_long(65_537, 0), 16, 65_536, false),
-        question("a history over the limit", too_long(0, 65_537), 16, 65_536, false),
-        question("buffers at the limit, and not sound", too_long(65_536, 65_536), 14, 0, false),
-        question("a number of no kind and a history over the limit", no_kind(0, 65_537), 16, 65_536, false),
-        question("a number of no kind and buffers at the limit", no_kind(65_536, 65_536), 14, 0, false),
+        question("a text buffer over the limit", too_long(LIMIT + 1, 0), 16, LIMIT, false),
+        question("a history over the limit", too_long(0, LIMIT + 1), 16, LIMIT, false),
+        question("buffers at the limit, and not sound", too_long(LIMIT, LIMIT), 14, 0, false),
+        question("a number of no kind and a history over the limit", no_kind(0, LIMIT + 1), 16, LIMIT, false),
+        question("a number of no kind and buffers at the limit", no_kind(LIMIT, LIMIT), 14, 0, false),
     ];
     not_sound.chain(others).collect()
 }

@@ -48,6 +48,19 @@ text=000000410000003D000003910000002E
 history=000000010000000100000001000022620000003D
 ";
 
+/// The same in form 2, which was not due.
+const WORKED_2: &str = "form=2
+kind=utf7b
+opening=0000004
+length=0000004
+used=0000005
+done=0000005
+saved=0000000
+arrived=412B496D49446B512E
+text=000000410000003D000003910000002E
+history=000000010000000100000001000022620000003D
+";
+
 /// The bytes that it was opened on.
 pub const ARRIVED: &[u8] = b"A+ImIDkQ.";
 
@@ -56,8 +69,12 @@ const ROOMS: [usize; 3] = [9, 4, 5];
 
 /// The worked file with one part in the place of another.
 fn with(part: &str, other: &str) -> Vec<u8> {
-    assert_eq!(WORKED.matches(part).count(), 1, "{part}");
-    WORKED.replace(part, other).into_bytes()
+    replaced(WORKED, part, other)
+}
+
+fn replaced(file: &str, part: &str, other: &str) -> Vec<u8> {
+    assert_eq!(file.matches(part).count(), 1, "{part}");
+    file.replace(part, other).into_bytes()
 }
 
 fn read(name: &'static str, file: Vec<u8>, rooms: [usize; 3], number: u32, place: usize) -> Filed {
@@ -66,7 +83,7 @@ fn read(name: &'static str, file: Vec<u8>, rooms: [usize; 3], number: u32, place
 
 /// Readings of the worked file and of others.
 pub fn readings() -> Vec<Filed> {
-    bad_form().into_iter().chain(in_form()).collect()
+    bad_form().into_iter().chain(second_form()).chain(in_form()).collect()
 }
 
 /// Files that are in form, in the order of the numbers.
@@ -116,7 +133,8 @@ fn bad_form() -> Vec<Filed> {
         all("a LF more", format!("{WORKED}\n"), 193),
         all("the file twice", format!("{WORKED}{WORKED}"), 193),
         all("a mark of the encoding", format!("\u{FEFF}{WORKED}"), 0),
-        bad("another form", "form=1", "form=2", 5),
+        bad("another form", "form=1", "form=3", 5),
+        bad("form 2 with five digits", "form=1", "form=2", 31),
         bad("another form with more digits", "form=1", "form=10", 6),
         bad("CR before LF", "form=1\n", "form=1\r\n", 6),
         bad("a capital in a key", "kind", "Kind", 7),
@@ -154,6 +172,46 @@ fn bad_form() -> Vec<Filed> {
         bad("a line twice", "used=00005\n", "used=00005\nused=00005\n", 56),
         bad("a line led by a space", "used", " used", 45),
         bad("another name", "history", "histories", 150),
+    ]
+}
+
+/// Files in form 2. Where nothing in them is over 65,536, they fail at the LF that ends the arrived bytes; else they are
+/// in form, whatever the page is.
+fn second_form() -> Vec<Filed> {
+    let with = |part: &str, other: &str| replaced(WORKED_2, part, other);
+    let bad = |name, part, other, place| read(name, with(part, other), ROOMS, 18, place);
+    let not_sound = |name, part, other| read(name, with(part, other), ROOMS, 14, 0);
+    let saved = |arrived: &str| WORKED_2.replace("saved=0000000", "saved=0065537").replace("412B496D49446B512E", arrived);
+    vec![
+        read("form 2 where form 1 was due", WORKED_2.as_bytes().to_vec(), ROOMS, 18, 115),
+        bad("the form alone is another", "form=2", "form=1", 31),
+        bad("form 2 with no mark", "saved=0000000", "saved=none", 112),
+        bad("form 2 with no bytes", "412B496D49446B512E", "", 97),
+        bad("form 2 with half a byte", "512E\n", "512\n", 114),
+        bad("form 2, and a fault in the text", "0000002E\n", "0000002G\n", 115),
+        bad("form 2 with an opening length of 65,536", "opening=0000004", "opening=0065536", 115),
+        bad("form 2 with a mark of 65,536", "saved=0000000", "saved=0065536", 115),
+        bad("form 2 with 65,536 words done", "done=0000005", "done=0065536", 115),
+        bad("six digits", "opening=0000004", "opening=065537", 32),
+        bad("eight digits", "opening=0000004", "opening=00065537", 33),
+        bad("over the bound by the first digit", "opening=0000004", "opening=2000000", 26),
+        bad("over the bound by the second digit", "opening=0000004", "opening=1100000", 27),
+        bad("over the bound by the third digit", "opening=0000004", "opening=1050000", 28),
+        bad("over the bound by the fourth digit", "opening=0000004", "opening=1049000", 29),
+        bad("over the bound by the last digit but one", "opening=0000004", "opening=1048580", 31),
+        bad("over the bound by the last digit", "opening=0000004", "opening=1048577", 32),
+        bad("more cells than can be", "length=0000004", "length=1048577", 47),
+        bad("a mark over the bound", "saved=0000000", "saved=1048577", 87),
+        bad("fewer cells than it says", "length=0000004", "length=0065537", 153),
+        bad("fewer words than it says", "used=0000005", "used=0065537", 202),
+        not_sound("an opening length of 65,537", "opening=0000004", "opening=0065537"),
+        not_sound("an opening length of 1,048,576", "opening=0000004", "opening=1048576"),
+        not_sound("65,537 words done", "done=0000005", "done=0065537"),
+        not_sound("a mark of 65,537", "saved=0000000", "saved=0065537"),
+        not_sound("a mark of 1,048,576", "saved=0000000", "saved=1048576"),
+        read("a mark of 65,537, and no bytes", saved("").into_bytes(), ROOMS, 14, 0),
+        read("a mark of 65,537, and bytes that do not read", saved("7E").into_bytes(), ROOMS, 14, 0),
+        read("a mark of 65,537, and no room", saved("41").into_bytes(), [1, 3, 5], 9, 4),
     ]
 }
 

@@ -157,13 +157,13 @@ mod tests {
 
     #[test]
     fn constants() {
-        let source = "pub const LIMIT: usize = 65536; match a { Accepted(_) => 0, Refused(why, _) => f(why) } \
+        let source = "pub const LIMIT: usize = 1048576; match a { Accepted(_) => 0, Refused(why, _) => f(why) } \
                       match r { Refusal::HighByte => 1, Refusal::EmptyG2 => 6 } match k { Kind::Utf7Body => 1 } \
                       match a { Accepted(count) => count, } g(Kind::Jp2) const NEVER: usize = 18446744073709551615;";
         assert_eq!(
             read(source),
             [
-                "constant QALITHONDA_LIMIT: 65536",
+                "constant QALITHONDA_LIMIT: 1048576",
                 "constant QALITHONDA_ACCEPTED: 0",
                 "constant QALITHONDA_HIGH_BYTE: 1",
                 "constant QALITHONDA_EMPTY_G2: 6",

@@ -4,8 +4,8 @@
 //! cells found before it, bits are lists, and a call on a page makes new lists of all that it leaves. Quotations in
 //! comments are sentences of document 01. Mailbox names are in it as order 1 of document 02 states them, where the
 //! bytes of a cell begin and end as its order 2 does, the saved mark of a page as its order 5 does, page files as its
-//! order 6 does, squeezing as its order 8 does, and comparing as its order 11 does. Beside the readers stands a recogniser of RFC 1554's syntax, for
-//! order 7, written from the RFC's page. What a cursor made by hand means is in no paper: `steps_from` takes that from
+//! orders 6 and 10 do, squeezing as its order 8 does, and comparing as its order 11 does. Beside the readers stands a
+//! recogniser of RFC 1554's syntax, for order 7, written from the RFC's page. What a cursor made by hand means is in no paper: `steps_from` takes that from
 //! the header and from the definitions of crates/reading (`inText` in specs/Stepping.antt), and of crates/utf7_read,
 //! crates/mailbox_read and crates/jp2_read (specs/Cursor.antt).
 
@@ -33,8 +33,8 @@ pub use call::Call;
 pub use kind::Kind;
 pub use reading::{Complete, Steps};
 
-/// "over 65,536": the longest text or list that a function takes.
-pub const LIMIT: usize = 65_536;
+/// The longest text or list that a function takes. Order 10: "Raise 65,536 to 1,048,576 for texts, lists and histories".
+pub const LIMIT: usize = 1_048_576;
 
 /// "The UTF-7 lister and the JP-2 lister read standard input, at most 16,384 bytes."
 pub const LISTER_LIMIT: usize = 16_384;
@@ -67,7 +67,7 @@ fn refuse<T>(number: u32, place: usize) -> Result<T, Answer> {
     Err(Answer { number, place })
 }
 
-/// "16 comes first: any lent text or list (..) longer than 65,536; output may be longer."
+/// "16 comes first: any lent text or list (..); output may be longer." Order 10: "16 gives 1,048,576".
 fn within_limit(length: usize) -> Result<(), Answer> {
     if length > LIMIT {
         return refuse(16, LIMIT);
@@ -232,11 +232,11 @@ mod tests {
     #[test]
     fn refuses_over_the_limit() {
         for format in formats() {
-            assert_eq!((format.read)(&[0x80; 65_537]), refuse(16, 65_536));
-            assert_eq!((format.read)(&[b'a'; 65_536]).map(|cells| cells.len()), Ok(65_536));
+            assert_eq!((format.read)(&vec![0x80; 1_048_577]), refuse(16, 1_048_576));
+            assert_eq!((format.read)(&vec![b'a'; 1_048_576]).map(|cells| cells.len()), Ok(1_048_576));
             for writer in format.writers {
-                assert_eq!((writer.write)(&[u32::MAX; 65_537]), refuse(16, 65_536));
-                assert_eq!((writer.write)(&[u32::MAX; 65_536]), refuse(10, 0));
+                assert_eq!((writer.write)(&vec![u32::MAX; 1_048_577]), refuse(16, 1_048_576));
+                assert_eq!((writer.write)(&vec![u32::MAX; 1_048_576]), refuse(10, 0));
             }
         }
     }

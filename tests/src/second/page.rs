@@ -235,8 +235,8 @@ fn reached(opening: usize, records: &[Record]) -> Option<Vec<(usize, usize)>> {
 }
 
 /// What a sound page says to a call that is lent a list of this length, or the refusal that comes before all others:
-/// "16 comes first: any lent text or list (cells to add, save's arrived bytes even if unused), text buffer or history
-/// longer than 65,536". "14 | page not sound | 0"
+/// "16 comes first: any lent text or list (cells to add, save's arrived bytes even if unused), text buffer or history".
+/// "14 | page not sound | 0"
 pub(super) fn accepted_page(state: &State, list: usize) -> Result<Sound, Answer> {
     all_within_limit(state, list)?;
     sound(state).ok_or(Answer { number: 14, place: 0 })
@@ -381,7 +381,7 @@ mod tests {
     fn a_refused_open_gives_the_kind_and_leaves_the_buffers() {
         let page = Page { kind: 7, opening: 1, length: 1, used: 1, done: 1, saved: Some(1) };
         let state = State { page, text: vec![7; 2], history: vec![7; 2] };
-        for (arrived, number, place) in [(&b"a~"[..], 3, 1), (b"abc", 9, 3), (&[0x80; 65_537], 16, 65_536)] {
+        for (arrived, number, place) in [(&b"a~"[..], 3, 1), (b"abc", 9, 3), (&vec![0x80; 1_048_577], 16, 1_048_576)] {
             let found = left(&state, &Call::Open { kind: Kind::Utf7Body, arrived: arrived.to_vec() }, &[]);
             assert_eq!(found.answer, Answer { number, place });
             let blank = Page { kind: 1, opening: 0, length: 0, used: 0, done: 0, saved: None };
@@ -400,13 +400,13 @@ mod tests {
         let save = |length| Call::Save { arrived: vec![0x80; length], room: 0 };
         let number = |state: State, call: Call| left(&state, &call, &[]).answer.number;
         for call in [Call::Undo, Call::Redo, replace(1), save(1)] {
-            assert_eq!(number(state(65_537, 0), call.clone()), 16);
-            assert_eq!(number(state(0, 65_537), call.clone()), 16);
-            assert_eq!(number(state(65_536, 65_536), call), 14);
+            assert_eq!(number(state(1_048_577, 0), call.clone()), 16);
+            assert_eq!(number(state(0, 1_048_577), call.clone()), 16);
+            assert_eq!(number(state(1_048_576, 1_048_576), call), 14);
         }
-        let asked = [(65_537, 0), (0, 65_537), (65_536, 65_536)].map(|(cells, words)| ask(&state(cells, words)));
+        let asked = [(1_048_577, 0), (0, 1_048_577), (1_048_576, 1_048_576)].map(|(cells, words)| ask(&state(cells, words)));
         assert_eq!(asked.map(|asked| (asked.answer.number, asked.unchanged)), [(16, false), (16, false), (14, false)]);
-        assert_eq!([replace(65_537), save(65_537)].map(|call| number(state(0, 0), call)), [16, 16]);
-        assert_eq!([replace(65_536), save(65_536)].map(|call| number(state(0, 0), call)), [14, 14]);
+        assert_eq!([replace(1_048_577), save(1_048_577)].map(|call| number(state(0, 0), call)), [16, 16]);
+        assert_eq!([replace(1_048_576), save(1_048_576)].map(|call| number(state(0, 0), call)), [14, 14]);
     }
 }

@@ -1,6 +1,6 @@
-//! The page file, after order 6 of document 02. A file is judged as a whole: what stands in its lines is read without
-//! care, and it is a page file exactly if writing that down gives the file itself. Where a bad one fails is asked of
-//! its beginnings: a beginning is good if some page file begins so, and one is made to show it.
+//! The page file, after orders 6 and 10 of document 02. A file is judged as a whole: what stands in its lines is read
+//! without care, and it is a page file exactly if writing that down gives the file itself. Where a bad one fails is
+//! asked of its beginnings: a beginning is good if some page file begins so, and one is made to show it.
 
 use super::page::{all_within_limit, sound, Page, Sound, State};
 use super::{refuse, Answer, Elements, Kind, LIMIT};
@@ -17,8 +17,27 @@ pub struct Content {
 /// "key=value lines (..) in this order"
 const KEYS: [&str; 10] = ["form", "kind", "opening", "length", "used", "done", "saved", "arrived", "text", "history"];
 
+/// How many of them stand before the text.
+const FRONT: usize = 8;
+
 /// "Kind is utf7h, utf7b or jp2."
 const KINDS: [(&str, Kind); 3] = [("utf7h", Kind::Utf7Header), ("utf7b", Kind::Utf7Body), ("jp2", Kind::Jp2)];
+
+/// A form, and the digits of its numbers.
+#[derive(Clone, Copy, Debug, PartialEq, Eq)]
+pub struct Form {
+    name: &'static str,
+    digits: usize,
+}
+
+/// "Form is 1." "five decimal digits"
+pub const FORM_1: Form = Form { name: "1", digits: 5 };
+
+/// Order 10: "Page files get form 2 with seven digits".
+pub const FORM_2: Form = Form { name: "2", digits: 7 };
+
+/// Order 10: "written only when some number, or the arrived length, exceeds 65,536. All others stay form 1".
+const MOST_IN_FORM_1: usize = 65_536;
 
 impl Content {
     /// What is kept of a page, where it has as many cells and words as it says: "nothing past the ends is kept".
@@ -32,17 +51,43 @@ impl Content {
         })
     }
 
-    /// Its file. "Form is 1." "The next four are five decimal digits, saved the same or `none`."
+    /// Its five numbers, without a mark that is none, and the arrived length.
+    fn numbers(&self) -> Vec<usize> {
+        let Page { opening, length, used, done, saved, .. } = self.page;
+        [opening, length, used, done, self.arrived.len()].into_iter().chain(saved).collect()
+    }
+
+    /// The form that is due.
+    pub fn form(&self) -> Form {
+        if self.numbers().into_iter().any(|number| number > MOST_IN_FORM_1) {
+            FORM_2
+        } else {
+            FORM_1
+        }
+    }
+
+    /// Its file.
     pub fn file(&self) -> Vec<u8> {
+        self.file_in(self.form())
+    }
+
+    /// The file that has this in a form, due or not. "Arrived bytes are pairs of capital hex digits, cells and words
+    /// groups of eight, without spaces."
+    pub fn file_in(&self, form: Form) -> Vec<u8> {
+        let lists = [hex(self.text.iter().copied(), 8), hex(self.history.iter().copied(), 8)];
+        let [text, history] = lists.map(String::into_bytes);
+        [&self.front_in(form)[..], b"text=", &text, b"\nhistory=", &history, b"\n"].concat()
+    }
+
+    /// Its lines before the text. "The next four are (..) digits, saved the same or `none`."
+    fn front_in(&self, form: Form) -> Vec<u8> {
         let Page { kind, opening, length, used, done, saved } = self.page;
         let (kind, _) = KINDS.iter().find(|(_, other)| other.number() == kind).expect("a number of a kind");
+        let decimal = |number: usize| format!("{number:0digits$}", digits = form.digits);
         let [opening, length, used, done] = [opening, length, used, done].map(decimal);
         let saved = saved.map_or("none".to_string(), decimal);
-        // "Arrived bytes are pairs of capital hex digits, cells and words groups of eight, without spaces."
-        let arrived = self.arrived.iter().flat_map(|&byte| hex(byte.into(), 2)).collect();
-        let [text, history] =
-            [&self.text, &self.history].map(|list| list.iter().flat_map(|&cell| hex(cell, 8)).collect());
-        let values = ["1".to_string(), kind.to_string(), opening, length, used, done, saved, arrived, text, history];
+        let arrived = hex(self.arrived.iter().map(|&byte| byte.into()), 2);
+        let values = [form.name.to_string(), kind.to_string(), opening, length, used, done, saved, arrived];
         KEYS.iter().zip(values).flat_map(|(key, value)| format!("{key}={value}\n").into_bytes()).collect()
     }
 
@@ -64,11 +109,14 @@ impl Content {
         Some(Content { page, arrived, text: numbers(text, 8)?, history: numbers(history, 8)? })
     }
 
-    /// "a number or list over 65,536 or a list of the wrong length being out of form"
+    /// "a number or list over (..) or a list of the wrong length being out of form": what is over form 1's bound is not
+    /// written in it, and form 2 has the limit's.
     fn is_in_form(&self) -> bool {
-        let Page { opening, length, used, done, saved, .. } = self.page;
-        let numbers = [opening, length, used, done, saved.unwrap_or(0), self.arrived.len()];
-        numbers.iter().all(|&number| number <= LIMIT) && self.text.len() == length && self.history.len() == used
+        self.is_within_bounds() && self.text.len() == self.page.length && self.history.len() == self.page.used
+    }
+
+    fn is_within_bounds(&self) -> bool {
+        self.numbers().iter().all(|&number| number <= LIMIT)
     }
 
     /// This content in buffers of these lengths, "filled with zeros to the lent lengths".
@@ -78,13 +126,15 @@ impl Content {
     }
 }
 
-fn decimal(number: usize) -> String {
-    format!("{number:05}")
-}
-
-/// So many capital hex digits, high digit first.
-fn hex(number: u32, width: u32) -> impl Iterator<Item = char> {
-    (0..width).rev().map(move |place| char::from(b"0123456789ABCDEF"[(number >> (4 * place)) as usize % 16]))
+/// So many capital hex digits for each number, high digit first.
+fn hex(numbers: impl Iterator<Item = u32>, width: u32) -> String {
+    let mut digits = String::new();
+    for number in numbers {
+        for place in (0..width).rev() {
+            digits.push(char::from(b"0123456789ABCDEF"[(number >> (4 * place)) as usize % 16]));
+        }
+    }
+    digits
 }
 
 /// The numbers that groups of so many hex digits stand for.
@@ -96,6 +146,12 @@ fn numbers(digits: &str, width: usize) -> Option<Vec<u32>> {
 /// What a file has, if it is a page file.
 pub fn content(file: &[u8]) -> Option<Content> {
     Content::found_in(file).filter(|content| content.is_in_form() && content.file() == file)
+}
+
+/// Whether these are the lines before the text of some page file: as many cells and words as they say can follow.
+fn is_front(lines: &[u8]) -> bool {
+    let found = Content::found_in(&[lines, b"text=\nhistory=\n"].concat());
+    found.is_some_and(|found| found.is_within_bounds() && found.front_in(found.form()) == lines)
 }
 
 /// Where a file that is no page file fails: "at the first byte no page file can have there, or the length if it ends
@@ -121,6 +177,9 @@ fn failing_at(file: &[u8]) -> usize {
 fn begins_one(beginning: &[u8]) -> bool {
     let lines: Vec<&[u8]> = beginning.split(|&byte| byte == b'\n').collect();
     let (stopped, whole) = lines.split_last().expect("one line at least");
+    if whole.len() == FRONT && stopped.is_empty() {
+        return is_front(beginning);
+    }
     let Some(key) = KEYS.get(whole.len()) else { return content(beginning).is_some() };
     values(whole, stopped.len().saturating_sub(key.len() + 1)).iter().any(|value| {
         let line = format!("{key}={value}");
@@ -129,22 +188,26 @@ fn begins_one(beginning: &[u8]) -> bool {
 }
 
 /// Values for the line after these, of which the value there begins so many bytes. If it can be ended at all, then like
-/// one of them: kinds and `none` have one end, the smallest number has zeros for the missing digits, and any digits do
-/// in a list, as many as its length asks for, or one where a pair of arrived bytes lacks it.
+/// one of them: forms, kinds and `none` have one end, the smallest number has zeros for the missing digits, and any
+/// digits do in a list, as many as its length asks for, or one where a pair of arrived bytes lacks it. Where form 2 is
+/// due by no number, it is by the arrived length.
 fn values(before: &[&[u8]], begun: usize) -> Vec<String> {
+    let form = if before.first().is_some_and(|line| line.ends_with(FORM_2.name.as_bytes())) { FORM_2 } else { FORM_1 };
     let number_in = |line: usize| {
         let (_, digits) = std::str::from_utf8(before[line]).ok()?.split_once('=')?;
         digits.parse().ok().filter(|&number: &usize| number <= LIMIT)
     };
     let zeros = |count: usize| "0".repeat(count);
+    let is_due = (2..before.len()).any(|line| number_in(line).is_some_and(|number| number > MOST_IN_FORM_1));
+    let least = if form == FORM_2 && !is_due { 2 * MOST_IN_FORM_1 + 2 } else { 0 };
     match KEYS[before.len()] {
-        "form" => vec!["1".to_string()],
+        "form" => [FORM_1, FORM_2].map(|form| form.name.to_string()).to_vec(),
         "kind" => KINDS.map(|(name, _)| name.to_string()).to_vec(),
-        "saved" => vec![zeros(5), "none".to_string()],
-        "arrived" => vec![zeros(begun.next_multiple_of(2))],
+        "saved" => vec![zeros(form.digits), "none".to_string()],
+        "arrived" => vec![zeros(begun.next_multiple_of(2).max(least))],
         "text" => vec![zeros(8 * number_in(3).unwrap_or(0))],
         "history" => vec![zeros(8 * number_in(4).unwrap_or(0))],
-        _ => vec![zeros(5)],
+        _ => vec![zeros(form.digits)],
     }
 }
 

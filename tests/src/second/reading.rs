@@ -128,9 +128,9 @@ mod tests {
     #[test]
     fn a_text_over_the_limit_is_refused_at_once() {
         for format in formats::all() {
-            let answer = Answer { number: 16, place: 65_536 };
-            assert_eq!((format.steps)(&[b'a'; 65_537]), Steps { cells: vec![], answer });
-            assert_eq!((format.steps)(&[b'a'; 65_536]).cells.len(), 65_536);
+            let answer = Answer { number: 16, place: 1_048_576 };
+            assert_eq!((format.steps)(&vec![b'a'; 1_048_577]), Steps { cells: vec![], answer });
+            assert_eq!((format.steps)(&vec![b'a'; 1_048_576]).cells.len(), 1_048_576);
         }
     }
 }

@@ -11,6 +11,13 @@ pub type Length = fn(&mut Rng) -> usize;
 /// At the limit, and a little under it.
 pub const NEAR_LIMIT: RangeInclusive<usize> = LIMIT - 60..=LIMIT;
 
+/// About what the limit was before order 10 of document 02. A text that is refused there would be by a limit that was
+/// left behind.
+pub const OLD_LIMIT: RangeInclusive<usize> = 65_535..=65_537;
+
+/// How many seeded texts and lists of each sort there are near the limit and over it. They take long.
+pub const LONG: usize = 6;
+
 /// A little over the limit.
 pub const OVER_LIMIT: RangeInclusive<usize> = LIMIT + 1..=LIMIT + 60;
 

@@ -14,7 +14,7 @@ use crate::formats::Format;
 use crate::library::steps::{Cursor, Stepper};
 use crate::report::Report;
 use crate::rng::Rng;
-use crate::second::Complete;
+use crate::second::{Complete, LIMIT};
 use crate::texts::lengths;
 use crate::trial::show;
 use peer::{Peer, Unit};
@@ -61,7 +61,8 @@ pub fn run<C: Cursor>(report: &mut Report, format: &Format, stepper: &Stepper<C>
     check("lone-cells", "where each writable cell by itself begins", 20_000, lone, &mut comparison);
     let lists = lists(format, seed, &comparison.known);
     check("lists", "where the cells of seeded lists, written, begin", 100_000, lists, &mut comparison);
-    let texts = format.source.texts(seed, "texts for ICU", 20_000, lengths::mostly_short).collect();
+    let texts = format.source.texts(seed, "texts for ICU", 20_000, lengths::mostly_short);
+    let texts = texts.chain(format.source.texts_of_length(LIMIT).take(3)).collect();
     check("texts", "where the cells of seeded texts, whole and damaged, begin", 10_000, texts, &mut comparison);
 }
 
@@ -79,7 +80,7 @@ fn lists(format: &Format, seed: u64, known: &BTreeMap<u32, u16>) -> Vec<Vec<u8>>
         cells.retain(|cell| known.contains_key(cell));
         written(format, &cells)
     };
-    (0..5_000).filter_map(list).filter(|text| text.len() <= 65_536).collect()
+    (0..5_000).filter_map(list).filter(|text| text.len() <= LIMIT).collect()
 }
 
 struct Comparison<'a, C> {

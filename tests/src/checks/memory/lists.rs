@@ -15,7 +15,7 @@ use crate::texts::{lengths, Source};
 use crate::trial::try_all;
 
 /// How often each sort of text or list at the limit is tried.
-const LONG: usize = 10;
+const LONG: usize = 3;
 
 pub fn read(report: &mut Report, format: &Format, function: &Function<u8, u32>, settings: Settings) {
     run(report, function, texts(format.source, settings));

@@ -46,7 +46,7 @@ pub fn run(report: &mut Report, settings: Settings) {
         });
         expect_statuses(report, kind);
     }
-    run_files(report, &mut memory, settings);
+    run_files(report, settings);
 }
 
 /// The functions that a list of calls is made of, and the sort of each.
@@ -64,7 +64,9 @@ pub fn functions() -> impl Iterator<Item = (&'static str, Sort)> {
 }
 
 /// Readings of page files.
-fn run_files(report: &mut Report, memory: &mut Memory, Settings { seed, rounds }: Settings) {
+fn run_files(report: &mut Report, Settings { seed, rounds }: Settings) {
+    // New memory, since what was lent once takes time whenever it is protected.
+    let mut memory = Memory::new();
     let mut rng = Rng::new(seed, "files in guarded memory");
     let seeded = (0..rounds).map(|_| {
         let kind = rng.pick(&Kind::ALL);

@@ -1,13 +1,14 @@
-//! Every function of the library, called in a thread with a small stack, on empty, short and full-size texts, lists, pages
-//! and files. A call that takes more ends the process, and `fault` says in which call.
+//! Every function of the library, called in a thread with a small stack, on empty, short and full-size texts, lists,
+//! pages and files. A call that takes more ends the process, and `fault` says in which call.
 
 use std::collections::BTreeSet;
 use std::fs;
+use std::sync::mpsc::sync_channel;
 use std::thread;
 
 use super::page::functions;
 use crate::calls::files::{self, Filed};
-use crate::calls::{limit, seeded, List, Move};
+use crate::calls::{limit, seeded, squeezes, List, Move};
 use crate::fault;
 use crate::formats::{self, Format};
 use crate::library::page as library_page;
@@ -46,25 +47,30 @@ pub fn run(report: &mut Report, seed: u64) {
     report.check("stack-functions", &format!("functions of {HEADER}, each of which was called"), |_| all_in(&called));
 }
 
-/// Tries the inputs, which are made before, in a thread with a small stack.
+/// Tries the inputs, which are made in this thread one by one, in a thread with a small stack.
 fn try_in_thread<I: Input + Send>(
     report: &mut Report,
     function: &str,
-    inputs: Vec<I>,
-    call: impl Fn(&I) + Sync,
+    inputs: impl IntoIterator<Item = I>,
+    call: impl Fn(&I) + Sync + Send,
 ) -> String {
     let name = format!("stack-{function}");
     report.check(&name, WHAT, |_| {
+        let (sender, receiver) = sync_channel(1);
         let work = || {
             fault::in_check(&name);
-            try_all(inputs.into_iter(), |input| {
+            try_all(receiver, |input| {
                 call(input);
                 Ok(())
             })
         };
         thread::scope(|scope| {
-            let spawned = thread::Builder::new().stack_size(STACK).spawn_scoped(scope, work);
-            spawned.expect("a thread").join().expect("no panic")
+            let spawned = thread::Builder::new().stack_size(STACK).spawn_scoped(scope, work).expect("a thread");
+            for input in inputs {
+                sender.send(input).expect("a receiver");
+            }
+            drop(sender);
+            spawned.join().expect("no panic")
         })
     });
     function.to_string()
@@ -109,17 +115,15 @@ fn tally(report: &mut Report, source: &Source, seed: u64) -> String {
     })
 }
 
-/// The calls on a page, each followed by the question.
+/// The calls on a page, each followed by the question: each sort on short pages, and all of them on full-size ones.
 fn of_page(report: &mut Report, seed: u64) -> Vec<String> {
-    let full = || Kind::ALL.into_iter().flat_map(limit::lists);
     let mut called: Vec<String> = functions()
-        .map(|(function, sort)| {
-            let lists = seeded::alone(seed, sort, ROUNDS).chain(full()).collect();
-            try_in_thread(report, function, lists, follow)
-        })
+        .map(|(function, sort)| try_in_thread(report, function, seeded::alone(seed, sort, ROUNDS), follow))
         .collect();
-    let pages = seeded::pages(seed, ROUNDS).chain(full()).collect();
+    let pages = seeded::pages(seed, ROUNDS);
     called.push(try_in_thread(report, library_page::UNCHANGED, pages, |list: &List| ask(&list.start)));
+    let full = Kind::ALL.into_iter().flat_map(|kind| limit::lists(kind).chain(squeezes::at_limit(kind)));
+    try_in_thread(report, "page-limit", full, follow);
     called
 }
 
@@ -152,7 +156,7 @@ fn of_files(report: &mut Report, seed: u64) -> String {
         let kind = rng.pick(&Kind::ALL);
         files::one(&mut rng, kind)
     });
-    let all = short.chain(seeded).chain(Kind::ALL.into_iter().flat_map(files::at_limit)).collect();
+    let all = short.chain(seeded).chain(Kind::ALL.into_iter().flat_map(files::at_limit));
     try_in_thread(report, READ, all, |filed: &Filed| {
         let (State { mut text, mut history, .. }, mut arrived) = filed.buffers();
         page_file::read(&filed.file, &mut arrived, &mut text, &mut history);

@@ -64,9 +64,16 @@ fn check_files(report: &mut Report, kind: Kind, seed: u64) {
     check("beginnings", "every beginning of files", &mut small.iter().flat_map(files::beginnings));
     let lines = small.iter().flat_map(files::lines_moved).chain(files::lines_mixed(&small));
     check("lines", "lines left out, doubled, swapped, and of other files", &mut { lines });
-    check("values", "other values in each line", &mut small.iter().flat_map(files::values_changed));
+    let in_form_2 = files::small_in_form_2(kind);
+    let values = small.iter().chain(&in_form_2).flat_map(files::values_changed);
+    check("values", "other values in each line", &mut { values });
+    let of_form_2 = in_form_2.iter().flat_map(|filed| files::bytes_changed(filed, files::TELLING).step_by(3));
+    let of_form_2 = of_form_2.chain(in_form_2.iter().flat_map(files::beginnings));
+    check("form-2", "small files in form 2, with bytes changed and cut off", &mut { of_form_2 });
+    let what = "each number at the bounds of the forms and beside them, in both forms";
+    check("forms", what, &mut files::forms(kind));
     check("rooms", "smaller and larger buffers, for files with and without faults", &mut files::in_rooms(kind));
-    check("limit", "files with as much as can be kept, and with more", &mut files::at_limit(kind).into_iter());
+    check("limit", "files with as much as can be kept, and with more", &mut files::at_limit(kind));
     check("seeded", "seeded files of pages that are sound and not", &mut files::seeded(seed, kind, 6_000));
     report.expect_statuses(library::READ, &[0, 9, 14, 15, 16, 18]);
 }
@@ -78,8 +85,16 @@ fn check_lists(report: &mut Report, kind: Kind, seed: u64) {
         report.check(&format!("{name}-{check}"), what, |statuses| try_all(lists, |list| page::follow(list, statuses)));
     };
     check("lists", "seeded lists of calls, keepings and readings of files kept before", &mut lists());
+    let both_sides = || files::on_both_sides(kind).into_iter();
+    check("both-forms", "pages on both sides of 65,536, kept, read and gone on with", &mut both_sides());
+    if kind == files::MOST_TRIED {
+        let with_words = &mut files::with_words(kind).into_iter();
+        check("words", "histories on both sides of 65,536 words, kept and read, with many marks", with_words);
+    }
     let what = "demand 3, by the ledger, after each call, keeping and reading of these lists";
-    report.check(&format!("{name}-demand-3"), what, |_| try_all(lists(), |list| demand3::follow(list, &page::BUILT)));
+    report.check(&format!("{name}-demand-3"), what, |_| {
+        try_all(lists().chain(both_sides()), |list| demand3::follow(list, &page::BUILT))
+    });
     // An opened page is sound.
     report.expect_statuses(library::KEEP, &[0, 9, 15]);
 }
