@@ -43,7 +43,7 @@ extern "C" {
 
 /* The most elements that a lent text or list, a text buffer or a history may have. An output, a
    work buffer or a page file may have more. */
-#define QALITHONDA_LIMIT 65536
+#define QALITHONDA_LIMIT 1048576
 
 /* The numbers, each with the place that is given with it. */
 enum qalithonda_number {
@@ -71,8 +71,8 @@ enum qalithonda_number {
     QALITHONDA_UNSOUND = 14,        /* page not sound: 0 */
     QALITHONDA_NOT_THE_TEXT = 15,   /* arrived bytes do not read as the text, or in a page file as
                                        so many cells as the page was opened with: 0 */
-    QALITHONDA_OVER_LIMIT = 16,     /* more than 65,536 elements lent: 65,536. More than 512 bytes for
-                                       the plain reader of JP-2: 512 */
+    QALITHONDA_OVER_LIMIT = 16,     /* more than QALITHONDA_LIMIT elements lent: that limit. More than
+                                       512 bytes for the plain reader of JP-2: 512 */
     QALITHONDA_NEEDLESS_SHIFT = 17, /* needless shift in a mailbox name. A unit of 32 to 126 in a
                                        run: the letter that completes it. A run directly after a
                                        run: its first letter. Six or more left-over bits, all zero:
@@ -202,10 +202,10 @@ qalithonda_numbers qalithonda_mailbox_write(const uint32_t *cells, size_t cells_
  * earlier one; and outside runs no byte is of two cells.
  *
  * The cells complete before the first fault are handed out, and then the fault is the answer; a
- * text of more than 65,536 bytes is answered with 16 at once. After that every step gives the same
- * answer again. A cursor is a value: copy it to come back to a place. Every cursor is safe to hand
- * in, whatever its numbers are: past the text's end it stands at the end, and it has handed out at
- * most as many cells as bytes lie before it.
+ * text of more than QALITHONDA_LIMIT bytes is answered with 16 at once. After that every step gives
+ * the same answer again. A cursor is a value: copy it to come back to a place. Every cursor is safe
+ * to hand in, whatever its numbers are: past the text's end it stands at the end, and it has handed
+ * out at most as many cells as bytes lie before it.
  */
 
 /* A place in a UTF-7 text. */
@@ -480,6 +480,10 @@ qalithonda_asked qalithonda_unchanged(qalithonda_page page,
  *     text=000000410000003D000003910000002E
  *     history=000000010000000100000001000022620000003D
  *
+ * Where one of the five decimal numbers, or the count of arrived bytes, is over 65,536, the form is
+ * 2, and these numbers have seven digits. No other page has a file in form 2: it would be refused at
+ * the line end behind the arrived bytes. A library from before form 2 refuses it at its number.
+ *
  * A file that no keeping made is safe to read: it is refused, or it is that of a sound page and is
  * taken for what it says.
  */
@@ -490,7 +494,7 @@ qalithonda_asked qalithonda_unchanged(qalithonda_page page,
  * to save the letter.
  *
  * The bytes that the file needs are told by 9, so ask first with an out_len of 0. Room for
- * 2 * arrived_len + 8 * (length + used) + 103 bytes is always enough.
+ * 2 * arrived_len + 8 * (length + used) + 113 bytes is always enough.
  * Accepted: the count of bytes, which are in `out`.
  * Refused: 16 (text, history, arrived); 14; 15; 9 (out).
  */
@@ -506,8 +510,8 @@ qalithonda_numbers qalithonda_page_keep(qalithonda_page page,
  * is past the ends becomes 0 in all three.
  *
  * The buffers need not be as long as those that the page was kept from: the text buffer's length is
- * again the most cells that the text can grow to. 65,536 elements are always enough, and for
- * `arrived` half of file_len too.
+ * again the most cells that the text can grow to. QALITHONDA_LIMIT elements are always enough, and
+ * for `arrived` half of file_len too.
  * Accepted: the count of arrived bytes.
  * Refused: 16 (arrived, text, history; the file may be longer); 18; 9 (the first of arrived, text
  * and history that lacks room); 14 (also if the text buffer is too short for the text as it was

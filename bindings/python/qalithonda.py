@@ -39,7 +39,7 @@ __all__ = [
 ]
 
 #: The most bytes that a text may have, the most cells that a list or a page may have, and the most words of a history.
-LIMIT = 65536
+LIMIT = 1048576
 
 
 class Refusal(enum.IntEnum):

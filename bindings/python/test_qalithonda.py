@@ -421,15 +421,20 @@ class Pages(Case):
         for room in (-1, 2**64):
             with self.assertRaises(OverflowError):
                 Page.read(file, room, 9)
-        full = Page.open(Kind.UTF7_BODY, b"A" * LIMIT, LIMIT, LIMIT).keep()
-        self.assertEqual((len(full), Page.read(full, LIMIT, 0).arrived), (10 * LIMIT + 103, b"A" * LIMIT))
+
+    def test_a_long_page_is_kept_in_form_2(self):
+        for length, start, rest in ((65536, b"form=1\n", 103), (65537, b"form=2\n", 113), (LIMIT, b"form=2\n", 113)):
+            file = Page.open(Kind.UTF7_BODY, b"A" * length, LIMIT, LIMIT).keep()
+            self.assertEqual((file[:7], len(file)), (start, 10 * length + rest))
+            self.assertEqual(Page.read(file, LIMIT, 0).arrived, b"A" * length)
 
     def test_what_is_no_page_file_is_refused(self):
         for end in range(len(KEPT)):
             self.refused(18, end, Page.read, KEPT[:end], 9, 9)
         self.refused(18, len(KEPT), Page.read, KEPT + b"\n", 9, 9)
         changes = (
-            (b"form=1", b"form=2", 5),
+            (b"form=1", b"form=3", 5),
+            (b"form=1", b"form=2", 31),
             (b"kind=utf7b", b"kind=utf7x", 9),
             (b"opening=00004", b"opening=65537", 12),
             (b"length=00004", b"length=4", 8),

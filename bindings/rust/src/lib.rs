@@ -17,4 +17,4 @@ pub use refused::{Refusal, Refused};
 pub use steps::{Step, Steps};
 
 /// The most bytes that a text may have, the most cells that a list or a page may have, and the most words of a history.
-pub const LIMIT: usize = 65_536;
+pub const LIMIT: usize = 1_048_576;

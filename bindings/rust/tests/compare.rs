@@ -40,7 +40,7 @@ fn a_refusal_of_the_first_comes_before_one_of_the_second() {
     assert_eq!(utf7::compare(b"abc~", b"~"), refused(Text::First, Refusal::StrayByte, 3));
     assert_eq!(jp2::compare(b"a", b"b\x1b"), refused(Text::Second, Refusal::CutShort, 2));
     assert_eq!(mailbox::compare(b"ab", b"b&A-"), refused(Text::Second, Refusal::NeedlessShift, 3));
-    let long = [b'a'; LIMIT + 1];
+    let long = vec![b'a'; LIMIT + 1];
     assert_eq!(utf7::compare(&long, b"~"), refused(Text::First, Refusal::OverLimit, LIMIT));
     assert_eq!(utf7::compare(b"b", &long), refused(Text::Second, Refusal::OverLimit, LIMIT));
     assert_eq!(utf7::compare(b"~", &long), refused(Text::First, Refusal::StrayByte, 0));

@@ -204,11 +204,14 @@ fn a_kept_page_is_read_into_other_rooms() {
 }
 
 #[test]
-fn a_full_page_is_kept() {
-    let page = Page::open(Kind::Utf7Body, vec![b'A'; LIMIT], LIMIT, LIMIT).unwrap();
-    let file = page.keep().unwrap();
-    assert_eq!(file.len(), 10 * LIMIT + 103);
-    assert_eq!(Page::read(&file, LIMIT, 0).unwrap().arrived(), page.arrived());
+fn a_long_page_is_kept_in_form_2() {
+    for (length, start, rest) in [(65_536, "form=1\n", 103), (65_537, "form=2\n", 113), (LIMIT, "form=2\n", 113)] {
+        let page = Page::open(Kind::Utf7Body, vec![b'A'; length], LIMIT, LIMIT).unwrap();
+        let file = page.keep().unwrap();
+        assert!(file.starts_with(start.as_bytes()));
+        assert_eq!(file.len(), 10 * length + rest);
+        assert_eq!(Page::read(&file, LIMIT, 0).unwrap().arrived(), page.arrived());
+    }
 }
 
 #[test]
@@ -222,7 +225,8 @@ fn what_is_no_page_file_is_refused() {
     assert_eq!(read(&[&file[..], b"\n"].concat()), refused(Refusal::BadPageFile, file.len()));
     let place = |line: usize| KEPT[..line].concat().len();
     let cases = [
-        (0, "form=2\n", 5),
+        (0, "form=3\n", 5),
+        (0, "form=2\n", 31),
         (1, "kind=utf7x\n", 9),
         (2, "opening=65537\n", 12),
         (3, "length=4\n", 8),

@@ -163,7 +163,12 @@ pub fn values_changed(filed: &Filed) -> Vec<Filed> {
         filed.with([&whole[..index].concat(), &line[..], &whole[index + 1..].concat()].concat())
     };
     let forms = ["1", "2", "3", "01", "02", "0", "utf7h", "utf7b", "jp2", "jp", "utf7", "UTF7H", "jp2 "];
-    let in_line = |index| forms.iter().chain(&VALUES).chain(&VALUES_2).map(move |value| with(index, value));
+    // Lists that would have to be as long as can be take long, and are tried elsewhere.
+    let is_long = |index, value: &str| matches!(index, 3 | 4) && ["1048575", "1048576"].contains(&value);
+    let in_line = |index| {
+        let values = forms.iter().chain(&VALUES).chain(&VALUES_2).filter(move |value| !is_long(index, value));
+        values.map(move |value| with(index, value))
+    };
     (0..whole.len()).flat_map(in_line).collect()
 }
 
@@ -255,20 +260,21 @@ pub fn with_words(kind: Kind) -> Vec<List> {
             let page = Page { kind: kind.number(), opening: 0, length, used, done, saved };
             let text = [vec![cell; length], vec![0; 9 - length]].concat();
             let start = State { page, text, history: [&history[..], &[0; 9]].concat() };
-            with_keepings(start, b"", vec![Call::Undo, Call::Redo])
+            let first = Call::Keep { arrived: vec![], room: 0 };
+            with_keepings(start, b"", vec![first, Call::Undo, Call::Redo])
         });
         lists.collect::<Vec<List>>()
     };
     [65_535, 65_536, 65_537, 65_538].into_iter().flat_map(stepped).collect()
 }
 
-/// These calls, with a keeping before the first and after each, and a reading of what was kept.
+/// These calls, with a keeping and a reading of what was kept after each.
 fn with_keepings(start: State, arrived: &[u8], moves: Vec<Call>) -> List {
     let (cells, words) = (start.text.len(), start.history.len());
     let keep = Call::Keep { arrived: arrived.to_vec(), room: 113 + 2 * arrived.len() + 8 * (cells + words) };
     let read = Move::Read(Reading { before: 0, arrived: arrived.len() + 1, cells, words });
     let turn = |call: Call| [Move::Call(call), Move::Call(keep.clone()), read.clone()];
-    List { start, moves: turn(keep.clone()).into_iter().skip(1).chain(moves.into_iter().flat_map(turn)).collect() }
+    List { start, moves: moves.into_iter().flat_map(turn).collect() }
 }
 
 /// Small files as they are, with a page that is not sound, with bytes that are not its own, with both, and with no
@@ -316,8 +322,8 @@ fn product(first: [(usize, usize); 5], second: [(usize, usize); 5], third: [(usi
     pairs.flat_map(|((_, one), (_, two))| third.map(|(_, three)| [one, two, three])).collect()
 }
 
-/// Files with as many arrived bytes, cells and words as can be, and with more; the longest also cut off, with a byte
-/// too many and with a wrong one near its end. They are made one by one, since they are long; of two kinds only those
+/// Files with as many arrived bytes, cells and words as can be, and with more; and one cut off, with a byte too many and
+/// with a wrong one near its end. They are made one by one, since they are long; of two kinds only those
 /// that are accepted are.
 pub fn at_limit(kind: Kind) -> impl Iterator<Item = Filed> {
     let all = kind == MOST_TRIED;
@@ -328,7 +334,7 @@ pub fn at_limit(kind: Kind) -> impl Iterator<Item = Filed> {
     };
     let whole = full(kind).into_iter().flat_map(in_rooms);
     let damaged = (0..if all { 3 } else { 0 }).map(move |change| {
-        let mut file = full(kind).swap_remove(1).file();
+        let mut file = content(kind, [0, 0, LIMIT, 0], None, 0, 0, &vec![0; LIMIT]).file();
         let end = file.len();
         match change {
             0 => file.truncate(end - 1),
@@ -337,7 +343,8 @@ pub fn at_limit(kind: Kind) -> impl Iterator<Item = Filed> {
         }
         Filed { file, rooms: [LIMIT; 3] }
     });
-    let over = (0..if all { OVER } else { 0 }).map(move |number| Filed { file: over(kind, number).file_in(FORM_2), rooms: [LIMIT; 3] });
+    let over = (0..if all { OVER } else { 0 })
+        .map(move |number| Filed { file: over(kind, number).file_in(FORM_2), rooms: [LIMIT; 3] });
     whole.chain(damaged).chain(over)
 }
 

@@ -181,7 +181,8 @@ fn second_form() -> Vec<Filed> {
     let with = |part: &str, other: &str| replaced(WORKED_2, part, other);
     let bad = |name, part, other, place| read(name, with(part, other), ROOMS, 18, place);
     let not_sound = |name, part, other| read(name, with(part, other), ROOMS, 14, 0);
-    let saved = |arrived: &str| WORKED_2.replace("saved=0000000", "saved=0065537").replace("412B496D49446B512E", arrived);
+    let saved =
+        |arrived: &str| WORKED_2.replace("saved=0000000", "saved=0065537").replace("412B496D49446B512E", arrived);
     vec![
         read("form 2 where form 1 was due", WORKED_2.as_bytes().to_vec(), ROOMS, 18, 115),
         bad("the form alone is another", "form=2", "form=1", 31),

@@ -133,7 +133,8 @@ mod tests {
 
     #[test]
     fn constants() {
-        let header = "#define LIMIT 1048576\n#define NEVER SIZE_MAX\nenum number { ACCEPTED = 0, /* b, c */ HIGH_BYTE = 1 };";
+        let header =
+            "#define LIMIT 1048576\n#define NEVER SIZE_MAX\nenum number { ACCEPTED = 0, /* b, c */ HIGH_BYTE = 1 };";
         let constants =
             ["constant LIMIT: 1048576", "constant NEVER: SIZE_MAX", "constant ACCEPTED: 0", "constant HIGH_BYTE: 1"];
         assert_eq!(read(header), constants);

@@ -404,7 +404,8 @@ mod tests {
             assert_eq!(number(state(0, 1_048_577), call.clone()), 16);
             assert_eq!(number(state(1_048_576, 1_048_576), call), 14);
         }
-        let asked = [(1_048_577, 0), (0, 1_048_577), (1_048_576, 1_048_576)].map(|(cells, words)| ask(&state(cells, words)));
+        let asked =
+            [(1_048_577, 0), (0, 1_048_577), (1_048_576, 1_048_576)].map(|(cells, words)| ask(&state(cells, words)));
         assert_eq!(asked.map(|asked| (asked.answer.number, asked.unchanged)), [(16, false), (16, false), (14, false)]);
         assert_eq!([replace(1_048_577), save(1_048_577)].map(|call| number(state(0, 0), call)), [16, 16]);
         assert_eq!([replace(1_048_576), save(1_048_576)].map(|call| number(state(0, 0), call)), [14, 14]);

@@ -189,20 +189,24 @@ fn begins_one(beginning: &[u8]) -> bool {
 
 /// Values for the line after these, of which the value there begins so many bytes. If it can be ended at all, then like
 /// one of them: forms, kinds and `none` have one end, the smallest number has zeros for the missing digits, and any
-/// digits do in a list, as many as its length asks for, or one where a pair of arrived bytes lacks it. Where form 2 is
-/// due by no number, it is by the arrived length.
+/// digits do in a list, as many as its length asks for, or one where a pair of arrived bytes lacks it. Form 2 may be due
+/// by a mark, and where it is by no number, it is by the arrived length. Nothing follows a number that is none.
 fn values(before: &[&[u8]], begun: usize) -> Vec<String> {
     let form = if before.first().is_some_and(|line| line.ends_with(FORM_2.name.as_bytes())) { FORM_2 } else { FORM_1 };
     let number_in = |line: usize| {
         let (_, digits) = std::str::from_utf8(before[line]).ok()?.split_once('=')?;
-        digits.parse().ok().filter(|&number: &usize| number <= LIMIT)
+        digits.parse().ok().filter(|&number: &usize| digits.len() == form.digits && number <= LIMIT)
     };
+    if !(2..before.len().min(6)).all(|line| number_in(line).is_some()) {
+        return vec![];
+    }
     let zeros = |count: usize| "0".repeat(count);
     let is_due = (2..before.len()).any(|line| number_in(line).is_some_and(|number| number > MOST_IN_FORM_1));
     let least = if form == FORM_2 && !is_due { 2 * MOST_IN_FORM_1 + 2 } else { 0 };
     match KEYS[before.len()] {
         "form" => [FORM_1, FORM_2].map(|form| form.name.to_string()).to_vec(),
         "kind" => KINDS.map(|(name, _)| name.to_string()).to_vec(),
+        "saved" if form == FORM_2 && !is_due => vec!["0065537".to_string(), zeros(7), "none".to_string()],
         "saved" => vec![zeros(form.digits), "none".to_string()],
         "arrived" => vec![zeros(begun.next_multiple_of(2).max(least))],
         "text" => vec![zeros(8 * number_in(3).unwrap_or(0))],

@@ -6,6 +6,7 @@ use super::{name, on_both_sides, WHAT};
 use crate::formats::Format;
 use crate::guarded::Guarded;
 use crate::lent::{filled, Element};
+use crate::library::compare::Comparer;
 use crate::library::{self, Function, JP2_TALLY};
 use crate::report::Report;
 use crate::rng::Rng;
@@ -25,6 +26,22 @@ pub fn read(report: &mut Report, format: &Format, function: &Function<u8, u32>, 
 pub fn write(report: &mut Report, format: &Format, function: &Function<u32, u8>, settings: Settings) {
     run(report, function, lists(format.source, settings));
     report.expect_statuses(function.name, &[0, 9, 10, 16]);
+}
+
+/// Compares each text with itself and with its first half, in both orders.
+pub fn compare(report: &mut Report, format: &Format, comparer: &Comparer, settings: Settings) {
+    let (mut first, mut second) = (Guarded::new(), Guarded::new());
+    report.check(&name(comparer.name), WHAT, |_| {
+        try_all(texts(format.source, settings), |text: &Vec<u8>| {
+            let half = &text[..text.len() / 2];
+            for (one, two) in [(&text[..], &text[..]), (text, half), (half, text)] {
+                let compared =
+                    on_both_sides(|side| comparer.call(first.lend_to_read(one, side), second.lend_to_read(two, side)));
+                compared.and_then(|compared| compared)?;
+            }
+            Ok(())
+        })
+    });
 }
 
 pub fn tally(report: &mut Report, format: &Format, settings: Settings) {

@@ -10,6 +10,7 @@ mod steps;
 use crate::fault;
 use crate::formats::{self, Format};
 use crate::guarded::Side;
+use crate::library::compare::{self, Comparer};
 use crate::library::steps::Cursor;
 use crate::library::{self, Functions};
 use crate::parts::Part;
@@ -18,9 +19,9 @@ use crate::settings::Settings;
 /// A part for each format, for the plain reader, for the tally and for the page, and one for all on a small stack.
 pub fn parts(settings: Settings) -> Vec<Part> {
     vec![
-        of_format(formats::utf7, &library::UTF7, settings),
-        of_format(formats::jp2, &library::JP2, settings),
-        of_format(formats::mailbox, &library::MAILBOX, settings),
+        of_format(formats::utf7, &library::UTF7, &compare::UTF7, settings),
+        of_format(formats::jp2, &library::JP2, &compare::JP2, settings),
+        of_format(formats::mailbox, &library::MAILBOX, &compare::MAILBOX, settings),
         Part::new("memory-jp2-plain", move |report| {
             lists::read(report, &formats::jp2(), &library::JP2_PLAIN_READ, settings);
         }),
@@ -30,11 +31,17 @@ pub fn parts(settings: Settings) -> Vec<Part> {
     ]
 }
 
-fn of_format<C: Cursor>(format: fn() -> Format, library: &'static Functions<C>, settings: Settings) -> Part {
+fn of_format<C: Cursor>(
+    format: fn() -> Format,
+    library: &'static Functions<C>,
+    comparer: &'static Comparer,
+    settings: Settings,
+) -> Part {
     Part::new(format!("memory-{}", format().name), move |report| {
         let format = format();
         lists::read(report, &format, &library.read, settings);
         steps::run(report, &format, &library.step, settings);
+        lists::compare(report, &format, comparer, settings);
         for function in library.write {
             lists::write(report, &format, function, settings);
         }

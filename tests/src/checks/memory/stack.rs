@@ -11,6 +11,7 @@ use crate::calls::files::{self, Filed};
 use crate::calls::{limit, seeded, squeezes, List, Move};
 use crate::fault;
 use crate::formats::{self, Format};
+use crate::library::compare::{self, Comparer};
 use crate::library::page as library_page;
 use crate::library::page_file::{self, READ};
 use crate::library::steps::Cursor;
@@ -37,9 +38,9 @@ const ROUNDS: usize = 50;
 
 pub fn run(report: &mut Report, seed: u64) {
     let mut called = Vec::new();
-    called.extend(of_format(report, &formats::utf7(), &library::UTF7, seed));
-    called.extend(of_format(report, &formats::jp2(), &library::JP2, seed));
-    called.extend(of_format(report, &formats::mailbox(), &library::MAILBOX, seed));
+    called.extend(of_format(report, &formats::utf7(), &library::UTF7, &compare::UTF7, seed));
+    called.extend(of_format(report, &formats::jp2(), &library::JP2, &compare::JP2, seed));
+    called.extend(of_format(report, &formats::mailbox(), &library::MAILBOX, &compare::MAILBOX, seed));
     called.push(list_call(report, &JP2_PLAIN_READ, texts(formats::jp2().source, seed), 1));
     called.push(tally(report, formats::jp2().source, seed));
     called.extend(of_page(report, seed));
@@ -77,7 +78,13 @@ fn try_in_thread<I: Input + Send>(
 }
 
 /// The functions of a format.
-fn of_format<C: Cursor>(report: &mut Report, format: &Format, library: &Functions<C>, seed: u64) -> Vec<String> {
+fn of_format<C: Cursor>(
+    report: &mut Report,
+    format: &Format,
+    library: &Functions<C>,
+    comparer: &Comparer,
+    seed: u64,
+) -> Vec<String> {
     let step = &library.step;
     let walk = |text: &Vec<u8>| {
         let mut last = (step.step)(text, (step.start)());
@@ -89,6 +96,9 @@ fn of_format<C: Cursor>(report: &mut Report, format: &Format, library: &Function
     let mut called = vec![step.name.replace("_step", "_start")];
     called.push(try_in_thread(report, step.name, texts(source, seed), walk));
     called.push(list_call(report, &library.read, texts(source, seed), 1));
+    called.push(try_in_thread(report, comparer.name, texts(source, seed), |text: &Vec<u8>| {
+        let _ = [comparer.call(text, text), comparer.call(text, &text[..text.len() / 2])];
+    }));
     called.extend(library.write.iter().map(|write| list_call(report, write, lists(source, seed), 7)));
     called
 }
