@@ -219,7 +219,8 @@ const std::vector<TextKind> &text_kinds() {
 
 const std::vector<TextSize> &text_sizes() {
     static const std::vector<TextSize> sizes = {
-        {"200", 200}, {"1K", 1 << 10}, {"4K", 1 << 12}, {"16K", 1 << 14}, {"64K", 1 << 16}, {"1M", 1 << 20},
+        {"200", 200}, {"1K", 1 << 10}, {"4K", 1 << 12}, {"16K", 1 << 14}, {"64K", 1 << 16}, {"256K", 1 << 18},
+        {"1M", 1 << 20},
     };
     return sizes;
 }

@@ -26,22 +26,31 @@ std::vector<size_t> spread(size_t steps);
 // On all of so many cells, in an order without order.
 std::vector<size_t> scattered(size_t cells);
 
-// A page with both buffers at the limit, and the steps that stand on it: each puts one cell for one. The arrived text is
-// ASCII: only single bytes fill 65,536 cells from 65,536 bytes.
+// A page with buffers of one length, and the steps that stand on it: each puts one cell for one. The arrived text is
+// ASCII: only single bytes fill as many cells as there are bytes.
 struct Desk {
     const PageKind *kind;
+    size_t room;
     Bytes arrived, out;
     Cells text, history, work;
     qalithonda_page page;
     size_t last = 0; // the place of the last step
 
-    Desk(const PageKind &the_kind, size_t length, const std::vector<size_t> &places)
-        : kind(&the_kind), arrived(length, 'a'), out(6 * LIMIT + 3), text(LIMIT), history(LIMIT), work(LIMIT) {
+    Desk(const PageKind &the_kind, size_t length, const std::vector<size_t> &places, size_t the_room = LIMIT)
+        : kind(&the_kind), room(the_room), arrived(length, 'a'), out(6 * room + 3), text(room), history(room), work(room) {
         page = open().page;
-        for (const size_t place : places) {
-            last = place;
-            page = replace(page, last, 1, kind->second).page;
-        }
+        if (places.empty()) return;
+        last = places.back();
+        for (size_t i = 0; i + 1 < places.size(); i++) put_down(places[i]);
+        page = replace(page, last, 1, kind->second).page;
+    }
+
+    // Puts a step down by hand, since a call for each of many takes long. The call for the last judges them all.
+    void put_down(size_t place) {
+        const uint32_t record[] = {uint32_t(place), 1, 1, text[place], kind->second};
+        std::copy(record, record + 5, history.begin() + long(page.used));
+        text[place] = kind->second;
+        page.done = page.used += 5;
     }
 
     static qalithonda_edited accepted(qalithonda_edited e, const char *call) {
@@ -50,19 +59,19 @@ struct Desk {
     }
 
     qalithonda_edited open() {
-        return accepted(kind->open(arrived.data(), arrived.size(), text.data(), LIMIT, history.data(), LIMIT), "open");
+        return accepted(kind->open(arrived.data(), arrived.size(), text.data(), room, history.data(), room), "open");
     }
 
     qalithonda_edited replace(qalithonda_page on, size_t place, size_t count, uint32_t cell) {
-        return accepted(qalithonda_replace(on, place, count, &cell, 1, text.data(), LIMIT, history.data(), LIMIT), "replace");
+        return accepted(qalithonda_replace(on, place, count, &cell, 1, text.data(), room, history.data(), room), "replace");
     }
 
     qalithonda_edited back(qalithonda_page on) {
-        return accepted(qalithonda_undo(on, text.data(), LIMIT, history.data(), LIMIT), "undo");
+        return accepted(qalithonda_undo(on, text.data(), room, history.data(), room), "undo");
     }
 
     qalithonda_edited forth(qalithonda_page on) {
-        return accepted(qalithonda_redo(on, text.data(), LIMIT, history.data(), LIMIT), "redo");
+        return accepted(qalithonda_redo(on, text.data(), room, history.data(), room), "redo");
     }
 
     qalithonda_edited undo(qalithonda_page on) {
@@ -79,7 +88,7 @@ struct Desk {
 
     void squeeze(size_t steps) {
         const auto squeezed = accepted(
-            qalithonda_squeeze(page, steps, text.data(), LIMIT, history.data(), LIMIT, work.data(), LIMIT), "squeeze");
+            qalithonda_squeeze(page, steps, text.data(), room, history.data(), room, work.data(), room), "squeeze");
         const auto added = work.begin() + 3 + long(page.opening), end = added + long(page.length);
         if (squeezed.page.used != page.used - 5 * steps + size_t(end - work.begin()) ||
             size_t(std::count(added, end, kind->second)) != steps)
@@ -87,7 +96,7 @@ struct Desk {
     }
 
     void save() {
-        const auto answer = accepted(qalithonda_save(page, text.data(), LIMIT, history.data(), LIMIT, arrived.data(),
+        const auto answer = accepted(qalithonda_save(page, text.data(), room, history.data(), room, arrived.data(),
                                                      arrived.size(), out.data(), out.size()),
                                      "save")
                                 .answer;

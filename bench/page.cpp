@@ -24,8 +24,8 @@ static Row row(SharedDesk desk, const std::string &size, const std::string &call
     return {{desk->kind->name, size, call, bytes, desk->page.length}, {{"ours", std::move(ours)}, plain_pass(desk)}};
 }
 
-// The middle of the page, where no step of Desk falls.
-constexpr size_t MIDDLE = LIMIT / 2 + 1;
+// The middle of the page, where no step of Desk falls: rooms are powers of 2.
+static size_t middle(const Desk &desk) { return desk.room / 2 + 1; }
 
 static Row opening(const Desk &made, const std::string &size) {
     SharedDesk desk = copy_of(made);
@@ -35,9 +35,9 @@ static Row opening(const Desk &made, const std::string &size) {
 // One cell for one in the middle.
 static Row replacing(const Desk &made, const std::string &size) {
     SharedDesk desk = copy_of(made);
-    return row(desk, size, "replace", [desk] {
-        desk->replace(desk->page, MIDDLE, 1, desk->kind->second);
-        desk->take_off(MIDDLE, desk->kind->first);
+    return row(desk, size, "replace", [desk, place = middle(made)] {
+        desk->replace(desk->page, place, 1, desk->kind->second);
+        desk->take_off(place, desk->kind->first);
     });
 }
 
@@ -76,8 +76,8 @@ static Row saving(const Desk &made, const std::string &size) {
     return row(desk, size, "save", [desk] { desk->save(); });
 }
 
-// The oldest half of 10,000 steps.
-constexpr size_t OLDEST = 5000;
+// The oldest half of 10,000 steps, in buffers of so many.
+constexpr size_t OLDEST = 5000, SQUEEZED = 1 << 16;
 
 // The history is put back by hand before each call.
 static std::function<void()> one_squeeze(SharedDesk desk, SharedDesk first) {
@@ -100,7 +100,7 @@ static std::function<void()> one_by_one(SharedDesk desk) {
 }
 
 static Row squeezing(const PageKind &kind) {
-    const Desk made(kind, 2 * OLDEST, scattered(2 * OLDEST));
+    const Desk made(kind, 2 * OLDEST, scattered(2 * OLDEST), SQUEEZED);
     const size_t bytes = 4 * (made.page.length + made.page.used);
     return {{kind.name, "10000 steps", "squeeze 5000", bytes, made.page.length},
             {{"ours", one_squeeze(copy_of(made), copy_of(made))},
@@ -108,18 +108,29 @@ static Row squeezing(const PageKind &kind) {
              {"one undo", one_undo(copy_of(made))}}};
 }
 
+// The calls on a page of so many cells in buffers of so many, of which its steps fill half the history.
+static std::vector<Row> sized(const PageKind &kind, const std::string &size, size_t room) {
+    const Desk none(kind, room, {}, room), many(kind, room, spread(room / 10), room);
+    std::vector<Row> rows = {opening(none, size), replacing(many, size), undoing(many, size), redoing(many, size),
+                             saving(many, size)};
+    for (Row &row : rows) row.parties[1].name = "sized pass";
+    return rows;
+}
+
 std::vector<Row> page_rows() {
     std::vector<Row> rows;
     for (const PageKind &kind : KINDS) {
-        const Desk none(kind, LIMIT, {}), one(kind, LIMIT, spread(1)), many(kind, LIMIT, spread(10000));
+        const Desk none(kind, LIMIT, {}), one(kind, LIMIT, spread(1)), many(kind, LIMIT, spread(100000));
         const Desk shorter(kind, LIMIT - 1, {});
         for (const Row &row : {
                  opening(none, "0 steps"), saving(none, "0 steps"), replacing(none, "0 steps"), putting_in(shorter, "0 steps"),
-                 undoing(one, "1 step"), redoing(one, "1 step"), saving(one, "1 step"), replacing(many, "10000 steps"),
-                 undoing(many, "10000 steps"), redoing(many, "10000 steps"), saving(many, "10000 steps"),
+                 undoing(one, "1 step"), redoing(one, "1 step"), saving(one, "1 step"), replacing(many, "100000 steps"),
+                 undoing(many, "100000 steps"), redoing(many, "100000 steps"), saving(many, "100000 steps"),
                  squeezing(kind),
              })
             rows.push_back(row);
+        for (const auto &[size, room] : {std::pair("64K", size_t(1) << 16), {"256K", size_t(1) << 18}, {"1M", LIMIT}})
+            for (const Row &row : sized(kind, size, room)) rows.push_back(row);
     }
     return rows;
 }

@@ -4,11 +4,11 @@
 
 // Room for any file: two digits a byte, eight a word, and the ten lines.
 static size_t file_room(const Desk &desk) {
-    return 2 * desk.arrived.size() + 8 * (desk.page.length + desk.page.used) + 103;
+    return 2 * desk.arrived.size() + 8 * (desk.page.length + desk.page.used) + 113;
 }
 
 static size_t keep(const Desk &desk, Bytes &file) {
-    const auto answer = qalithonda_page_keep(desk.page, desk.text.data(), LIMIT, desk.history.data(), LIMIT,
+    const auto answer = qalithonda_page_keep(desk.page, desk.text.data(), desk.room, desk.history.data(), desk.room,
                                              desk.arrived.data(), desk.arrived.size(), file.data(), file.size());
     if (answer.number != 0) fail("page_keep: number " + std::to_string(answer.number));
     return answer.place;
@@ -16,7 +16,7 @@ static size_t keep(const Desk &desk, Bytes &file) {
 
 static void read_back(const Bytes &file, Desk &desk) {
     desk.page = Desk::accepted(qalithonda_page_read(file.data(), file.size(), desk.arrived.data(), desk.arrived.size(),
-                                                    desk.text.data(), LIMIT, desk.history.data(), LIMIT),
+                                                    desk.text.data(), desk.room, desk.history.data(), desk.room),
                                "page_read")
                     .page;
 }
@@ -61,7 +61,7 @@ static void take_lists(const uint8_t *from, Desk &desk) {
 // ---- The rows
 
 static Task task_of(const Desk &made, const std::string &call, size_t bytes) {
-    return {made.kind->name, "10000 steps", call, bytes, made.page.length};
+    return {made.kind->name, "100000 steps", call, bytes, made.page.length};
 }
 
 // A desk with the same page, and nothing in its lists.
@@ -100,7 +100,7 @@ static Row reading(const Desk &made) {
 std::vector<Row> page_file_rows() {
     std::vector<Row> rows;
     for (const PageKind &kind : KINDS) {
-        const Desk made(kind, LIMIT, spread(10000));
+        const Desk made(kind, LIMIT, spread(100000));
         rows.push_back(keeping(made));
         rows.push_back(reading(made));
     }

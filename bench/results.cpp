@@ -116,8 +116,23 @@ Table page_table(const std::vector<Measured> &all) {
         table.lines.push_back({m.task.subject, m.task.size, m.task.call, fixed(median(ours.seconds) * 1e6, 1),
                                fixed(median(pass->seconds) * 1e6, 1), shown(faster_by(ours, *pass))});
     }
-    table.notes = {"65,536 cells of ASCII (put in: 65,535) and a history of 65,536 words; a step puts one cell for one.",
+    table.notes = {"1,048,576 cells of ASCII (put in: one fewer) and a history of 1,048,576 words; a step puts one cell for one.",
                    "The plain pass sums the text and the used history. Our calls also see to it that all past the ends is 0."};
+    return table;
+}
+
+Table growth_table(const std::vector<Measured> &all) {
+    Table table{"The page, by size", {"kind", "call", "size", "ours µs", "ns a cell", "plain pass µs", "ours/pass"}, {}, {}};
+    for (const Measured &m : all) {
+        const Timed *pass = times_of(m.timed, "sized pass");
+        if (!pass) continue;
+        const Timed &ours = *times_of(m.timed, "ours");
+        table.lines.push_back({m.task.subject, m.task.call, m.task.size, fixed(median(ours.seconds) * 1e6, 1),
+                               fixed(median(ours.seconds) * 1e9 / double(m.task.cells), 3),
+                               fixed(median(pass->seconds) * 1e6, 1), shown(faster_by(ours, *pass))});
+    }
+    table.notes = {"A page that fills buffers of so many cells and words, with a step for every ten cells; opened without.",
+                   "Where the cost grows with the text and not faster, the nanoseconds of a cell stay."};
     return table;
 }
 
@@ -149,7 +164,7 @@ Table page_file_table(const std::vector<Measured> &all) {
         table.lines.push_back({m.task.subject, m.task.call, std::to_string(m.task.bytes), speed(m.task.bytes, ours),
                                speed(m.task.bytes, *hex), shown(faster_by(ours, *hex))});
     }
-    table.notes = {"A page of 65,536 cells with 10,000 steps, its arrived bytes and its steps in one file.",
+    table.notes = {"A page of 1,048,576 cells with 100,000 steps, its arrived bytes and its steps in one file.",
                    "The hex copy is a plain loop that puts the lists' digits, or takes them without judging any."};
     return table;
 }

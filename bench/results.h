@@ -21,6 +21,7 @@ Table writing_table(const std::vector<Measured> &all);
 Table stepping_table(const std::vector<Measured> &all);
 Table limit_table(const std::vector<Measured> &all);
 Table page_table(const std::vector<Measured> &all);
+Table growth_table(const std::vector<Measured> &all);
 Table squeeze_table(const std::vector<Measured> &all);
 Table page_file_table(const std::vector<Measured> &all);
 
