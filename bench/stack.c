@@ -52,6 +52,9 @@ static void mailbox_write(void) { qalithonda_mailbox_write(cells, count, out, si
 static void utf7_step(void) { qalithonda_utf7_step(letter, size, qalithonda_utf7_start()); }
 static void jp2_step(void) { qalithonda_jp2_step(letter, size, qalithonda_jp2_start()); }
 static void mailbox_step(void) { qalithonda_mailbox_step(letter, size, qalithonda_mailbox_start()); }
+static void utf7_compare(void) { qalithonda_utf7_compare(letter, size, letter, size); }
+static void jp2_compare(void) { qalithonda_jp2_compare(letter, size, letter, size); }
+static void mailbox_compare(void) { qalithonda_mailbox_compare(letter, size, letter, size); }
 static void utf7_header_open(void) { page = qalithonda_utf7_header_open(letter, size, text, LIMIT, history, LIMIT).page; }
 static void utf7_body_open(void) { page = qalithonda_utf7_body_open(letter, size, text, LIMIT, history, LIMIT).page; }
 static void jp2_open(void) { page = qalithonda_jp2_open(letter, size, text, LIMIT, history, LIMIT).page; }
@@ -76,11 +79,11 @@ static const char NAME[] = "in &ZeVnLIqe- box ";
 
 static const call calls[] = {
     {"utf7_read", UTF7, utf7_read}, {"utf7_header_write", UTF7, utf7_header_write},
-    {"utf7_body_write", UTF7, utf7_body_write}, {"utf7_start, utf7_step", UTF7, utf7_step},
+    {"utf7_body_write", UTF7, utf7_body_write}, {"utf7_start, utf7_step", UTF7, utf7_step}, {"utf7_compare", UTF7, utf7_compare},
     {"jp2_read", JP2, jp2_read}, {"jp2_plain_read", JP2, jp2_plain_read}, {"jp2_write", JP2, jp2_write},
-    {"jp2_tally", JP2, jp2_tally}, {"jp2_start, jp2_step", JP2, jp2_step},
+    {"jp2_tally", JP2, jp2_tally}, {"jp2_start, jp2_step", JP2, jp2_step}, {"jp2_compare", JP2, jp2_compare},
     {"mailbox_read", NAME, mailbox_read}, {"mailbox_write", NAME, mailbox_write},
-    {"mailbox_start, mailbox_step", NAME, mailbox_step},
+    {"mailbox_start, mailbox_step", NAME, mailbox_step}, {"mailbox_compare", NAME, mailbox_compare},
     {"utf7_header_open", UTF7, utf7_header_open}, {"utf7_body_open", UTF7, utf7_body_open},
     {"save, nothing standing", UTF7, save}, {"replace", UTF7, replace}, {"replace again", UTF7, replace},
     {"undo", UTF7, undo}, {"redo", UTF7, redo}, {"save", UTF7, save}, {"squeeze", UTF7, squeeze},
