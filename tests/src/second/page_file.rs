@@ -88,7 +88,8 @@ impl Content {
         let saved = saved.map_or("none".to_string(), decimal);
         let arrived = hex(self.arrived.iter().map(|&byte| byte.into()), 2);
         let values = [form.name.to_string(), kind.to_string(), opening, length, used, done, saved, arrived];
-        KEYS.iter().zip(values).flat_map(|(key, value)| format!("{key}={value}\n").into_bytes()).collect()
+        let lines: Vec<String> = KEYS.iter().zip(values).map(|(key, value)| format!("{key}={value}\n")).collect();
+        lines.concat().into_bytes()
     }
 
     /// What stands in a file: each value is read as if it were one that can be there.
@@ -139,8 +140,9 @@ fn hex(numbers: impl Iterator<Item = u32>, width: u32) -> String {
 
 /// The numbers that groups of so many hex digits stand for.
 fn numbers(digits: &str, width: usize) -> Option<Vec<u32>> {
-    let groups = digits.as_bytes().chunks(width).map(std::str::from_utf8);
-    groups.map(|group| u32::from_str_radix(group.ok()?, 16).ok()).collect()
+    let starts = (0..digits.len()).step_by(width);
+    let groups = starts.map(|start| digits.get(start..digits.len().min(start + width)));
+    groups.map(|group| u32::from_str_radix(group?, 16).ok()).collect()
 }
 
 /// What a file has, if it is a page file.

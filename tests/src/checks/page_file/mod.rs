@@ -65,9 +65,11 @@ fn check_files(report: &mut Report, kind: Kind, seed: u64) {
     let lines = small.iter().flat_map(files::lines_moved).chain(files::lines_mixed(&small));
     check("lines", "lines left out, doubled, swapped, and of other files", &mut { lines });
     let in_form_2 = files::small_in_form_2(kind);
-    let values = small.iter().chain(&in_form_2).flat_map(files::values_changed);
+    // In the last of these form 2 is not due, and where they fail is found slowly.
+    let due = &in_form_2[..2];
+    let values = small.iter().chain(due).flat_map(files::values_changed);
     check("values", "other values in each line", &mut { values });
-    let of_form_2 = in_form_2.iter().flat_map(|filed| files::bytes_changed(filed, files::TELLING).step_by(3));
+    let of_form_2 = due.iter().flat_map(|filed| files::bytes_changed(filed, files::TELLING).step_by(5));
     let of_form_2 = of_form_2.chain(in_form_2.iter().flat_map(files::beginnings));
     check("form-2", "small files in form 2, with bytes changed and cut off", &mut { of_form_2 });
     let what = "each number at the bounds of the forms and beside them, in both forms";
