@@ -18,7 +18,6 @@ use Rattle.answer.proofs.Once.{number-pos}
 use Rattle.reading.specs.Reading.{Ending, accepted, fault, onEnding, reading, readInto}
 use Rattle.reading.proofs.Laws.{SoundEnd, good-reading}
 use Rattle.reading.proofs.Filling.{few-cells}
-use Rattle.codec.specs.Kinds.{bytesPerCell, bytesAtEnd, mostBytes}
 use Rattle.ledger.specs.Page.{State}
 use Rattle.ledger.specs.Calls.{replaceOf, squeezeOf}
 use Rattle.ledger.specs.Ledger.{Call}
@@ -28,6 +27,7 @@ use Rattle.commands.proofs.Words.{stretch-most, end-within}
 use Rattle.commands.proofs.Kept.{numbers-kept}
 use Rattle.commands.specs.declared.Said.{Said}
 use Rattle.commands.specs.declared.Verb.the-variants.{Replace}
+use Rattle.desk_lines.specs.Desk.{lineRoom, historyRoom, fileRoom}
 use Rattle.desk_lines.specs.Desk.{replacing, workRoom, squeezing, room, saving, asked, afterCall}
 use Rattle.desk_lines.specs.Desk.{Desk, begun, afterCommand, afterLine}
 
@@ -73,21 +73,17 @@ module _ (out o : List ℕ) where
   refused-by (fault k p) cells why place room q = refl
 
 -- the room that the desk has for them
-as-many : (n : ℕ) → limit ≤ n → limit ≤ length {A = ℕ} (replicate n 0)
-as-many n h = omega (arith, length-replicate {A = ℕ} n 0)
-
-pub wide-room : limit ≤ length {A = ℕ} (replicate 65536 0)
-unfolding limit
-wide-room = as-many 65536 (omega arith)
+pub wide-room : lineRoom ≤ length {A = ℕ} (replicate lineRoom 0)
+wide-room = omega (arith, length-replicate {A = ℕ} lineRoom 0)
 
 -- a line's numbers, read into an output with room for as many as a line has bytes
-module _ (words out o : List ℕ) (short : length words ≤ limit) (wide : limit ≤ length out) where
+module _ (words out o : List ℕ) (short : length words ≤ lineRoom) (wide : lineRoom ≤ length out) where
   fits : length (reading (numbers 2) words .cells) ≤ length out
   fits = omega (arith, few-cells (numbers 2) words)
 
   by : (v : Outcome) → v ≡ readInto (numbers 2) words out → v ≡ onEnding (reading (numbers 2) words .ending) (reading (numbers 2) words .cells) out
-  unfolding readInto
-  by v q = rw (le-ltb limit (length words) short) at q
+  unfolding readInto limit
+  by v q = rw (le-ltb limit (length words) (omega (arith, short))) at q
 
   module _ {a : Answer} (q : leaves a o ≡ readInto (numbers 2) words out) where
     module _ {m n : ℕ} (e : a ≡ Accepted m) (k : n ≡ inNumbers a .place) where
@@ -96,7 +92,7 @@ module _ (words out o : List ℕ) (short : length words ≤ limit) (wide : limit
           let s : n ≡ m = k ∙ ap (λ (x : Answer). inNumbers x .place) e in
           rw s (accepted-by out o (reading (numbers 2) words .ending) (reading (numbers 2) words .cells) m (good-reading (numbers-kept 2) words .1) fits (rw e at (by _ q)))
 
-      pub found-few : n ≤ limit
+      pub found-few : n ≤ lineRoom
       found-few = omega (arith, known .0, few-cells (numbers 2) words)
 
       pub found-all : replacing accepted (take n o) ≡ asked none Replace words
@@ -117,20 +113,12 @@ module _ (s : State) {read : Outcome} {a : Answer} {found : List ℕ} (q : leave
   squeezes-none {why} e = rw (← q, e, ne-eqb (numberOf why) 0 (λ z. omega (arith, number-pos why)))
 
 -- the work buffer that it is lent
-pub whole : 65536 ≡ limit
-unfolding limit
-whole = refl
-
-pub zeros-work : (n : ℕ) → n ≡ limit → replicate n 0 ≡ workRoom
+pub zeros-work : (n : ℕ) → n ≡ historyRoom → replicate n 0 ≡ workRoom
 unfolding workRoom
 zeros-work n e = ap (λ (k : ℕ). replicate k 0) e
 
 -- the output that a save is lent
-pub most : 393219 ≡ mostBytes
-unfolding mostBytes bytesPerCell bytesAtEnd limit
-most = refl
-
-pub zeros-room : (n : ℕ) → n ≡ mostBytes → replicate n 0 ≡ room
+pub zeros-room : (n : ℕ) → n ≡ fileRoom → replicate n 0 ≡ room
 unfolding room
 zeros-room n e = ap (λ (k : ℕ). replicate k 0) e
 

@@ -1,6 +1,6 @@
 -- The desk keeps demand 3, from run to run where a page is kept: its lines are a list of calls on its page. And a line
 -- leaves it only where the ledger calls the page saved, or the last command was a `quit` too. Assumes nothing.
-use Prim.Native.Nat.{ℕ}
+use Prim.Native.Nat.{ℕ, _≤_}
 use mathlib.Core.Path.{_≡_, refl, sym, ap, _∙_, subst₂}
 use mathlib.Core.Bool.{Bool, true, false, _&&_, _||_, false≢true}
 use mathlib.Core.List.{List, [], _∷_, _++_, map}
@@ -8,7 +8,7 @@ use mathlib.Core.Option.{Option, none, some}
 use native.Mathlib.Omega.{arith}
 use lib.ListN.{length, take, drop}
 use lib.Seq.{take-append-seam}
-use lib.Dec.{eqb}
+use lib.Dec.{eqb, lit≤}
 use borrow.Author.Tests.{eq-eqb, ltb-false}
 use Rattle.answer.specs.Answer.{limit}
 use Rattle.answer.specs.Output as output
@@ -35,7 +35,7 @@ use Rattle.commands.specs.declared.Verb.{Verb}
 use Rattle.commands.specs.declared.Verb.the-variants.{Nothing, Show, Replace, Undo, Redo, Save, Quit}
 use Rattle.commands.specs.declared.Verb.the-variants.{Squeeze, Keep, Unknown}
 use Rattle.desk_lines.specs.Desk.{Desk, begun, free, leaving, Came, callIn, afterCall, afterLine, afterLines}
-use Rattle.desk_lines.specs.Desk.{withCall, callsIn}
+use Rattle.desk_lines.specs.Desk.{historyRoom, withCall, callsIn}
 use Rattle.desk_lines.specs.Desk.{Turn, obeys, passes, waits, Turns, none-yet, then}
 use Rattle.desk_lines.specs.Runs.{Put, Reached, opens, works, resumes, Demand3}
 use Rattle.desk_lines.specs.Demand.{Keeps, Left}
@@ -116,15 +116,22 @@ module _ {letter : List ℕ} {s : State} {l : Ledger} (h : Holds letter s l) whe
         let t = rw ok at (together letter held (restore 0 arrived text history ∷ [])) in
         (t .now, t .same-bytes)
 
+  short-text : length (s .text) ≤ limit
+  short-text = ltb-false limit (length (s .text)) (or-parts (over (s .text)) (over (s .history)) (page-lays .short (h .kept .lies)) .0)
+
+  short-history : length (s .history) ≤ limit
+  short-history =
+      ltb-false limit (length (s .history)) (or-parts (over (s .text)) (over (s .history)) (page-lays .short (h .kept .lies)) .1)
+
   room-for :
-      (arrived text history : List ℕ) → length arrived ≡ limit → length text ≡ limit → length history ≡ limit →
+      (arrived text history : List ℕ) → length arrived ≡ limit → length text ≡ limit →
+      length (s .history) ≤ length history → length history ≤ limit →
       RoomFor s letter arrived text history
-  room-for arrived text history a t w =
-      let q = or-parts (over (s .text)) (over (s .history)) (page-lays .short (h .kept .lies)) in
+  room-for arrived text history a t w few =
       record {
         for-arrived = (omega (arith, h .kept .good .few, a), omega (arith, a));
-        for-text = (omega (arith, ltb-false limit (length (s .text)) (q .0), t), omega (arith, t));
-        for-history = (omega (arith, ltb-false limit (length (s .history)) (q .1), w), omega (arith, w));
+        for-text = (omega (arith, short-text, t), omega (arith, t));
+        for-history = (w, few);
       }
 
   -- lines are a list of actions
@@ -133,6 +140,10 @@ module _ {letter : List ℕ} {s : State} {l : Ledger} (h : Holds letter s l) whe
       let q = calls-alone s letter l (callsIn letter lines) in
       rw (lines-call letter s lines)
       (subst₂ (Together letter) (q .0) (q .1) (together letter alone (map books.call (callsIn letter lines))) .now)
+
+desk-history : historyRoom ≤ limit
+unfolding limit
+desk-history = lit≤ tt
 
 -- a page that runs of desk lead to is the one that its ledger determines
 reached-holds : {kind : Kind} {letter : List ℕ} {s : State} {l : Ledger} → Reached kind letter s l → Holds letter s l
@@ -149,7 +160,10 @@ runs-on kind letter s l r =
       keeps = g .keeps;
       reads = λ file put arrived text history room.
           ap taken (ap (readOf arrived text history) (put-is h put) ∙ g .restores arrived text history room);
-      room = room-for h;
+      room = λ arrived text history a t w.
+          room-for h arrived text history a t (omega (arith, short-history h, w)) (omega (arith, w));
+      desk-room = λ arrived text history a t few w.
+          room-for h arrived text history a t (omega (arith, few, w)) (omega (arith, w, desk-history));
       letter-back = λ file put arrived text history ok. read h put arrived text history ok .1;
     }
 

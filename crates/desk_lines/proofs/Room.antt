@@ -1,5 +1,5 @@
 -- A squeeze at the desk is never refused with 9: its record is judged for 19 first, so it has fewer words than those
--- that it stands for, and the work buffer is as long as a history may be. Assumes nothing.
+-- that it stands for, and the work buffer is as long as the desk's history. Assumes nothing.
 use Prim.Native.Nat.{ℕ, _-_, _≤_}
 use mathlib.Core.Path.{_≡_, refl, ap}
 use mathlib.Core.Bool.{false, _||_}
@@ -9,14 +9,12 @@ use native.Mathlib.Omega.{arith}
 use lib.ListN.{length, length-replicate, take-append-drop}
 use lib.Seq.{length-take-le}
 use lib.Dec.{ltb, leb, eqb}
-use borrow.Author.Tests.{ltb-true, ltb-false, leb-false}
-use Rattle.answer.specs.Answer.{limit}
+use borrow.Author.Tests.{ltb-true, leb-false}
 use Rattle.answer.proofs.Below.{cond-case}
 use Rattle.editor.specs.Ledger.{squeeze}
 use Rattle.editor.specs.Records.{Entry}
 use Rattle.editor.specs.Editor.{Turn, over, oldest, later, foldedTo, wordsIn, squeezeTo, squeezeOldest}
 use Rattle.editor.specs.Layout.{callOn, outcomeOf}
-use Rattle.editor.proofs.Steps.{or-parts}
 use Rattle.ledger.specs.Words.{Parted, inWords, wordsOf, sizes}
 use Rattle.ledger.specs.Page.{State, Outcome, records}
 use Rattle.ledger.specs.Layout.{editorOf, editorFor, spaceIn, page}
@@ -24,7 +22,7 @@ use Rattle.ledger.specs.Calls.{squeezeOf}
 use Rattle.ledger.proofs.Words.{Whole, length-words, sizes-append, sizes-reverse}
 use Rattle.ledger.proofs.Sound.{Sound, framed-parts, records-sound}
 use Rattle.ledger.proofs.Lying.{words-in}
-use Rattle.desk_lines.specs.Desk.{workRoom}
+use Rattle.desk_lines.specs.Desk.{historyRoom, workRoom}
 
 module _ (s : State) (k : ℕ) (work : List ℕ) (wide : length (s .history) ≤ length work) where
   module _ (v : Parted) (h : Sound s v) where
@@ -71,15 +69,13 @@ module _ (s : State) (k : ℕ) (work : List ℕ) (wide : length (s .history) ≤
   found-room none w = refl
   found-room (some v) w = sound-room v w
 
-work-long : length workRoom ≡ limit
+work-long : length workRoom ≡ historyRoom
 unfolding workRoom
-work-long = length-replicate {A = ℕ} limit 0
+work-long = length-replicate {A = ℕ} historyRoom 0
 
-pub never-short : (s : State) (k : ℕ) → eqb (squeezeOf s k workRoom .verdict .number) 9 ≡ false
+pub never-short :
+    (s : State) (k : ℕ) → length (s .history) ≤ historyRoom → eqb (squeezeOf s k workRoom .verdict .number) 9 ≡ false
 unfolding outcomeOf
-never-short s k =
+never-short s k small =
     cond-case (λ (o : Outcome). eqb (o .verdict .number) 9 ≡ false) (over (s .text) || over (s .history)) (λ _. refl)
-    (λ short.
-    let small : length (s .history) ≤ limit =
-    ltb-false limit (length (s .history)) (or-parts (over (s .text)) (over (s .history)) short .1) in
-    found-room s k workRoom (omega (arith, work-long, small)) (records s) (records-sound s))
+    (λ _. found-room s k workRoom (omega (arith, work-long, small)) (records s) (records-sound s))

@@ -7,10 +7,8 @@ use mathlib.Core.List.{List, [], _∷_}
 use mathlib.Core.Option.{Option, none, some}
 use lib.ListN.{length, getD, drop, replicate}
 use lib.Dec.{eqb}
-use Rattle.answer.specs.Answer.{limit}
 use Rattle.answer.specs.Output.{Outcome}
 use Rattle.reading.specs.Reading.{Ending, accepted, fault, reading, readInto}
-use Rattle.codec.specs.Kinds.{mostBytes}
 use Rattle.ledger.specs.Page.{State}
 use Rattle.ledger.specs.Calls.{unchangedOf}
 use Rattle.ledger.specs.Ledger.{Call, replace, undo, redo, save, squeeze}
@@ -28,9 +26,21 @@ replacing accepted (place ∷ []) = none
 replacing accepted (place ∷ count ∷ cells) = some (replace place count cells)
 replacing (fault k at) cells = none
 
+-- how many bytes a line may have, with its LF
+abbrev pub lineRoom : ℕ
+lineRoom = 65536
+
+-- how many words the desk's history has, and how many bytes a save may have and a page file: what a stack of 8 MiB holds
+-- beside the longest letter and its text (docs/DESK.md)
+abbrev pub historyRoom : ℕ
+historyRoom = 262144
+
+abbrev pub fileRoom : ℕ
+fileRoom = 1572864
+
 -- the work buffer that a squeeze is lent: as long as the desk's history
 unfoldable pub workRoom : List ℕ
-workRoom = replicate limit 0
+workRoom = replicate historyRoom 0
 
 -- `squeeze K`, where its one number can be read
 abbrev pub squeezing : Outcome → Option Call
@@ -38,7 +48,7 @@ squeezing read = cond (eqb (read .verdict .number) 0) (some (squeeze (getD (read
 
 -- the output that a save is lent
 unfoldable pub room : List ℕ
-room = replicate mostBytes 0
+room = replicate fileRoom 0
 
 -- `save FILE`, by what became of the file: one that was put is a save, and any other is as if it had not been
 abbrev pub saving : List ℕ → List ℕ → Bool → Option Call

@@ -1,7 +1,7 @@
 -- Document 02, order 6, at the desk: "People want undo after a night's sleep." A page that `keep FILE` kept and
 -- `desk page FILE` goes on with is as if desk had never ended: undo until it refuses brings back what the letter read
 -- as, and save then gives the letter's own bytes. So it is after any number of runs of desk.
-use Prim.Native.Nat.{ℕ}
+use Prim.Native.Nat.{ℕ, _≤_}
 use mathlib.Core.Path.{_≡_}
 use mathlib.Core.Bool.{true}
 use mathlib.Core.List.{List}
@@ -16,7 +16,7 @@ use Rattle.ledger.specs.Running.{taken, heard}
 use Rattle.ledger.specs.Demand.{Promised}
 use Rattle.page_file.specs.Calls.{keepOf, readOf}
 use Rattle.sessions.specs.Demand.{RoomFor, fileFor}
-use Rattle.desk_lines.specs.Desk.{Came, afterLines, callsIn}
+use Rattle.desk_lines.specs.Desk.{historyRoom, Came, afterLines, callsIn}
 
 -- the bytes that a `keep FILE` puts: those of an accepted keeping, lent the letter and some output
 pub record Put (s : State) (letter file : List ℕ) : Type 0 where
@@ -44,12 +44,17 @@ pub record RunsOn (letter : List ℕ) (s : State) (l : Ledger) : Type 0 where
   pub promised : Promised letter s l
   -- a `keep` refuses only for room
   pub keeps : (out : List ℕ) → keepOf s letter out ≡ deliver (fileFor s letter) out
-  -- what it put is read wherever there is room, as there is in the buffers that `desk page FILE` lends
+  -- what it put is read wherever there is room, as there is in buffers as long as a page takes
   pub reads :
       (file : List ℕ) → Put s letter file → (arrived text history : List ℕ) →
       RoomFor s letter arrived text history → taken (readOf arrived text history file) ≡ true
   pub room :
       (arrived text history : List ℕ) → length arrived ≡ limit → length text ≡ limit → length history ≡ limit →
+      RoomFor s letter arrived text history
+  -- a shorter history does too, where the page's own is no longer: as the desk's is for a page that it worked on
+  pub desk-room :
+      (arrived text history : List ℕ) → length arrived ≡ limit → length text ≡ limit → length (s .history) ≤ historyRoom →
+      length history ≡ historyRoom →
       RoomFor s letter arrived text history
   -- it gives the letter back, which is then lent to the lines that follow
   pub letter-back :
