@@ -1,6 +1,6 @@
 -- The desk's turns, its loop, and its work on a page that was opened. Assumes nothing.
 use Prim.Native.Nat.{ℕ, suc, _+_, _-_, _<_, _≤_}
-use mathlib.Core.Path.{_≡_, refl, sym, ap, _∙_}
+use mathlib.Core.Path.{_≡_, refl, sym, ap, _∙_, subst}
 use mathlib.Core.Bool.{Bool, true, false, _||_, false≢true}
 use mathlib.Core.List.{List}
 use native.Mathlib.Omega.{arith}
@@ -15,7 +15,7 @@ use Rattle.answer.specs.declared.Refusal.{Refusal}
 use Rattle.answer.proofs.Once.{number-pos}
 use Rattle.codec.specs.declared.Kind.{Kind}
 use Rattle.ledger.specs.Words.{pad}
-use Rattle.ledger.specs.Page.{State, stateOf, Outcome, leaves, keeps}
+use Rattle.ledger.specs.Page.{Outcome, leaves, keeps}
 use Rattle.ledger.specs.declared.Page.{Page}
 use Rattle.ledger.specs.declared.Edited.{Edited}
 use Rattle.ledger.specs.Calls.{openOf}
@@ -23,8 +23,9 @@ use Rattle.ledger.specs.Running.{taken}
 use Rattle.ledger.proofs.Words.{length-pad}
 use Rattle.page_file.specs.Calls.{readOf}
 use Rattle.page_file.proofs.Calls.{accepts}
-use Rattle.desk_lines.specs.Desk.{Desk, begun, afterLine, Turn, obeys, passes, waits, Turns, none-yet, then}
-use Rattle.desk.specs.Hands.{deskIn, sitting, Took, passed, obeyed, closed, Worked, Served, Resumed}
+use Rattle.desk_lines.specs.Desk.{fileRoom, Desk, afterLine, Turn, obeys, passes, waits, Turns, none-yet, then}
+use Rattle.desk.specs.Hands.{deskIn, sitting, Took, passed, obeyed, closed, Worked}
+use Rattle.desk.specs.Hands.{Sits, ReadFrom, OpenedBy, KeptBy}
 use Rattle.desk.specs.declared.lines.Hand.{Hand}
 
 -- a line that was taken is a turn, and so is a page that stays
@@ -109,90 +110,106 @@ pub worked-from :
     Worked letter (deskIn h text history) to hand → Worked letter (sitting p false text history) to hand
 worked-from e w = rw e at w
 
--- what is done with the page of an open
-module _
-    (kind : Kind) (letter text history : List ℕ) (r : Edited) (text' history' : List ℕ)
-    (o : leaves r text' history' ≡ openOf kind letter text history) where
-  state-left : openOf kind letter text history .state ≡ stateOf (r .page) text' history'
-  state-left = ap (λ (x : Outcome). x .state) (sym o)
+-- what is done with a page that FILE gave, by its answer
+module _ (letter text history : List ℕ) (r : Edited) where
+  answered : (a : Answer) → r .answer ≡ a → taken (leaves r text history) ≡ eqb (inNumbers a .number) 0
+  answered a e = ap (λ (x : Answer). eqb (inNumbers x .number) 0) e
 
-  answered : (a : Answer) → r .answer ≡ a → taken (openOf kind letter text history) ≡ eqb (inNumbers a .number) 0
-  answered a e = ap taken (sym o) ∙ ap (λ (x : Answer). eqb (inNumbers x .number) 0) e
-
-  pub served-worked :
+  pub sits-worked :
       {to : Desk} {hand : Hand} (n : ℕ) → r .answer ≡ Accepted n →
-      Worked letter (sitting (r .page) false text' history') to hand → Served kind letter text history to hand
-  served-worked n a w =
-      record {
-        refused = λ e. absurd (false≢true (sym e ∙ answered (Accepted n) a));
-        worked = λ _. rw state-left w;
-      }
+      Worked letter (sitting (r .page) false text history) to hand → Sits (leaves r text history) letter to hand
+  sits-worked n a w =
+      record { refused = λ e. absurd (false≢true (sym e ∙ answered (Accepted n) a)); worked = λ _. w }
 
-  pub served-idle :
+  not-taken : {why : Refusal} {place : ℕ} → r .answer ≡ Refused why place → taken (leaves r text history) ≡ false
+  not-taken {why} {place} a =
+      answered (Refused why place) a ∙ ne-eqb (numberOf why) 0 (λ z. omega (arith, number-pos why))
+
+  pub sits-idle :
       {hand : Hand} (why : Refusal) (place : ℕ) → r .answer ≡ Refused why place → hand ≡ empty (r .page) →
-      Served kind letter text history (deskIn hand text' history') hand
-  served-idle why place a e =
-      let no : taken (openOf kind letter text history) ≡ false =
-      answered (Refused why place) a ∙ ne-eqb (numberOf why) 0 (λ z. omega (arith, number-pos why)) in
+      Sits (leaves r text history) letter (deskIn hand text history) hand
+  sits-idle why place a e =
       record {
-        refused = λ _. ap (λ (x : Hand). deskIn x text' history') e ∙ ap begun (sym state-left);
-        worked = λ y. absurd (false≢true (sym no ∙ y));
+        refused = λ _. ap (λ (x : Hand). deskIn x text history) e;
+        worked = λ y. absurd (false≢true (sym (not-taken a) ∙ y));
       }
 
 -- the first elements of a list that has as many
 pub counted : (n : ℕ) (l : List ℕ) → n ≤ length l → n ≡ length (take n l)
 counted n l h = sym (length-take-le n l h)
 
--- what is done with the page of a file
-module _
-    (file letter text history : List ℕ) (r : Edited) (text' history' letter' : List ℕ)
-    (o : keeps r text' history' letter' ≡ readOf letter text history file) where
-  given-state : readOf letter text history file .state ≡ stateOf (r .page) text' history'
-  given-state = ap (λ (x : Outcome). x .state) (sym o)
+-- of a page file that is not too long
+pub few-of : (n : ℕ) (l : List ℕ) → n ≤ length l → n ≤ fileRoom → length (take n l) ≤ fileRoom
+few-of n l h few = omega (arith, counted n l h, few)
 
-  given-letter : readOf letter text history file .output ≡ letter'
-  given-letter = ap (λ (x : Outcome). x .output) (sym o)
+-- the page of a letter
+pub opens-by :
+    {kind : Kind} (letter : List ℕ) {text history : List ℕ} (r : Edited) (n : ℕ) {text' history' : List ℕ}
+    {to : Desk} {hand : Hand} → leaves r text' history' ≡ openOf kind (take n letter) text history →
+    Sits (leaves r text' history') (take n letter) to hand →
+    OpenedBy kind letter text history to hand
+opens-by letter r n {to = to} {hand = hand} o sits =
+    record { size = n; served = subst (λ (x : Outcome). Sits x (take n letter) to hand) o sits }
 
-  given-place : (n : ℕ) → r .answer ≡ Accepted n → readOf letter text history file .verdict .place ≡ n
-  given-place n e = ap (λ (x : Outcome). x .verdict .place) (sym o) ∙ ap (λ (x : Answer). inNumbers x .place) e
-
-  read-answered :
-      (a : Answer) → r .answer ≡ a → taken (readOf letter text history file) ≡ eqb (inNumbers a .number) 0
-  read-answered a e = ap taken (sym o) ∙ ap (λ (x : Answer). eqb (inNumbers x .number) 0) e
-
-  -- the letter that is given back lies in its buffer
-  pub given-within : (n : ℕ) → r .answer ≡ Accepted n → n ≤ length letter'
-  given-within n e =
-      let q = accepts letter text history file (read-answered (Accepted n) e) in
-      let p : n ≡ length (q .content .arrived) =
-      sym (given-place n e) ∙ ap (λ (x : Outcome). x .verdict .place) (q .outcome) in
-      let l : letter' ≡ pad (length letter) (q .content .arrived) =
-      sym given-letter ∙ ap (λ (x : Outcome). x .output) (q .outcome) in
-      omega (
-        arith,
-        p,
-        ap length l,
-        length-pad (length letter) (q .content .arrived) (q .arrived-room),
-        q .arrived-room,
-      )
-
-  pub resumed-worked :
-      {to : Desk} {hand : Hand} (n : ℕ) → r .answer ≡ Accepted n →
-      Worked (take n letter') (sitting (r .page) false text' history') to hand →
-      Resumed file letter text history to hand
-  resumed-worked n a w =
+-- the page of a page file
+module _ (r : Edited) (letter text history letter' text' history' : List ℕ) where
+  pub keeps-by :
+      (n : ℕ) {to : Desk} {hand : Hand} → ReadFrom r n letter text history letter' text' history' →
+      Sits (leaves r text' history') (take n letter') to hand →
+      KeptBy letter text history to hand
+  keeps-by n {to} {hand} from sits =
+      let given : Sits (keeps r text' history' letter') (take (inNumbers (r .answer) .place) letter') to hand =
+      record { refused = sits .refused; worked = λ ok. rw (← from .ends ok) (sits .worked ok) } in
       record {
-        refused = λ e. absurd (false≢true (sym e ∙ read-answered (Accepted n) a));
-        worked = λ _. rw (given-state, given-letter, given-place n a) w;
+        file = from .file;
+        short = from .short;
+        resumed =
+            subst (λ (o : Outcome). Sits o (take (o .verdict .place) (o .output)) to hand) (from .reads) given;
       }
 
-  pub resumed-idle :
-      {hand : Hand} (why : Refusal) (place : ℕ) → r .answer ≡ Refused why place → hand ≡ empty (r .page) →
-      Resumed file letter text history (deskIn hand text' history') hand
-  resumed-idle why place a e =
-      let no : taken (readOf letter text history file) ≡ false =
-      read-answered (Refused why place) a ∙ ne-eqb (numberOf why) 0 (λ z. omega (arith, number-pos why)) in
+  module _ (file : List ℕ) (few : length file ≤ fileRoom)
+      (o : keeps r text' history' letter' ≡ readOf letter text history file) where
+    -- the letter that is given back lies in its buffer
+    pub given-within : {n : ℕ} → r .answer ≡ Accepted n → n ≤ length letter'
+    given-within {n} e =
+        let ok : taken (readOf letter text history file) ≡ true =
+        ap taken (sym o) ∙ answered letter text' history' r (Accepted n) e in
+        let q = accepts letter text history file ok in
+        let p : n ≡ length (q .content .arrived) =
+        sym (ap (λ (x : Answer). inNumbers x .place) e)
+        ∙ (ap (λ (x : Outcome). x .verdict .place) o ∙ ap (λ (x : Outcome). x .verdict .place) (q .outcome)) in
+        let l : letter' ≡ pad (length letter) (q .content .arrived) =
+        ap (λ (x : Outcome). x .output) o ∙ ap (λ (x : Outcome). x .output) (q .outcome) in
+        omega (
+          arith,
+          p,
+          ap length l,
+          length-pad (length letter) (q .content .arrived) (q .arrived-room),
+          q .arrived-room,
+        )
+
+    pub read-accepted :
+        {n : ℕ} → r .answer ≡ Accepted n →
+        (n ≤ length letter') × ReadFrom r n letter text history letter' text' history'
+    read-accepted {n} e = (
+      given-within e,
       record {
-        refused = λ _. ap (λ (x : Hand). deskIn x text' history') e ∙ ap begun (sym given-state);
-        worked = λ y. absurd (false≢true (sym no ∙ y));
-      }
+        file = file;
+        short = few;
+        reads = o;
+        ends = λ _. sym (ap (λ (x : Answer). inNumbers x .place) e);
+      },
+    )
+
+    pub read-refused :
+        {why : Refusal} {place : ℕ} → r .answer ≡ Refused why place →
+        (0 ≤ length letter') × ReadFrom r 0 letter text history letter' text' history'
+    read-refused e = (
+      omega arith,
+      record {
+        file = file;
+        short = few;
+        reads = o;
+        ends = λ ok. absurd (false≢true (sym (not-taken letter text' history' r e) ∙ ok));
+      },
+    )

@@ -6,25 +6,28 @@ use mathlib.Core.Bool.{Bool, true, false, _&&_, _||_}
 use mathlib.Core.List.{List}
 use lib.ListN.{length, take, drop}
 use lib.Dec.{eqb}
-use Rattle.answer.specs.Answer.{limit}
+use Rattle.answer.specs.Answer.{inNumbers}
 use Rattle.codec.specs.declared.Kind.{Kind}
-use Rattle.ledger.specs.Page.{stateOf}
+use Rattle.ledger.specs.Page.{stateOf, Outcome, leaves, keeps}
 use Rattle.ledger.specs.declared.Page.{Page}
+use Rattle.ledger.specs.declared.Edited.{Edited}
 use Rattle.ledger.specs.Calls.{openOf}
 use Rattle.ledger.specs.Running.{taken}
 use Rattle.page_file.specs.Calls.{readOf}
-use Rattle.desk_lines.specs.Desk.{Desk, begun, afterLine, Turns}
+use Rattle.desk_lines.specs.Desk.{lineRoom, fileRoom, Desk, begun, afterLine, Turns}
 use Rattle.desk.specs.declared.lines.Hand.{Hand}
 use Rattle.desk.specs.declared.orders.Done.{Done}
 use Rattle.desk.specs.declared.files.Got.{Got}
 use Rattle.desk.specs.declared.files.Got.the-variants.{Bytes, Failed}
+use Rattle.desk.specs.declared.Source.{Source}
+use Rattle.desk.specs.declared.Source.the-variants.{Letter, Kept}
+use Rattle.desk.specs.declared.Found.{Found}
+use Rattle.desk.specs.declared.Found.the-variants.{Made, Unmade}
+use Rattle.desk.specs.declared.Sat.{Sat}
+use Rattle.desk.specs.declared.Sat.the-variants.{Through, Never}
 
 abbrev pub Holds : Hand → List ℕ → Type 0
-Holds h buf = (h .from ≤ h .to) × (h .to ≤ length buf) × (length buf ≤ limit)
-
--- how many bytes are lent for a page file: one more than the longest has (proofs/Room.antt)
-abbrev pub pageRoom : ℕ
-pageRoom = 1179762
+Holds h buf = (h .from ≤ h .to) × (h .to ≤ length buf) × (length buf ≤ lineRoom)
 
 -- the bytes in a buffer after a read behind its first `at`
 abbrev pub Within : Got → ℕ → List ℕ → Type 0
@@ -61,19 +64,52 @@ pub record Worked (letter : List ℕ) (from to : Desk) (hand : Hand) : Type 0 wh
   pub led : Turns letter from turns to
   pub until : (closed hand || eqb turns 18446744073709551615) ≡ true
 
--- it works on the page of an accepted open, and does nothing to that of a refused one
-pub record Served (kind : Kind) (letter text history : List ℕ) (to : Desk) (hand : Hand) : Type 0 where
-  pub refused : taken (openOf kind letter text history) ≡ false → to ≡ begun (openOf kind letter text history .state)
-  pub worked :
-      taken (openOf kind letter text history) ≡ true →
-      Worked letter (begun (openOf kind letter text history .state)) to hand
+-- it works on the page of an accepted call, with its letter, and does nothing to that of a refused one
+pub record Sits (o : Outcome) (letter : List ℕ) (to : Desk) (hand : Hand) : Type 0 where
+  pub refused : taken o ≡ false → to ≡ begun (o .state)
+  pub worked : taken o ≡ true → Worked letter (begun (o .state)) to hand
 
--- it works on the page of an accepted reading, with the letter that is given back, and does nothing to that of a
--- refused one; where a run of desk put the file, demand 3 goes on from there (resumed-keeps, proofs/Law.antt)
-pub record Resumed (file letter text history : List ℕ) (to : Desk) (hand : Hand) : Type 0 where
-  pub refused :
-      taken (readOf letter text history file) ≡ false → to ≡ begun (readOf letter text history file .state)
-  pub worked :
-      taken (readOf letter text history file) ≡ true →
-      Worked (take (readOf letter text history file .verdict .place) (readOf letter text history file .output))
-      (begun (readOf letter text history file .state)) to hand
+-- the call is the open of a letter
+abbrev pub Served : Kind → (letter text history : List ℕ) → Desk → Hand → Type 0
+Served kind letter text history = Sits (openOf kind letter text history) letter
+
+-- or the reading of a page file, and the letter is the one that is given back; where a run of desk put the file,
+-- demand 3 goes on from there (resumed-keeps, proofs/Law.antt)
+abbrev pub Resumed : (file letter text history : List ℕ) → Desk → Hand → Type 0
+Resumed file letter text history =
+    Sits (readOf letter text history file)
+    (take (readOf letter text history file .verdict .place) (readOf letter text history file .output))
+
+-- a page that was read from some file, no longer than its room, and where the letter that was given back ends
+pub record ReadFrom (given : Edited) (n : ℕ) (letter text history letter' text' history' : List ℕ) : Type 0 where
+  pub file : List ℕ
+  pub short : length file ≤ fileRoom
+  pub reads : keeps given text' history' letter' ≡ readOf letter text history file
+  pub ends : taken (keeps given text' history' letter') ≡ true → n ≡ inNumbers (given .answer) .place
+
+-- what FILE gave: the page of an open, or of a reading, and a letter in its buffer
+abbrev pub Gave : Source → Found → (letter text history letter' text' history' : List ℕ) → Type 0
+Gave (Letter kind) (Made given n) letter text history letter' text' history' =
+    (n ≤ length letter') × (leaves given text' history' ≡ openOf kind (take n letter') text history)
+Gave Kept (Made given n) letter text history letter' text' history' =
+    (n ≤ length letter') × ReadFrom given n letter text history letter' text' history'
+Gave what Unmade letter text history letter' text' history' = Unit
+
+-- the desk sat through the commands at the page of a letter that was read, or of a page file
+pub record OpenedBy (kind : Kind) (letter text history : List ℕ) (to : Desk) (hand : Hand) : Type 0 where
+  pub size : ℕ
+  pub served : Served kind (take size letter) text history to hand
+
+pub record KeptBy (letter text history : List ℕ) (to : Desk) (hand : Hand) : Type 0 where
+  pub file : List ℕ
+  pub short : length file ≤ fileRoom
+  pub resumed : Resumed file letter text history to hand
+
+abbrev pub OpenedAt : Sat → Kind → (text history letter' text' history' : List ℕ) → Type 0
+OpenedAt (Through hand) kind text history letter' text' history' =
+    OpenedBy kind letter' text history (deskIn hand text' history') hand
+OpenedAt Never kind text history letter' text' history' = Unit
+
+abbrev pub KeptAt : Sat → (letter text history text' history' : List ℕ) → Type 0
+KeptAt (Through hand) letter text history text' history' = KeptBy letter text history (deskIn hand text' history') hand
+KeptAt Never letter text history text' history' = Unit

@@ -10,7 +10,7 @@ ghost use mathlib.Core.Path.{_≡_};
 ghost use lib.ListN.{length};
 ghost use Rattle.io.specs.Counts.{Counts};
 ghost use Rattle.libc.specs.Io.{Ended};
-ghost use Rattle.desk.specs.Hands.{pageRoom, Within};
+ghost use Rattle.desk.specs.Hands.{Within};
 
 // How many bytes of a file came; or none, since it could not be read, and that has been said.
 pub enum Got {
@@ -26,13 +26,8 @@ enum Spot {
     Barred,
 }
 
-// Zeros, a byte more than the longest page file has: 113 besides its lists, 2 for each byte that arrived, and 8 for each
-// cell and word.
-pub fn page_room() -> [u8; 1179762]
-    ensures { λ r. ⌜ pageRoom ≡ length r ⌝ }
-{
-    [0; 1179762]
-}
+// How many bytes a page file may have: as many as there is room for on the stack beside a page.
+pub const PAGE_ROOM: usize = 1572864;
 
 // Reads once behind the first bytes of a buffer, and says how many there are then: no more at the end of the file.
 fn read_on(fd: i32, name: &[u8], buf: &mut [u8], at: usize) -> Got

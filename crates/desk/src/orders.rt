@@ -1,6 +1,7 @@
 // One command: the page after it is the definition's, whatever the line says.
 use crate::files;
 use crate::replies;
+use crate::rooms;
 use answer::Answer;
 use commands::Verb;
 use commands::numbers;
@@ -12,12 +13,11 @@ ghost use mathlib.Core.Option.{none};
 ghost use mathlib.Core.Path.{_≡_};
 ghost use lib.ListN.{length};
 ghost use lib.Dec.{eqb};
-ghost use Rattle.answer.specs.Answer.{limit};
 ghost use Rattle.reading.specs.Reading.{accepted};
 ghost use Rattle.ledger.specs.Page.{stateOf};
 ghost use Rattle.ledger.specs.Calls.{unchangedOf};
 ghost use Rattle.commands.specs.declared.Verb.the-variants.{Replace, Undo, Redo, Quit, Squeeze};
-ghost use Rattle.desk_lines.specs.Desk.{replacing, room, saving, asked, afterCall, begun, afterCommand, afterLine};
+ghost use Rattle.desk_lines.specs.Desk.{lineRoom, replacing, room, saving, asked, afterCall, begun, afterCommand, afterLine};
 ghost use Rattle.desk.specs.Hands.{deskAt, sitting};
 
 // The page after a command, and what became of its file and of the desk.
@@ -56,7 +56,7 @@ fn replace_by(p: Page, numbers: &[u32], text: &mut [u32], history: &mut [u32]) -
 
 // `replace PLACE COUNT CELL..`
 fn replace(p: Page, words: &[u8], text: &mut [u32], history: &mut [u32]) -> Page
-    requires { ⌜ length (now words) ≤ limit ⌝ }
+    requires { ⌜ length (now words) ≤ lineRoom ⌝ }
     ensures { λ r. ⌜ stateOf r (now (text .exit)) (now (history .exit))
         ≡ afterCall (asked none Replace (now (words .entry))) (stateOf p (now (text .entry)) (now (history .entry))) ⌝ }
 {
@@ -122,7 +122,7 @@ fn squeeze(p: Page, words: &[u8], text: &[u32], history: &mut [u32]) -> Page
     match read {
         Answer::Accepted(_) => {
             let k = records::wide(found[0]);
-            let mut work = [0u32; 65536];
+            let mut work = [0u32; 262144];
             told(squeeze::squeeze(p, k, text, &mut *history, &mut work))
         }
         Answer::Refused(_, _) => {
@@ -220,7 +220,7 @@ fn save(p: Page, words: &[u8], letter: &[u8], text: &[u32], history: &[u32]) -> 
         replies::complain(b"save FILE: the name is missing");
         return stays(p);
     }
-    let mut out = [0u8; codec::Kind::MOST_BYTES];
+    let mut out = rooms::output();
     save_in(p, &words[..end], letter, text, history, &mut out)
 }
 
@@ -240,14 +240,14 @@ fn keep_in(p: Page, name: &[u8], letter: &[u8], text: &[u32], history: &[u32], o
     }
 }
 
-// `keep FILE`: the name is as a save's. There is room for every page's file.
+// `keep FILE`: the name is as a save's.
 fn keep(p: Page, words: &[u8], letter: &[u8], text: &[u32], history: &[u32]) {
     let end = name_end(words);
     if end == 0 {
         replies::complain(b"keep FILE: the name is missing");
         return;
     }
-    let mut out = files::page_room();
+    let mut out = rooms::output();
     keep_in(p, &words[..end], letter, text, history, &mut out);
 }
 
@@ -298,7 +298,7 @@ fn act(
     text: &mut [u32],
     history: &mut [u32],
 ) -> Done
-    requires { ⌜ length (now words) ≤ limit ⌝ }
+    requires { ⌜ length (now words) ≤ lineRoom ⌝ }
     ensures { λ r. ⌜ deskAt r (now (text .exit)) (now (history .exit))
         ≡ afterCommand (saving (now (letter .entry)) room (r .put))
         (sitting p warned (now (text .entry)) (now (history .entry))) verb (now (words .entry)) ⌝ }
@@ -342,7 +342,7 @@ pub fn obey(
     text: &mut [u32],
     history: &mut [u32],
 ) -> Done
-    requires { ⌜ length (now line) ≤ limit ⌝ }
+    requires { ⌜ length (now line) ≤ lineRoom ⌝ }
     ensures { λ r. ⌜ deskAt r (now (text .exit)) (now (history .exit))
         ≡ afterLine (now (letter .entry)) (sitting p warned (now (text .entry)) (now (history .entry)))
         (record { line = now (line .entry); put = r .put }) ⌝ }

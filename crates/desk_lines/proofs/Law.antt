@@ -116,12 +116,10 @@ module _ {letter : List ℕ} {s : State} {l : Ledger} (h : Holds letter s l) whe
         let t = rw ok at (together letter held (restore 0 arrived text history ∷ [])) in
         (t .now, t .same-bytes)
 
-  short-text : length (s .text) ≤ limit
-  short-text = ltb-false limit (length (s .text)) (or-parts (over (s .text)) (over (s .history)) (page-lays .short (h .kept .lies)) .0)
-
-  short-history : length (s .history) ≤ limit
-  short-history =
-      ltb-false limit (length (s .history)) (or-parts (over (s .text)) (over (s .history)) (page-lays .short (h .kept .lies)) .1)
+  short : (length (s .text) ≤ limit) × (length (s .history) ≤ limit)
+  short =
+      let q = or-parts (over (s .text)) (over (s .history)) (page-lays .short (h .kept .lies)) in
+      (ltb-false limit (length (s .text)) (q .0), ltb-false limit (length (s .history)) (q .1))
 
   room-for :
       (arrived text history : List ℕ) → length arrived ≡ limit → length text ≡ limit →
@@ -130,7 +128,7 @@ module _ {letter : List ℕ} {s : State} {l : Ledger} (h : Holds letter s l) whe
   room-for arrived text history a t w few =
       record {
         for-arrived = (omega (arith, h .kept .good .few, a), omega (arith, a));
-        for-text = (omega (arith, short-text, t), omega (arith, t));
+        for-text = (omega (arith, short .0, t), omega (arith, t));
         for-history = (w, few);
       }
 
@@ -161,7 +159,7 @@ runs-on kind letter s l r =
       reads = λ file put arrived text history room.
           ap taken (ap (readOf arrived text history) (put-is h put) ∙ g .restores arrived text history room);
       room = λ arrived text history a t w.
-          room-for h arrived text history a t (omega (arith, short-history h, w)) (omega (arith, w));
+          room-for h arrived text history a t (omega (arith, short h .1, w)) (omega (arith, w));
       desk-room = λ arrived text history a t few w.
           room-for h arrived text history a t (omega (arith, few, w)) (omega (arith, w, desk-history));
       letter-back = λ file put arrived text history ok. read h put arrived text history ok .1;

@@ -30,8 +30,8 @@ replacing (fault k at) cells = none
 abbrev pub lineRoom : ℕ
 lineRoom = 65536
 
--- how many words the desk's history has, and how many bytes a save may have and a page file: what a stack of 8 MiB holds
--- beside the longest letter and its text (docs/DESK.md)
+-- how many words the desk's history has, and how many bytes a save may have and a page file: what a stack of 8 MiB
+-- holds beside the longest letter and its text (docs/DESK.md)
 abbrev pub historyRoom : ℕ
 historyRoom = 262144
 

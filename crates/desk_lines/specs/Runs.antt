@@ -53,8 +53,8 @@ pub record RunsOn (letter : List ℕ) (s : State) (l : Ledger) : Type 0 where
       RoomFor s letter arrived text history
   -- a shorter history does too, where the page's own is no longer: as the desk's is for a page that it worked on
   pub desk-room :
-      (arrived text history : List ℕ) → length arrived ≡ limit → length text ≡ limit → length (s .history) ≤ historyRoom →
-      length history ≡ historyRoom →
+      (arrived text history : List ℕ) → length arrived ≡ limit → length text ≡ limit →
+      length (s .history) ≤ historyRoom → length history ≡ historyRoom →
       RoomFor s letter arrived text history
   -- it gives the letter back, which is then lent to the lines that follow
   pub letter-back :

@@ -1,5 +1,5 @@
 use denote.Ref.{now}
-use Rattle.desk.proofs.Working.{served-worked, served-idle}
+use Rattle.desk.proofs.Working.{sits-worked, sits-idle}
 use borrow.Author.Needs.{needs}
 use Rattle.desk.proofs.serve.Statement.{statement}
 use Rattle.desk.proofs.serve.Tie as tie
@@ -8,24 +8,21 @@ returns : tie.Need-returns
 returns c =
     let w = c .before .before .before .before .before .before .before in
     let t = w .before .before .before in
-    let o = t .before .before .before .before .before .before .before .before in
-    let a = o .before .before .before .before .before .before .args in
-    served-worked (a .kind) (now (a .letter)) (now (a .text)) (now (a .history)) (o .«open» .result) _ _
-    (o .«open» .ensures) _ (t .enum-told .given .1) (w .work .ensures)
+    let a = t .before .before .before .before .before .before .before .args in
+    sits-worked (now (a .letter)) (now (a .text)) (now (a .history)) (a .given) _ (t .enum-told .given .1)
+    (w .work .ensures)
 
 returns-2 : tie.Need-returns-2
 returns-2 c =
     let t = c .before in
-    let o = t .before .before .before .before .before .before .before .before in
-    let a = o .before .before .before .before .before .before .args in
-    served-idle (a .kind) (now (a .letter)) (now (a .text)) (now (a .history)) (o .«open» .result) _ _
-    (o .«open» .ensures) _ _ (t .enum-told2 .given .1) (c .holding .ensures)
+    let a = t .before .before .before .before .before .before .before .args in
+    sits-idle (now (a .letter)) (now (a .text)) (now (a .history)) (a .given) _ _ (t .enum-told2 .given .1)
+    (c .holding .ensures)
 
 pub serve-spec : {M : Type 1} → statement M
 serve-spec =
     tie.close
     (tie.spec
-    (λ c κs. search needs)
     (λ c κs. search needs)
     (λ c. search needs)
     (λ c κs. search needs)
@@ -35,6 +32,4 @@ serve-spec =
     (λ c. search needs)
     (λ c. search needs)
     returns
-    (λ c. search needs)
-    (λ c. search needs)
     returns-2)

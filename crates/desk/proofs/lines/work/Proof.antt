@@ -1,6 +1,5 @@
 use mathlib.Core.Path.{_≡_, refl, sym, ap, _∙_}
 use lib.ListN.{length}
-use Rattle.answer.specs.Answer.{limit}
 use Rattle.desk.specs.Hands.{Holds, deskIn}
 use Rattle.desk.proofs.Working.{Going, going-begun, going-again, going-closed, going-over, worked-from}
 use borrow.Author.Needs.{needs}
@@ -18,7 +17,6 @@ abbrev μ-loop : tie.MeasureT-loop
 μ-loop letter text₀ history₀ buf₀ hand₀ rounds₀ text history buf hand rounds = rounds
 
 loop-holds : tie.Need-loop-holds Inv-loop μ-loop
-unfolding limit
 loop-holds c = rw (c .holding .ensures) (search needs, (search needs, search needs, going-begun _ refl))
 
 returns : tie.Need-returns Inv-loop μ-loop

@@ -1,5 +1,4 @@
 use mathlib.Core.Path.{sym, _∙_}
-use Rattle.answer.specs.Answer.{limit}
 use Rattle.desk_lines.proofs.Found.{same-call, wide-room, found-few, found-all, found-none}
 use native.Mathlib.Omega.{arith}
 use lib.Seq.{length-take-le}
@@ -55,7 +54,6 @@ complain-requires : tie.Need-complain-requires
 complain-requires c κs = search needs
 
 returns-2 : tie.Need-returns-2
-unfolding limit
 returns-2 c =
     let p = c .before .before .before in
     let r = p .before .before in

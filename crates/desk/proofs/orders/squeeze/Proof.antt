@@ -1,6 +1,6 @@
-use mathlib.Core.Path.{ap, _∙_}
+use mathlib.Core.Path.{refl, ap, _∙_}
 use Rattle.ledger.specs.Page.{Outcome}
-use Rattle.desk_lines.proofs.Found.{squeezes, squeezes-none, whole, zeros-work}
+use Rattle.desk_lines.proofs.Found.{squeezes, squeezes-none, zeros-work}
 use borrow.Author.Needs.{needs}
 use Rattle.desk.proofs.orders.squeeze.Statement.{statement}
 use Rattle.desk.proofs.orders.squeeze.Tie as tie
@@ -49,7 +49,7 @@ returns c =
     let r = e .before .before .before in
     rw (c .told .ensures)
     (ap (λ (o : Outcome). o .state) (q .squeeze .ensures)
-    ∙ squeezes _ (r .read .ensures) (e .enum-told .given .1) (w .wide .ensures .0) (zeros-work 65536 whole))
+    ∙ squeezes _ (r .read .ensures) (e .enum-told .given .1) (w .wide .ensures .0) (zeros-work 262144 refl))
 
 returns-2 : tie.Need-returns-2
 returns-2 c =
