@@ -57,6 +57,8 @@ pub enum Complaint {
     LetterNameTooLong,
     /// FILE cannot be opened or read.
     Letter(Vec<u8>, Errno),
+    /// A page file that there is no room for.
+    PageFileTooLong(Vec<u8>),
     LineTooLong,
     NoSuchCommand,
     NothingMayFollow,
@@ -116,14 +118,12 @@ const LONGEST_FOLDER: usize = 4_080;
 /// "a line of more than 65,535 bytes (without its LF)"
 pub const LONGEST_LINE: usize = 65_535;
 
-/// "Save is lent the letter as it arrived and an output of 393,219 bytes."
-const ROOM: usize = 393_219;
+/// "a history of 262,144 words", and a squeeze's "work buffer of 262,144 words"
+pub const HISTORY: usize = 262_144;
 
-/// "at most 1,179,752 bytes of it, one more than the longest page file has"
-const LONGEST_READ: usize = 1_179_752;
-
-/// "with room for every page's"
-const FILE_ROOM: usize = LONGEST_READ - 1;
+/// "Save is lent the letter as it arrived and an output of 1,572,864 bytes." "keep is lent an output of 1,572,864 bytes"
+/// "One that has more than 1,572,864 bytes"
+pub const ROOM: usize = 1_572_864;
 
 impl Told {
     /// What of it goes to standard output: "Answers go to standard output in the listers' style".
@@ -169,6 +169,9 @@ impl Complaint {
             Complaint::NameTooLong => "the name of the file is too long",
             Complaint::NameWithNul => "the name of the file has a NUL",
             Complaint::Letter(name, errno) | Complaint::Save(name, errno) => return of_name(name, &errno.text()),
+            Complaint::PageFileTooLong(name) => {
+                return of_name(name, "is longer than 1572864 bytes, and there is no room for it");
+            }
             Complaint::Directory(name) => return of_name(name, "is a directory: save to another name"),
             Complaint::ReadOnly(name) => return of_name(name, "is read-only: save to another name"),
             Complaint::Beside(name, errno) => {
@@ -219,7 +222,7 @@ fn open(start: &Start) -> Result<(Told, Desk), Told> {
     }
     match start.files.read(name) {
         Err(errno) => complain(Complaint::Letter(name.clone(), errno)),
-        Ok(bytes) => match begin(bytes) {
+        Ok(bytes) => match begin(name, bytes) {
             (told, None) => Err(told),
             (told, Some((arrived, state))) => {
                 Ok((told, Desk { arrived, state, warned: false, files: start.files.clone(), umask: start.umask }))
@@ -232,17 +235,17 @@ fn open(start: &Start) -> Result<(Told, Desk), Told> {
 type Begun = (Told, Option<(Vec<u8>, State)>);
 
 /// What is done with a file's bytes for this first argument; for "one that is none of the four", nothing.
-fn beginning(word: &[u8]) -> Option<Box<dyn Fn(Vec<u8>) -> Begun>> {
+fn beginning(word: &[u8]) -> Option<Box<dyn Fn(&[u8], Vec<u8>) -> Begun>> {
     if word == b"page" {
         return Some(Box::new(gone_on));
     }
     let kind = Kind::ALL.into_iter().find(|&kind| kind_word(kind).as_bytes() == word)?;
-    Some(Box::new(move |letter| opened(kind, letter)))
+    Some(Box::new(move |_, letter| opened(kind, letter)))
 }
 
-/// "a text buffer and a history of 65,536 each"
+/// "a text buffer of 1,048,576 cells and a history of 262,144 words"
 fn blank() -> State {
-    State { page: Page::opened(Kind::Utf7Header, 0), text: vec![0; LIMIT], history: vec![0; LIMIT] }
+    State { page: Page::opened(Kind::Utf7Header, 0), text: vec![0; LIMIT], history: vec![0; HISTORY] }
 }
 
 fn opened(kind: Kind, letter: Vec<u8>) -> Begun {
@@ -251,10 +254,12 @@ fn opened(kind: Kind, letter: Vec<u8>) -> Begun {
     (Told::Answer(open_name(kind), left.answer), accepted.then_some((letter, left.state)))
 }
 
-/// "The letter that is lent to `save` and `keep` is then the one that the file gave back": as many bytes of the 65,536
-/// as order 6 answers, "the count of arrived bytes".
-fn gone_on(mut file: Vec<u8>) -> Begun {
-    file.truncate(LONGEST_READ);
+/// "The letter that is lent to `save` and `keep` is then the one that the file gave back": as many of its bytes as
+/// order 6 answers, "the count of arrived bytes".
+fn gone_on(name: &[u8], file: Vec<u8>) -> Begun {
+    if file.len() > ROOM {
+        return (Told::Complaint(Complaint::PageFileTooLong(name.to_vec())), None);
+    }
     let left = page_file::left(&file, &blank(), &[0; LIMIT]);
     let letter = left.arrived.get(..left.answer.place).map(<[u8]>::to_vec);
     let accepted = letter.filter(|_| left.answer.number == 0);
@@ -355,8 +360,8 @@ impl Desk {
             _ => None,
         };
         match steps {
-            // "Squeeze is lent a work buffer of 65,536 words."
-            Some(steps) => self.call(SQUEEZE, &Call::Squeeze { steps: steps as usize, work: LIMIT }),
+            // "Squeeze is lent a work buffer of 262,144 words."
+            Some(steps) => self.call(SQUEEZE, &Call::Squeeze { steps: steps as usize, work: HISTORY }),
             None => Told::Complaint(Complaint::Squeeze),
         }
     }
@@ -367,7 +372,7 @@ impl Desk {
         let arrived = self.arrived.clone();
         let (missing, told, call) = match save {
             true => (Complaint::NameMissing, SAVE, Call::Save { arrived, room: ROOM }),
-            false => (Complaint::KeepNameMissing, KEEP, Call::Keep { arrived, room: FILE_ROOM }),
+            false => (Complaint::KeepNameMissing, KEEP, Call::Keep { arrived, room: ROOM }),
         };
         if name.is_empty() {
             return Told::Complaint(missing);
@@ -491,31 +496,39 @@ mod tests {
         assert_eq!(told(b"save a\0b\n"), Told::Complaint(Complaint::NameWithNul));
     }
 
+    /// The file of a page whose letter, text and history have so many elements each.
+    fn file_of(most: usize) -> Vec<u8> {
+        let page = Page { kind: 1, opening: most - 1, length: most, used: most, done: most, saved: Some(most) };
+        let words = [&[0, 0, 1, 0x61][..], &vec![0; most - 4]].concat();
+        page_file::Content { page, arrived: vec![b'a'; most - 1], text: vec![0x61; most], history: words }.file()
+    }
+
+    /// "Every page whose letter, text and history have no more than 65,536 elements each is kept, and gone on with"
     #[test]
-    fn no_page_file_is_longer_than_is_said() {
-        let page = Page { kind: 0, opening: LIMIT, length: LIMIT, used: LIMIT, done: LIMIT, saved: Some(LIMIT) };
-        let (arrived, text, history) = (vec![0; LIMIT], vec![0; LIMIT], vec![0; LIMIT]);
-        let longest = page_file::Content { page, arrived, text, history };
-        assert_eq!(longest.file().len(), FILE_ROOM);
+    fn what_had_room_before_order_10_has_room() {
+        let file = file_of(65_536);
+        assert!(file.len() <= 1_179_761 && 1_179_761 <= ROOM);
+        let (told, _) = gone_on(b"kept", file);
+        assert_eq!(told, Told::Answer(PAGE, Answer { number: 0, place: 65_535 }));
     }
 
     #[test]
-    fn what_is_behind_the_longest_file_is_not_missed() {
-        let page = Page { kind: 1, opening: LIMIT - 1, length: LIMIT, used: LIMIT, done: LIMIT, saved: Some(LIMIT) };
-        let words = [&[0, 0, 1, 0x61][..], &vec![0; LIMIT - 4]].concat();
-        let arrived = vec![b'a'; LIMIT - 1];
-        let file = page_file::Content { page, arrived, text: vec![0x61; LIMIT], history: words }.file();
-        for more in [0, 1, 2, 3, 70_000] {
-            let answer = if more == 0 { (0, LIMIT - 1) } else { (18, file.len()) };
-            let (number, place) = answer;
-            let (told, _) = gone_on([&file[..], &vec![b'0'; more]].concat());
-            assert_eq!(told, Told::Answer(PAGE, Answer { number, place }), "{more}");
+    fn a_page_file_has_at_most_1572864_bytes() {
+        let file = file_of(65_536);
+        let filled = |length: usize| gone_on(b"kept", [&file[..], &vec![b'0'; length - file.len()]].concat()).0;
+        for length in [file.len() + 1, file.len() + 70_000, ROOM] {
+            assert_eq!(filled(length), Told::Answer(PAGE, Answer { number: 18, place: file.len() }), "{length}");
+        }
+        for length in [ROOM + 1, ROOM + 2, 2 * ROOM] {
+            assert_eq!(filled(length), Told::Complaint(Complaint::PageFileTooLong(b"kept".to_vec())), "{length}");
         }
     }
 
     #[test]
-    fn a_letter_has_at_most_65536_bytes() {
-        for (length, answer) in [(65_536, (0, 65_536)), (65_537, (16, 65_536)), (200_000, (16, 65_536))] {
+    fn a_letter_has_at_most_1048576_bytes() {
+        let accepted = [(65_537, (0, 65_537)), (1_048_576, (0, 1_048_576))];
+        let refused = [(1_048_577, (16, 1_048_576)), (3_000_000, (16, 1_048_576))];
+        for (length, answer) in accepted.into_iter().chain(refused) {
             let files = examples::files(&[("letter", &"a".repeat(length))], 0o600);
             let arguments = vec![b"jp2".to_vec(), b"letter".to_vec()];
             let end = run(&Start { arguments, files, umask: 0, input: vec![] });

@@ -24,6 +24,9 @@ use crate::second::Answer;
 pub const PATIENCE: Duration = Duration::from_secs(15);
 const LITTLE_PATIENCE: Duration = Duration::from_millis(500);
 
+/// "within the usual stack of 8 MiB (`ulimit -s 8192`)"
+const STACK: &str = "ulimit -s 8192";
+
 /// How long half a line must not be answered.
 const SILENCE: Duration = Duration::from_millis(20);
 
@@ -43,15 +46,11 @@ impl Desk {
         Desk { path, umask: umask(), patience: Cell::new(PATIENCE), complaints: RefCell::default() }
     }
 
-    /// Starts it in a folder; first, a shell does this, if it is anything.
+    /// Starts it in a folder, with the stack that docs/DESK.md says; first, a shell does this, if it is anything.
     pub fn start(&self, arguments: &[Vec<u8>], folder: &Folder, first: &str) -> Result<Session, String> {
-        let mut command = if first.is_empty() {
-            Command::new(&self.path)
-        } else {
-            let mut shell = Command::new("sh");
-            shell.args(["-c", &format!("{first} && exec \"$0\" \"$@\"")]).arg(&self.path);
-            shell
-        };
+        let first = if first.is_empty() { ":" } else { first };
+        let mut command = Command::new("sh");
+        command.args(["-c", &format!("{STACK} && {first} && exec \"$0\" \"$@\"")]).arg(&self.path);
         command.args(arguments.iter().map(|argument| OsStr::from_bytes(argument))).current_dir(&folder.path);
         Session::start(command, self.patience.get())
     }
@@ -185,6 +184,7 @@ fn label(complaint: &Complaint) -> String {
         Complaint::Kind => "kind",
         Complaint::LetterNameTooLong => "name of the letter too long",
         Complaint::Letter(_, errno) => return format!("letter: {}", errno.text()),
+        Complaint::PageFileTooLong(_) => "page file too long",
         Complaint::LineTooLong => "line too long",
         Complaint::NoSuchCommand => "no such command",
         Complaint::NothingMayFollow => "nothing may follow",

@@ -4,7 +4,7 @@ use super::script::{Nights, Script};
 use super::seeded::{long_name, on_letter, LONG_NAMES, NAMES, OTHERS};
 use crate::examples::desk::{files, words, BAD_LINES, OLD_MODE};
 use crate::rng::Rng;
-use crate::second::desk::{self as second, LONGEST_LINE};
+use crate::second::desk::{self as second, HISTORY, LONGEST_LINE, ROOM};
 use crate::second::files::Entry;
 use crate::second::{Kind, LIMIT};
 use crate::texts;
@@ -49,72 +49,134 @@ pub fn pages(kind: Kind) -> Vec<Script> {
         "undo".to_string(),
         "undo".to_string(),
         "undo".to_string(),
-        format!("replace 0 {}", LIMIT - 2),
-        format!("replace 0 {LIMIT} {cell}"),
-        format!("replace 0 {}", LIMIT - 3),
+        format!("replace 0 {LIMIT}"),
+        format!("replace 0 {}", HISTORY - 2),
+        format!("replace 0 {HISTORY} {cell}"),
+        format!("replace 0 {}", HISTORY - 3),
         "replace 0 0".to_string(),
         "squeeze 2".to_string(),
         "save short".to_string(),
         "show".to_string(),
         "undo".to_string(),
         "save as it came".to_string(),
+        "keep long".to_string(),
         "redo".to_string(),
         "redo".to_string(),
         "undo".to_string(),
-        format!("replace 0 {} {cell}", LIMIT - 4),
+        format!("replace 0 {} {cell}", HISTORY - 4),
         "save short".to_string(),
     ];
     vec![script(kind, &[BYTE; LIMIT], ended(full)), grown(kind)]
 }
 
-/// The longest page file that there is: of a letter and a page of 65,536 cells and a full history. It is kept and gone
-/// on with; then bytes are added behind it, or taken from its end.
-pub fn nights(kind: Kind) -> Nights {
-    let run = |name: &str, put: &[(&str, &[u8])], lines: &[&str]| {
-        let mut files = files(&[], OLD_MODE);
-        let entry = |bytes: &[u8]| Entry::File { bytes: bytes.to_vec(), mode: OLD_MODE };
-        files.entries.extend(put.iter().map(|&(path, bytes)| (path.as_bytes().to_vec(), entry(bytes))));
-        Script { arguments: words(&["page", name]), files, lines: ended(lines) }
-    };
-    let most = format!("replace 0 {}", LIMIT - 3);
-    let first = script(kind, &[BYTE; LIMIT], ended(["keep opened", &most, "keep stepped", "undo", "keep longest"]));
-    let left = second::run(&first.start(0o22)).files;
-    let Some(Entry::File { bytes: longest, .. }) = left.entries.get(&b"longest"[..]) else { panic!("no file is kept") };
+/// A run on a page file, beside which these are put.
+fn gone_on(name: &str, put: &[(&str, &[u8])], lines: &[&str]) -> Script {
+    let mut files = files(&[], OLD_MODE);
+    let entry = |bytes: &[u8]| Entry::File { bytes: bytes.to_vec(), mode: OLD_MODE };
+    files.entries.extend(put.iter().map(|&(path, bytes)| (path.as_bytes().to_vec(), entry(bytes))));
+    Script { arguments: words(&["page", name]), files, lines: ended(lines) }
+}
+
+/// The file of this name that a run leaves.
+fn kept_by(script: &Script, name: &str) -> Vec<u8> {
+    let left = second::run(&script.start(0o22)).files;
+    let Some(Entry::File { bytes, .. }) = left.entries.get(name.as_bytes()) else { panic!("no file is kept") };
+    bytes.clone()
+}
+
+/// What is done with a page file.
+const ENDS: [&str; 8] = ["show", "undo", "save back", "redo", "redo", "save short", "keep longest", "quit"];
+
+pub fn nights(kind: Kind) -> [Nights; 2] {
+    [nights_before(kind), longest_nights(kind)]
+}
+
+/// The longest page file that there was before order 10: of a letter, a text and a history of 65,536 elements each. It is
+/// kept and gone on with; then bytes are added behind it, or taken from its end.
+fn nights_before(kind: Kind) -> Nights {
+    let most = 65_536;
+    let first = script(
+        kind,
+        &vec![BYTE; most],
+        ended(["keep opened", &format!("replace 0 {}", most - 3), "keep stepped", "undo", "keep longest"]),
+    );
+    let longest = kept_by(&first, "longest");
     assert_eq!(longest.len(), 1_179_746 + second::kind_word(kind).len());
     let more = |count: usize| [&longest[..], &vec![b'\n'; count]].concat();
-    let ends = ["show", "undo", "save back", "redo", "redo", "save short", "keep longest", "quit"];
+    let run = gone_on;
     Nights {
         runs: vec![
             first,
             run("longest", &[], &["undo", "save back", "redo", "show", "keep stepped too", "undo", "keep longest"]),
-            run("stepped", &[], &ends),
+            run("stepped", &[], &ENDS),
             run("opened", &[], &["replace 0 65536", "keep opened", "undo", "show", "save back"]),
-            run("longest", &[], &ends),
-            run("more", &[("more", &more(1))], &ends),
-            run("more", &[("more", &more(2))], &ends),
-            run("more", &[("more", &more(300_000))], &ends),
-            run("less", &[("less", &longest[..longest.len() - 1])], &ends),
+            run("longest", &[], &ENDS),
+            run("more", &[("more", &more(1))], &ENDS),
+            run("more", &[("more", &more(2))], &ENDS),
+            run("less", &[("less", &longest[..longest.len() - 1])], &ENDS),
         ],
     }
 }
 
-/// A page that grows by lines that are as long as can be, of cells that take many bytes each when they are written. Its
-/// history is squeezed where it has no room left, and takes more then.
+/// The longest page file that is kept and gone on with, and pages whose files are a little longer. A step of k cells that
+/// is undone takes 8 k + 24 bytes, and a mark that is none 3 fewer than one that is a number.
+fn longest_nights(kind: Kind) -> Nights {
+    let others = 129 + second::kind_word(kind).len();
+    let length = if kind == Kind::Jp2 { 130_002 } else { 130_001 };
+    let removed = (ROOM - others - 10 * length) / 8;
+    let first = script(
+        kind,
+        &vec![BYTE; length],
+        ended([
+            &format!("replace 0 {removed}"),
+            "undo",
+            "keep marked",
+            "redo",
+            "save marked",
+            "undo",
+            &format!("replace 0 {}", removed + 1),
+            "undo",
+            "keep over",
+            &format!("replace 0 {removed}"),
+            "keep stepped",
+            "undo",
+            "keep longest",
+        ]),
+    );
+    let longest = kept_by(&first, "longest");
+    assert_eq!(longest.len(), ROOM);
+    let more = |count: usize| [&longest[..], &vec![b'\n'; count]].concat();
+    Nights {
+        runs: vec![
+            first,
+            gone_on("longest", &[], &["redo", "show", "keep stepped too", "undo", "keep longest", "replace 0 0", "keep over"]),
+            gone_on("stepped", &[], &ENDS),
+            gone_on("longest", &[], &ENDS),
+            gone_on("more", &[("more", &more(1))], &ENDS),
+            gone_on("more", &[("more", &more(300_000))], &ENDS),
+            gone_on("less", &[("less", &longest[..longest.len() - 1])], &ENDS),
+        ],
+    }
+}
+
+/// A page that grows by lines that are as long as can be, of cells that take many bytes each when they are written, until
+/// there is no room to save it. Its history is squeezed where it has no room left, and takes more then.
 fn grown(kind: Kind) -> Script {
     let pattern = match kind {
-        Kind::Utf7Header | Kind::Utf7Body => "A3 2D ",
+        Kind::Utf7Header | Kind::Utf7Body => "1F600 2D ",
         Kind::Jp2 => "952121 9F2121 ",
     };
     let start = "replace 0 0 ";
     let cells = pattern.repeat((LONGEST_LINE - start.len()) / pattern.len());
     let longest = format!("{:<1$}", format!("{start}{cells}"), LONGEST_LINE);
-    let lines = ended(["save empty"])
+    let lines = ended(["save as it came"])
         .into_iter()
-        .chain(vec![longest.clone().into_bytes(); 8].into_iter().map(|line| [&line[..], b"\n"].concat()))
+        .chain(vec![longest.clone().into_bytes(); 29].into_iter().map(|line| [&line[..], b"\n"].concat()))
         .chain(ended(["save large", "show", "undo", "save large", "undo", "redo", "redo", "save old"]))
         .chain(ended([
-            "squeeze 9",
-            "squeeze 3",
+            "squeeze 40",
+            "squeeze 27",
+            "squeeze 18",
             "squeeze 2",
             &longest,
             "show",
@@ -124,17 +186,20 @@ fn grown(kind: Kind) -> Script {
             "redo",
             "redo",
         ]));
-    script(kind, b"", lines.collect())
+    script(kind, &[BYTE; 500_000], lines.collect())
 }
+
+/// A line with its LF, which is as much as is read at once.
+const READ: usize = LONGEST_LINE + 1;
 
 /// Lines about as long as can be and longer, all in one script; and scripts that end in such a line, without LF.
 pub fn lines(kind: Kind) -> Vec<Script> {
     let lengths = [LONGEST_LINE - 1, LONGEST_LINE, LONGEST_LINE + 1, LONGEST_LINE + 2];
-    let longer = [70_000, 2 * LIMIT - 1, 2 * LIMIT, 2 * LIMIT + 1, 200_000];
+    let longer = [70_000, 2 * READ - 1, 2 * READ, 2 * READ + 1, 200_000];
     let all = lengths.into_iter().chain(longer).flat_map(|length| long_lines(kind, length));
     let lines = all.flat_map(|line| ended([&line[..], b"show"])).collect();
     let whole = [script(kind, b"ab", lines)];
-    let last = lengths.into_iter().chain([70_000, 2 * LIMIT]).flat_map(|length| {
+    let last = lengths.into_iter().chain([70_000, 2 * READ]).flat_map(|length| {
         let [first, second, ..] = long_lines(kind, length);
         [first, second].map(|line| script(kind, b"ab", ended(["undo"]).into_iter().chain([line]).collect()))
     });

@@ -83,7 +83,7 @@ fn devices() -> [Transcript; 4] {
         },
         Transcript {
             arguments: words(&["jp2", "/dev/zero"]),
-            ..transcript("a letter without end", "abc", "show\n", "status=16\nplace=65536\n")
+            ..transcript("a letter without end", "abc", "show\n", "status=16\nplace=1048576\n")
         },
         Transcript {
             arguments: words(&["page", "/dev/null"]),
@@ -91,7 +91,8 @@ fn devices() -> [Transcript; 4] {
         },
         Transcript {
             arguments: words(&["page", "/dev/zero"]),
-            ..transcript("a page file without end", "abc", "show\n", "status=18\nplace=0\n")
+            errors: b"desk: /dev/zero: is longer than 1572864 bytes, and there is no room for it\n".to_vec(),
+            ..transcript("a page file without end", "abc", "show\n", "")
         },
     ]
 }
