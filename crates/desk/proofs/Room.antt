@@ -25,6 +25,7 @@ use Rattle.sessions.specs.Demand.{fileFor}
 use Rattle.desk_lines.specs.Desk.{fileRoom}
 use Rattle.desk_lines.specs.Runs.{Reached}
 use Rattle.desk_lines.proofs.Law.{runs-on}
+use Rattle.desk_lines.proofs.Room.{before-fits}
 
 name-most : (kind : Kind) → length (nameOf kind) ≤ 5
 name-most Utf7Header = lit≤ tt
@@ -90,4 +91,4 @@ module _ (kind : Kind) (letter : List ℕ) {s : State} {l : Ledger} (r : Reached
       keepOf s letter out .verdict ≡ numbered 0 (length (fileFor s letter))
   keep-of-before out e a t h =
       keep-at-desk out e
-      ∙ rw (le-ltb fileRoom (length (fileFor s letter)) (omega (arith, file-most 65536 s letter a t h)))
+      ∙ rw (le-ltb fileRoom (length (fileFor s letter)) (omega (arith, file-most 65536 s letter a t h, before-fits)))

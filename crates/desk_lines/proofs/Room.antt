@@ -1,6 +1,6 @@
 -- A squeeze at the desk is never refused with 9: its record is judged for 19 first, so it has fewer words than those
 -- that it stands for, and the work buffer is as long as the desk's history. Assumes nothing.
-use Prim.Native.Nat.{ℕ, _-_, _≤_}
+use Prim.Native.Nat.{ℕ, _+_, _*_, _-_, _≤_}
 use mathlib.Core.Path.{_≡_, refl, ap}
 use mathlib.Core.Bool.{false, _||_}
 use mathlib.Core.List.{List, reverseAux}
@@ -8,7 +8,7 @@ use mathlib.Core.Option.{Option, none, some}
 use native.Mathlib.Omega.{arith}
 use lib.ListN.{length, length-replicate, take-append-drop}
 use lib.Seq.{length-take-le}
-use lib.Dec.{ltb, leb, eqb}
+use lib.Dec.{ltb, leb, eqb, lit≤}
 use borrow.Author.Tests.{ltb-true, leb-false}
 use Rattle.answer.proofs.Below.{cond-case}
 use Rattle.editor.specs.Ledger.{squeeze}
@@ -22,7 +22,7 @@ use Rattle.ledger.specs.Calls.{squeezeOf}
 use Rattle.ledger.proofs.Words.{Whole, length-words, sizes-append, sizes-reverse}
 use Rattle.ledger.proofs.Sound.{Sound, framed-parts, records-sound}
 use Rattle.ledger.proofs.Lying.{words-in}
-use Rattle.desk_lines.specs.Desk.{historyRoom, workRoom}
+use Rattle.desk_lines.specs.Desk.{historyRoom, fileRoom, workRoom}
 
 module _ (s : State) (k : ℕ) (work : List ℕ) (wide : length (s .history) ≤ length work) where
   module _ (v : Parted) (h : Sound s v) where
@@ -79,3 +79,7 @@ unfolding outcomeOf
 never-short s k small =
     cond-case (λ (o : Outcome). eqb (o .verdict .number) 9 ≡ false) (over (s .text) || over (s .history)) (λ _. refl)
     (λ _. found-room s k workRoom (omega (arith, work-long, small)) (records s) (records-sound s))
+
+-- the room for a page file holds the longest that there was before order 10 (file-most, crates/desk/proofs/Room.antt)
+pub before-fits : 113 + 18 * 65536 ≤ fileRoom
+before-fits = lit≤ tt

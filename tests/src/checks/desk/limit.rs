@@ -149,7 +149,11 @@ fn longest_nights(kind: Kind) -> Nights {
     Nights {
         runs: vec![
             first,
-            gone_on("longest", &[], &["redo", "show", "keep stepped too", "undo", "keep longest", "replace 0 0", "keep over"]),
+            gone_on(
+                "longest",
+                &[],
+                &["redo", "show", "keep stepped too", "undo", "keep longest", "replace 0 0", "keep over"],
+            ),
             gone_on("stepped", &[], &ENDS),
             gone_on("longest", &[], &ENDS),
             gone_on("more", &[("more", &more(1))], &ENDS),
@@ -162,9 +166,9 @@ fn longest_nights(kind: Kind) -> Nights {
 /// A page that grows by lines that are as long as can be, of cells that take many bytes each when they are written, until
 /// there is no room to save it. Its history is squeezed where it has no room left, and takes more then.
 fn grown(kind: Kind) -> Script {
-    let pattern = match kind {
-        Kind::Utf7Header | Kind::Utf7Body => "1F600 2D ",
-        Kind::Jp2 => "952121 9F2121 ",
+    let (letter, pattern) = match kind {
+        Kind::Utf7Header | Kind::Utf7Body => (["+", &"AKMAowCj".repeat(110_000), "-"].concat(), "A3 2D "),
+        Kind::Jp2 => ("a".repeat(500_000), "952121 9F2121 "),
     };
     let start = "replace 0 0 ";
     let cells = pattern.repeat((LONGEST_LINE - start.len()) / pattern.len());
@@ -176,7 +180,7 @@ fn grown(kind: Kind) -> Script {
         .chain(ended([
             "squeeze 40",
             "squeeze 27",
-            "squeeze 18",
+            "squeeze 12",
             "squeeze 2",
             &longest,
             "show",
@@ -186,7 +190,7 @@ fn grown(kind: Kind) -> Script {
             "redo",
             "redo",
         ]));
-    script(kind, &[BYTE; 500_000], lines.collect())
+    script(kind, letter.as_bytes(), lines.collect())
 }
 
 /// A line with its LF, which is as much as is read at once.
