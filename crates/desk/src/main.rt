@@ -128,8 +128,8 @@ fn go_on_by(name: &[u8], letter: &mut [u8], text: &mut [u32], history: &mut [u32
     }
 }
 
-// Makes a page of FILE. The room that a page file takes is given back here, before the page is worked on: the stack has no
-// room for both. (It has two callers: a function that has one is compiled into it.)
+// Makes a page of FILE. The room that a page file takes is given back here, before the page is worked on: the stack
+// does not hold both. (It has two callers, and stays a function: one that has one caller is compiled into it.)
 fn begin(
     what: Source,
     name: &[u8],
