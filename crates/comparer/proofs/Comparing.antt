@@ -30,10 +30,9 @@ use Rattle.codec.specs.declared.Format.{Format}
 use Rattle.codec.specs.declared.Format as format
 use Rattle.stepper.specs.declared.Place.{Place}
 use Rattle.stepper.specs.Stepper.{aCell, theAnswer, gift, givenAt, placeAfter, startOf, readingOf, markedOf, nthGift}
-use Rattle.comparer.proofs.Places.{nth-given}
+use Rattle.comparer.proofs.Places.{Steps, nth-given}
 use Rattle.comparer.specs.Compare.{Comparison, same, part, refused, marksOf, verdictIn, partsAt, partsOf}
 use Rattle.comparer.specs.Compare.{unlessRefused, judgedBy, compareOf}
-use Rattle.comparer.specs.Inner.{Steps}
 use Rattle.comparer.specs.declared.Text.the-variants.{First, Second}
 
 -- a text has no more cells than bytes
@@ -42,7 +41,7 @@ few-marked :
     length (markedIn rule marking text) ≤ length text
 few-marked rule marking text =
     let e : length (markedIn rule marking text) ≡ length (reading rule text .cells) =
-        simp length-map at (ap length (marked-cells rule marking text))
+    simp length-map at (ap length (marked-cells rule marking text))
     in
     omega (arith, e, few-cells rule text)
 

@@ -1,4 +1,5 @@
 pub mod Places
 pub mod Comparing
 pub mod Laws
+pub mod Judging
 pub mod Cases

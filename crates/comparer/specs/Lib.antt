@@ -1,3 +1,2 @@
 pub mod Compare
-pub mod Inner
 pub mod Cases

@@ -5,9 +5,9 @@ use codec::Format;
 use stepper::Handed;
 use stepper::Place;
 ghost use mathlib.Core.Path.{_≡_};
+ghost use mathlib.Core.Bool.{true};
 ghost use Rattle.answer.specs.Answer.{inNumbers};
-ghost use Rattle.comparer.specs.Compare.{comparedAs, verdictIn, judgedBy, compareOf};
-ghost use Rattle.comparer.specs.Inner.{Steps};
+ghost use Rattle.comparer.specs.Compare.{comparedAs, verdictIn, partsOf, compareOf};
 
 pub enum Text {
     First,
@@ -23,44 +23,37 @@ pub enum Compared {
     Refused(Text, Refusal, usize),
 }
 
-// The answer of reading a whole text, from any place that steps lead to.
-fn rest(format: Format, text: &[u8], from: Place, n: usize) -> Answer
-    requires { ⌜ Steps format (now text) n from ⌝ }
+// The texts are equal byte for byte. Each byte is compared, so that the loop compiles to no branch.
+fn alike(first: &[u8], second: &[u8]) -> bool
+    ensures { λ r. ⌜ (r ≡ true → now (first .entry) ≡ now (second .entry)) ⌝ }
+{
+    if first.len() != second.len() {
+        return false;
+    }
+    let mut same = true;
+    let mut k: usize = 0;
+    while k < first.len() {
+        same = same & (first[k] == second[k]);
+        k += 1;
+    }
+    same
+}
+
+// The answer of reading a text with room enough: an empty output takes no cell, so that 9 comes with the count.
+fn answer_of(format: Format, text: &[u8]) -> Answer
     ensures { λ r. ⌜ inNumbers r ≡ verdictIn format (now (text .entry)) ⌝ }
 {
-    let mut place = from;
-    let mut k = n;
-    loop {
-        let turn = stepper::step(text, place);
-        let handed = turn.handed;
-        match handed {
-            Handed::Cell(_) => {
-                place = turn.place;
-                k += 1;
-            }
-            Handed::Final(answer) => {
-                return answer;
-            }
-        }
+    let mut none = [0u32; 0];
+    let found = codec::read(format, text, &mut none);
+    if answer::number(found) == 9 {
+        return Answer::Accepted(answer::place(found));
     }
+    found
 }
 
-// By the answers of both texts: a refusal of the first, of the second, or what was found.
-fn judge(one: Answer, two: Answer, found: Compared) -> Compared
-    ensures { λ r. ⌜ comparedAs r ≡ judgedBy (inNumbers one) (inNumbers two) (comparedAs found) ⌝ }
-{
-    match one {
-        Answer::Refused(why, place) => Compared::Refused(Text::First, why, place),
-        Answer::Accepted(_) => match two {
-            Answer::Refused(why, place) => Compared::Refused(Text::Second, why, place),
-            Answer::Accepted(_) => found,
-        },
-    }
-}
-
-// Both texts are read side by side up to where they part, and then each to its end.
-pub fn compare(format: Format, first: &[u8], second: &[u8]) -> Compared
-    ensures { λ r. ⌜ comparedAs r ≡ compareOf format (now (first .entry)) (now (second .entry)) ⌝ }
+// Where two texts part, if they do: both are read side by side.
+fn parting(format: Format, first: &[u8], second: &[u8]) -> Compared
+    ensures { λ r. ⌜ comparedAs r ≡ partsOf format (now (first .entry)) (now (second .entry)) ⌝ }
 {
     let mut p = stepper::start(format);
     let mut q = stepper::start(format);
@@ -78,25 +71,41 @@ pub fn compare(format: Format, first: &[u8], second: &[u8]) -> Compared
                         q = b.place;
                         n += 1;
                     } else {
-                        let one = rest(format, first, p, n);
-                        let two = rest(format, second, q, n);
-                        return judge(one, two, Compared::Part(n, c.begin, d.begin));
+                        return Compared::Part(n, c.begin, d.begin);
                     }
                 }
-                Handed::Final(two) => {
-                    let one = rest(format, first, p, n);
-                    return judge(one, two, Compared::Part(n, c.begin, second.len()));
+                Handed::Final(_) => {
+                    return Compared::Part(n, c.begin, second.len());
                 }
             },
-            Handed::Final(one) => match y {
+            Handed::Final(_) => match y {
                 Handed::Cell(d) => {
-                    let two = rest(format, second, q, n);
-                    return judge(one, two, Compared::Part(n, first.len(), d.begin));
+                    return Compared::Part(n, first.len(), d.begin);
                 }
-                Handed::Final(two) => {
-                    return judge(one, two, Compared::Same(n));
+                Handed::Final(_) => {
+                    return Compared::Same(n);
                 }
             },
+        }
+    }
+}
+
+// Each text is judged to its end, the first before the second; equal bytes are read once.
+pub fn compare(format: Format, first: &[u8], second: &[u8]) -> Compared
+    ensures { λ r. ⌜ comparedAs r ≡ compareOf format (now (first .entry)) (now (second .entry)) ⌝ }
+{
+    let one = answer_of(format, first);
+    match one {
+        Answer::Refused(why, place) => Compared::Refused(Text::First, why, place),
+        Answer::Accepted(count) => {
+            if alike(first, second) {
+                return Compared::Same(count);
+            }
+            let two = answer_of(format, second);
+            match two {
+                Answer::Refused(why, place) => Compared::Refused(Text::Second, why, place),
+                Answer::Accepted(_) => parting(format, first, second),
+            }
         }
     }
 }
