@@ -6,6 +6,9 @@ use mathlib.Core.List.{List, [], _∷_}
 use mathlib.Core.Option.{Option, none, some}
 use lib.ListN.{length, take, drop}
 use lib.Dec.{eqb}
+use Rattle.answer.specs.Bytes.{bytes}
+use Rattle.codec.specs.declared.Format.{Format}
+use Rattle.codec.specs.declared.Format.the-variants as format
 use Rattle.codec.specs.declared.Kind.{Kind}
 use Rattle.codec.specs.declared.Kind.the-variants.{Utf7Header, Utf7Body, Jp2}
 use Rattle.commands.specs.declared.Verb.{Verb}
@@ -14,6 +17,8 @@ use Rattle.commands.specs.declared.Verb.the-variants.{Squeeze, Keep, Unk
 use Rattle.commands.specs.declared.Said.{Said}
 use Rattle.commands.specs.declared.Named.{Named}
 use Rattle.commands.specs.declared.Named.the-variants.{Known, NoKind}
+use Rattle.commands.specs.declared.Called.{Called}
+use Rattle.commands.specs.declared.Called.the-variants.{As, NoFormat}
 
 -- space, tab, CR and LF part the words of a line
 abbrev pub blank : ℕ → Bool
@@ -67,3 +72,13 @@ kindIn NoKind = none
 -- `page`, in a kind's place: a page that was kept
 abbrev pub pageNamed : List ℕ → Bool
 pageNamed w = same w (112 ∷ 97 ∷ 103 ∷ 101 ∷ [])
+
+-- the names of texts, of whatever style, as same_letter takes them
+unfoldable pub formatNamed : List ℕ → Option Format
+formatNamed w =
+    cond (same w (bytes "utf7")) (some format.Utf7)
+    (cond (same w (bytes "jp2")) (some format.Jp2) (cond (same w (bytes "mailbox")) (some format.Mailbox) none))
+
+abbrev pub formatIn : Called → Option Format
+formatIn (As f) = some f
+formatIn NoFormat = none

@@ -1,12 +1,15 @@
-// What a desk is told: a line's command, and the numbers that follow a replace or a squeeze.
+// What a desk is told: a line's command, and the numbers that follow a replace or a squeeze. And the kinds of texts by
+// their names.
 pub mod numbers;
 
+use codec::Format;
 use codec::Kind;
 ghost use mathlib.Core.Path.{_≡_};
 ghost use mathlib.Core.Bool.{cond, not};
 ghost use Prim.Native.Nat.{_+_, _≤_};
 ghost use lib.ListN.{length, drop};
 ghost use Rattle.commands.specs.Lines.{blank, stretch, same, verbOf, saidIn, kindNamed, kindIn, pageNamed};
+ghost use Rattle.commands.specs.Lines.{formatNamed, formatIn};
 
 pub enum Verb {
     Nothing,
@@ -31,6 +34,12 @@ pub struct Said {
 pub enum Named {
     Known(Kind),
     NoKind,
+}
+
+// The format that a word names.
+pub enum Called {
+    As(Format),
+    NoFormat,
 }
 
 pub fn is_blank(b: u8) -> bool
@@ -154,4 +163,20 @@ pub fn is_page(word: &[u8]) -> bool
     ensures { λ r. ⌜ r ≡ pageNamed (now (word .entry)) ⌝ }
 {
     is_word(word, b"page")
+}
+
+// The format of a text by its name, for same_letter.
+pub fn format_named(word: &[u8]) -> Called
+    ensures { λ r. ⌜ formatIn r ≡ formatNamed (now (word .entry)) ⌝ }
+{
+    if is_word(word, b"utf7") {
+        return Called::As(Format::Utf7);
+    }
+    if is_word(word, b"jp2") {
+        return Called::As(Format::Jp2);
+    }
+    if is_word(word, b"mailbox") {
+        return Called::As(Format::Mailbox);
+    }
+    Called::NoFormat
 }

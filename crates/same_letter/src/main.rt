@@ -1,0 +1,79 @@
+// same_letter KIND FILE FILE: whether two letters that arrived are the same, as document 02, order 11 asks.
+use codec::Format;
+use commands::Called;
+use libc::STDERR_FILENO;
+use libc::STDOUT_FILENO;
+use streams::Got;
+ghost use Rattle.streams.specs.Got.{Within};
+
+// A line on standard error.
+fn complain(what: &[u8]) {
+    streams::write_all(STDERR_FILENO, b"same_letter: ");
+    streams::write_all(STDERR_FILENO, what);
+    streams::write_all(STDERR_FILENO, b"\n");
+}
+
+// A line on standard error: what failed, and errno's text.
+fn fail(what: &[u8]) {
+    streams::write_all(STDERR_FILENO, b"same_letter: ");
+    os::fail(what);
+}
+
+// The kind and the two files that the program was started with.
+fn main() {
+    if os::arg_count() != 4 {
+        complain(b"use: same_letter KIND FILE FILE, where KIND is utf7, jp2 or mailbox");
+        return;
+    }
+    let mut word = [0u8; 8];
+    let n = os::arg(1, &mut word);
+    let named = commands::format_named(&word[..n]);
+    match named {
+        Called::As(format) => compare(format),
+        Called::NoFormat => complain(b"KIND is utf7, jp2 or mailbox"),
+    }
+}
+
+// Reads the letter that an argument names; one that cannot be read is told of.
+fn letter(argument: usize, buf: &mut [u8]) -> Got
+    ensures { λ r. ⌜ Within r 0 (now (buf .exit)) ⌝ }
+{
+    let mut path = io::buffer();
+    let n = os::arg(argument, &mut path);
+    if os::errno() != 0 {
+        fail(b"FILE");
+        return Got::Failed;
+    }
+    let got = streams::read_file(&path[..n], &mut *buf);
+    match got {
+        Got::Bytes(_) => got,
+        Got::Failed => {
+            fail(&path[..n]);
+            got
+        }
+    }
+}
+
+// There is room for a byte more than a letter may have, so that one that is too long is refused with 16.
+fn compare(format: Format) {
+    let mut first = [0u8; 1048577];
+    let mut second = [0u8; 1048577];
+    let one = letter(2, &mut first);
+    let two = letter(3, &mut second);
+    match one {
+        Got::Bytes(n) => match two {
+            Got::Bytes(m) => tell(format, &first[..n], &second[..m]),
+            Got::Failed => {}
+        },
+        Got::Failed => {}
+    }
+}
+
+fn tell(format: Format, first: &[u8], second: &[u8]) {
+    let lines = same_lines::print(comparer::compare(format, first, second));
+    let size = lines.size;
+    let bytes = lines.bytes;
+    if size <= 128 {
+        streams::write_all(STDOUT_FILENO, &bytes[..size]);
+    }
+}
