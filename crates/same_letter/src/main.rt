@@ -4,7 +4,10 @@ use commands::Called;
 use libc::STDERR_FILENO;
 use libc::STDOUT_FILENO;
 use streams::Got;
+ghost use mathlib.Core.Path.{_≡_};
+ghost use lib.ListN.{length};
 ghost use Rattle.streams.specs.Got.{Within};
+ghost use Rattle.same_letter.specs.Room.{letterRoom};
 
 // A line on standard error.
 fn complain(what: &[u8]) {
@@ -54,26 +57,52 @@ fn letter(argument: usize, buf: &mut [u8]) -> Got
     }
 }
 
-// There is room for a byte more than a letter may have, so that one that is too long is refused with 16.
+// Zeros, a byte more than a letter may have, so that one that is too long is refused with 16.
+fn room() -> [u8; 1048577]
+    ensures { λ r. ⌜ letterRoom ≡ length r ⌝ }
+{
+    [0; 1048577]
+}
+
 fn compare(format: Format) {
-    let mut first = [0u8; 1048577];
-    let mut second = [0u8; 1048577];
-    let one = letter(2, &mut first);
-    let two = letter(3, &mut second);
-    match one {
-        Got::Bytes(n) => match two {
-            Got::Bytes(m) => tell(format, &first[..n], &second[..m]),
-            Got::Failed => {}
-        },
-        Got::Failed => {}
+    let mut first = room();
+    let mut second = room();
+    compare_in(format, &mut first, &mut second);
+}
+
+// Reads both letters, and compares them where both could be read.
+fn compare_in(format: Format, first: &mut [u8], second: &mut [u8]) {
+    let one = letter(2, &mut *first);
+    let two = letter(3, &mut *second);
+    if let Got::Bytes(n) = one {
+        if let Got::Bytes(m) = two {
+            compare_front(format, &*first, n, &*second, m);
+        }
     }
+}
+
+// So many bytes of each came.
+fn compare_front(format: Format, first: &[u8], n: usize, second: &[u8], m: usize) {
+    if first.len() < n {
+        return;
+    }
+    if second.len() < m {
+        return;
+    }
+    tell(format, &first[..n], &second[..m]);
 }
 
 fn tell(format: Format, first: &[u8], second: &[u8]) {
     let lines = same_lines::print(comparer::compare(format, first, second));
     let size = lines.size;
     let bytes = lines.bytes;
-    if size <= 128 {
-        streams::write_all(STDOUT_FILENO, &bytes[..size]);
+    write_front(&bytes, size);
+}
+
+// So many of the bytes go to standard output.
+fn write_front(bytes: &[u8], size: usize) {
+    if bytes.len() < size {
+        return;
     }
+    streams::write_all(STDOUT_FILENO, &bytes[..size]);
 }
