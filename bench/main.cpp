@@ -133,7 +133,8 @@ static void measure_all(const Options &o) {
     for (const Row &row : page_rows()) take(row);
     for (const Row &row : page_file_rows()) take(row);
     for (const Table &table : {ratio_table(all), reading_table(all), writing_table(all), stepping_table(all),
-                               page_table(all), growth_table(all), squeeze_table(all), page_file_table(all), limit_table(all),
+                               comparing_table(all), page_table(all), growth_table(all), squeeze_table(all), page_file_table(all),
+                               limit_table(all),
                                agreement_table(agreements)})
         print(table, o.markdown);
     if (o.parties) print(parties_table(all), o.markdown);

@@ -96,6 +96,22 @@ Table stepping_table(const std::vector<Measured> &all) {
     return table;
 }
 
+Table comparing_table(const std::vector<Measured> &all) {
+    Table table{"Comparing equal texts, against reading both",
+                {"corpus", "size", "call", "ours MB/s", "read both MB/s", "ours/read both"},
+                {},
+                {}};
+    for (const Measured *m : rows_of(all, "compare")) {
+        const Timed &ours = *times_of(m->timed, "ours"), &both = *times_of(m->timed, "read both");
+        table.lines.push_back({m->task.subject, m->task.size, m->task.call, speed(m->task.bytes, ours),
+                               speed(m->task.bytes, both), shown(faster_by(ours, both))});
+    }
+    table.notes = {"compare: a text and a copy of it. compare-spelled: the same cells as another gateway spells them, UTF-7 in body "
+                   "and in header style, JP-2 with ASCII designated once more where each line begins.",
+                   "MB/s are of the first text's bytes."};
+    return table;
+}
+
 Table limit_table(const std::vector<Measured> &all) {
     Table table{"The limit", {"size", "memcpy MB/s", "widening loop MB/s"}, {}, {}};
     for (const Measured &m : all) {

@@ -19,6 +19,7 @@ Table ratio_table(const std::vector<Measured> &all);
 Table reading_table(const std::vector<Measured> &all);
 Table writing_table(const std::vector<Measured> &all);
 Table stepping_table(const std::vector<Measured> &all);
+Table comparing_table(const std::vector<Measured> &all);
 Table limit_table(const std::vector<Measured> &all);
 Table page_table(const std::vector<Measured> &all);
 Table growth_table(const std::vector<Measured> &all);

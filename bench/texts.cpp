@@ -62,6 +62,87 @@ static Party our_stepping(Shared m) {
             }};
 }
 
+// Texts that are compared, one by one.
+struct Pairs {
+    std::vector<Bytes> first, second;
+
+    size_t bytes() const {
+        size_t sum = 0;
+        for (const Bytes &text : first) sum += text.size();
+        return sum;
+    }
+};
+
+// Each text and a copy of it.
+static Pairs copies(const Material &m) { return {m.corpus.pieces, m.corpus.pieces}; }
+
+static Bytes written(WriteCall write, const Cells &cells, size_t count) {
+    Bytes text(6 * count + 3);
+    text.resize(accepted(write(cells.data(), count, text.data(), text.size()), "writing"));
+    return text;
+}
+
+// UTF-7 in body and in header style, no longer than the piece.
+static void in_styles(Pairs &pairs, const Cells &cells, size_t size) {
+    size_t count = cells.size();
+    const size_t whole = written(UTF7.styles[1].ours, cells, count).size();
+    if (whole > size) count = count * size / whole * 63 / 64;
+    pairs.first.push_back(written(UTF7.styles[0].ours, cells, count));
+    pairs.second.push_back(written(UTF7.styles[1].ours, cells, count));
+}
+
+// JP-2 with ASCII designated once more where each line begins, no longer than the piece.
+static void designated(Pairs &pairs, const Bytes &piece) {
+    Bytes first, second;
+    for (size_t at = 0, end; at < piece.size(); at = end) {
+        for (end = at; end < piece.size() && piece[end] != '\n';) end++;
+        if (end < piece.size()) end++;
+        if (second.size() + 3 + (end - at) > piece.size()) break;
+        first.insert(first.end(), piece.begin() + at, piece.begin() + end);
+        for (const char c : {'\x1b', '(', 'B'}) second.push_back(uint8_t(c));
+        second.insert(second.end(), piece.begin() + at, piece.begin() + end);
+    }
+    if (first.empty()) return;
+    pairs.first.push_back(first);
+    pairs.second.push_back(second);
+}
+
+// The same cells as another gateway spells them. Names have one spelling, and so has a text of one line in JP-2 here.
+static Pairs spelled(const Material &m) {
+    Pairs pairs;
+    for (size_t i = 0; i < m.corpus.pieces.size(); i++) {
+        if (m.corpus.format == &UTF7) in_styles(pairs, m.cells[i], m.corpus.pieces[i].size());
+        if (m.corpus.format == &JP2) designated(pairs, m.corpus.pieces[i]);
+    }
+    return pairs;
+}
+
+static Party our_comparing(const Format &format, std::shared_ptr<const Pairs> pairs) {
+    return {"ours", [compare = format.compare, pairs] {
+                for (size_t i = 0; i < pairs->first.size(); i++) {
+                    const Bytes &first = pairs->first[i], &second = pairs->second[i];
+                    const auto found = compare(first.data(), first.size(), second.data(), second.size());
+                    accepted(found.answer, "comparing");
+                    if (!found.same) fail("comparing: not the same");
+                }
+            }};
+}
+
+// What comparing is measured against: both texts are read.
+static Party reading_both(const Format &format, std::shared_ptr<const Pairs> pairs) {
+    return {"read both", [read = format.read, pairs, out = memory<Cells>(LIMIT)] {
+                for (const auto *texts : {&pairs->first, &pairs->second})
+                    for (const Bytes &text : *texts)
+                        accepted(read(text.data(), text.size(), out->data(), out->size()), "reading");
+            }};
+}
+
+static Row comparing(Task task, const Format &format, Pairs &&of) {
+    auto pairs = std::make_shared<const Pairs>(std::move(of));
+    task.bytes = pairs->bytes();
+    return {task, {our_comparing(format, pairs), reading_both(format, pairs)}};
+}
+
 static Party iconv_reading(Shared m, const std::string &way) {
     auto iconv = std::make_shared<Iconv>(way, m->corpus.format->iconv);
     return {way, [m, iconv, out = memory<Bytes>(4 * m->corpus.bytes())] {
@@ -141,6 +222,8 @@ std::vector<std::string> text_calls(const Format &format) {
     std::vector<std::string> calls{"read"};
     for (const Style &style : format.styles) calls.push_back(writing_call(style));
     calls.push_back("step");
+    calls.push_back("compare");
+    calls.push_back("compare-spelled");
     return calls;
 }
 
@@ -166,5 +249,9 @@ std::vector<Row> text_rows(Shared m) {
     std::vector<Row> rows{reading(m, task("read"))};
     for (const Style &style : format.styles) rows.push_back(writing(m, task(writing_call(style)), style));
     rows.push_back({task("step"), {our_stepping(m), icu_stepping(m)}});
+    if (m->corpus.size != "64K" && m->corpus.size != "1M") return rows;
+    rows.push_back(comparing(task("compare"), format, copies(*m)));
+    Pairs others = spelled(*m);
+    if (others.first != others.second) rows.push_back(comparing(task("compare-spelled"), format, std::move(others)));
     return rows;
 }

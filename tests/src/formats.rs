@@ -51,8 +51,7 @@ impl Format {
     }
 }
 
-/// Every format, for the unit tests.
-#[cfg(test)]
+/// Every format.
 pub fn all() -> [Format; 3] {
     [utf7(), jp2(), mailbox()]
 }

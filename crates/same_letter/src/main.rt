@@ -3,22 +3,22 @@ use codec::Format;
 use commands::Called;
 use libc::STDERR_FILENO;
 use libc::STDOUT_FILENO;
-use streams::Got;
+use whole_file::Got;
 ghost use mathlib.Core.Path.{_≡_};
 ghost use lib.ListN.{length};
-ghost use Rattle.streams.specs.Got.{Within};
+ghost use Rattle.whole_file.specs.Got.{Within};
 ghost use Rattle.same_letter.specs.Room.{letterRoom};
 
 // A line on standard error.
 fn complain(what: &[u8]) {
-    streams::write_all(STDERR_FILENO, b"same_letter: ");
-    streams::write_all(STDERR_FILENO, what);
-    streams::write_all(STDERR_FILENO, b"\n");
+    io::write_all(STDERR_FILENO, b"same_letter: ");
+    io::write_all(STDERR_FILENO, what);
+    io::write_all(STDERR_FILENO, b"\n");
 }
 
 // A line on standard error: what failed, and errno's text.
 fn fail(what: &[u8]) {
-    streams::write_all(STDERR_FILENO, b"same_letter: ");
+    io::write_all(STDERR_FILENO, b"same_letter: ");
     os::fail(what);
 }
 
@@ -47,7 +47,7 @@ fn letter(argument: usize, buf: &mut [u8]) -> Got
         fail(b"FILE");
         return Got::Failed;
     }
-    let got = streams::read_file(&path[..n], &mut *buf);
+    let got = whole_file::read(&path[..n], &mut *buf);
     match got {
         Got::Bytes(_) => got,
         Got::Failed => {
@@ -104,5 +104,5 @@ fn write_front(bytes: &[u8], size: usize) {
     if bytes.len() < size {
         return;
     }
-    streams::write_all(STDOUT_FILENO, &bytes[..size]);
+    io::write_all(STDOUT_FILENO, &bytes[..size]);
 }

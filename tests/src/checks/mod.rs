@@ -14,6 +14,7 @@ mod peers;
 mod plain;
 mod reading;
 mod same_letter;
+mod same_program;
 mod spelling;
 mod squeeze;
 mod stepping;

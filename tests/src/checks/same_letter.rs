@@ -1,6 +1,7 @@
-//! Order 11 of document 02, "Are these the same letter?": the comparers of the library.
+//! Order 11 of document 02, "Are these the same letter?": the comparers of the library. The program `same_letter` is in same_program.rs.
 
 use super::joining::Pair;
+use super::same_program;
 use crate::examples::compare::{examples, Example};
 use crate::formats::{self, Format};
 use crate::library::compare::{self as library, Comparer};
@@ -12,7 +13,7 @@ use crate::second::LIMIT;
 use crate::texts::{lengths, Alphabet, Source};
 use crate::trial::{try_all, Input};
 
-/// A part for each format.
+/// A part for each format, and one for the program.
 pub fn parts(seed: u64) -> Vec<Part> {
     let part = |format: fn() -> Format, comparer: &'static Comparer| {
         let name = format!("same-letter-{}", format().name);
@@ -22,6 +23,7 @@ pub fn parts(seed: u64) -> Vec<Part> {
         part(formats::utf7, &library::UTF7),
         part(formats::jp2, &library::JP2),
         part(formats::mailbox, &library::MAILBOX),
+        Part::new("same-letter-program", move |report| same_program::run(report, seed)),
     ]
 }
 
@@ -64,7 +66,7 @@ fn is(found: Comparison, expected: Comparison) -> Result<(), String> {
     }
 }
 
-fn number(found: Comparison) -> u32 {
+pub fn number(found: Comparison) -> u32 {
     match found {
         Comparison::Same { .. } | Comparison::Part { .. } => 0,
         Comparison::Refused { answer, .. } => answer.number,
@@ -85,14 +87,14 @@ fn short(source: &Source) -> impl Iterator<Item = Pair> {
         .flat_map(move |first| texts.clone().into_iter().map(move |second| Pair { first: first.clone(), second }))
 }
 
-fn seeded(source: &'static Source, seed: u64) -> impl Iterator<Item = Pair> {
+pub fn seeded(source: &'static Source, seed: u64) -> impl Iterator<Item = Pair> {
     let texts = move |purpose| source.texts(seed, purpose, 100_000, lengths::mostly_short);
     texts("first letters").zip(texts("second letters")).map(|(first, second)| Pair { first, second })
 }
 
 /// Two whole texts, a text and itself, or a text and a part of it, with a byte that no text may have behind one or
 /// both.
-fn with_faults(source: &'static Source, seed: u64) -> impl Iterator<Item = Pair> {
+pub fn with_faults(source: &'static Source, seed: u64) -> impl Iterator<Item = Pair> {
     let mut rng = Rng::new(seed, "faults behind the parting");
     (0..20_000).map(move |_| {
         let length = rng.below(60);
@@ -114,7 +116,7 @@ fn with_faults(source: &'static Source, seed: u64) -> impl Iterator<Item = Pair>
 }
 
 /// Lists of cells of which one was changed, taken out or put in, each in some spelling.
-fn nearly_same<'a>(format: &'a Format, seed: u64) -> impl Iterator<Item = Pair> + 'a {
+pub fn nearly_same<'a>(format: &'a Format, seed: u64) -> impl Iterator<Item = Pair> + 'a {
     let mut rng = Rng::new(seed, "letters that differ a little");
     (0..20_000).map(move |_| {
         let count = rng.between(1, 40);
@@ -133,7 +135,7 @@ fn nearly_same<'a>(format: &'a Format, seed: u64) -> impl Iterator<Item = Pair> 
 }
 
 /// Long texts, each with itself, with the next, or that with it.
-fn at_limit(source: &'static Source) -> impl Iterator<Item = Pair> {
+pub fn at_limit(source: &'static Source) -> impl Iterator<Item = Pair> {
     let texts: Vec<Vec<u8>> =
         [LIMIT - 1, LIMIT, LIMIT + 1].into_iter().flat_map(|length| source.texts_of_length(length)).collect();
     (0..texts.len()).flat_map(move |index| {

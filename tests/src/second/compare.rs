@@ -45,6 +45,19 @@ pub fn compare(steps: fn(&[u8]) -> Steps, first: &[u8], second: &[u8]) -> Compar
     }
 }
 
+/// What same_letter prints of it, every line ended by LF as the listers' are.
+pub fn print(found: &Comparison) -> String {
+    match found {
+        Comparison::Same { count } => format!("status=0\ncount={count}\n"),
+        Comparison::Part { index, first, second } => {
+            format!("status=0\nindex={index}\nfirst={first}\nsecond={second}\n")
+        }
+        Comparison::Refused { text, answer: Answer { number, place } } => {
+            format!("status={number}\ntext={text}\nplace={place}\n")
+        }
+    }
+}
+
 #[cfg(test)]
 mod tests {
     use super::*;

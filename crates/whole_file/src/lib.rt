@@ -1,9 +1,9 @@
-// Reads and writes, each made again where a signal interrupted it before it had done anything; and a file read whole.
+// A file read whole.
 use libc::EINTR;
 ghost use Prim.Native.Nat.{_≤_};
 ghost use mathlib.Core.Path.{_≡_};
 ghost use lib.ListN.{length};
-ghost use Rattle.streams.specs.Got.{Within};
+ghost use Rattle.whole_file.specs.Got.{Within};
 
 // A proved loop has to end, and nothing says that the signals do: so it counts down from a number that no run uses up.
 const ROUNDS: u64 = 18446744073709551615;
@@ -14,8 +14,9 @@ pub enum Got {
     Failed,
 }
 
-// Reads once: -1 where that fails, and otherwise how many bytes came, none at the end of the input.
-fn read(fd: i32, buf: &mut [u8]) -> isize {
+// Reads once, and again where a signal interrupted that before any byte came: -1 where it fails, and otherwise how many
+// bytes came, none at the end of the file.
+fn read_once(fd: i32, buf: &mut [u8]) -> isize {
     let mut rounds = ROUNDS;
     while 0 < rounds {
         rounds -= 1;
@@ -30,41 +31,12 @@ fn read(fd: i32, buf: &mut [u8]) -> isize {
     -1
 }
 
-// Writes once: -1 where that fails, and otherwise how many bytes were written.
-fn write(fd: i32, bytes: &[u8]) -> isize {
-    let mut rounds = ROUNDS;
-    while 0 < rounds {
-        rounds -= 1;
-        let put = libc::write(fd, bytes);
-        if 0 <= put {
-            return put;
-        }
-        if os::errno() != EINTR {
-            return -1;
-        }
-    }
-    -1
-}
-
-// Writes all of the bytes; or stops at the first write that fails or takes nothing, and says so.
-pub fn write_all(fd: i32, bytes: &[u8]) -> bool {
-    let mut at: usize = 0;
-    while at < bytes.len() {
-        let put = io::count(write(fd, &bytes[at..]), &bytes[at..]);
-        if put == 0 {
-            return false;
-        }
-        at += put;
-    }
-    true
-}
-
 // Reads once behind the first bytes of a buffer, and says how many there are then: no more at the end of the file.
 fn read_on(fd: i32, buf: &mut [u8], at: usize) -> Got
     requires { ⌜ at ≤ length (now buf) ⌝ }
     ensures { λ r. ⌜ Within r at (now (buf .exit)) × (length (now (buf .exit)) ≡ length (now (buf .entry))) ⌝ }
 {
-    let got = read(fd, &mut buf[at..]);
+    let got = read_once(fd, &mut buf[at..]);
     if got < 0 {
         return Got::Failed;
     }
@@ -94,7 +66,7 @@ fn read_all(fd: i32, buf: &mut [u8]) -> Got
 
 // Reads a file by its name, to its end or until the buffer is full. A file that was only read is closed whatever the
 // close says, and errno is the read's.
-pub fn read_file(name: &[u8], buf: &mut [u8]) -> Got
+pub fn read(name: &[u8], buf: &mut [u8]) -> Got
     ensures { λ r. ⌜ Within r 0 (now (buf .exit)) ⌝ }
 {
     let fd = os::open_read(name);

@@ -2,8 +2,8 @@
 use Prim.Native.Nat.{ℕ, _≤_}
 use mathlib.Core.List.{List}
 use lib.ListN.{length}
-use Rattle.streams.specs.declared.Got.{Got}
-use Rattle.streams.specs.declared.Got.the-variants.{Bytes, Failed}
+use Rattle.whole_file.specs.declared.Got.{Got}
+use Rattle.whole_file.specs.declared.Got.the-variants.{Bytes, Failed}
 
 -- the bytes in a buffer after a read behind its first `at`
 abbrev pub Within : Got → ℕ → List ℕ → Type 0

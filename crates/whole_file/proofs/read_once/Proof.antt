@@ -1,30 +1,28 @@
-use Prim.Native.Nat.{_≤_, _-_}
+use mathlib.Core.Path.{_≡_}
 use lib.ListN.{length}
 use borrow.Author.Needs.{needs}
-use Rattle.streams.proofs.write_all.Statement.{statement}
-use Rattle.streams.proofs.write_all.Tie as tie
+use Rattle.whole_file.proofs.read_once.Statement.{statement}
+use Rattle.whole_file.proofs.read_once.Tie as tie
 
 abbrev Inv-loop : tie.InvT-loop
-Inv-loop fd bytes at₀ at = at ≤ length bytes
+Inv-loop fd buf₀ rounds₀ buf rounds = length buf ≡ length buf₀
 
 abbrev μ-loop : tie.MeasureT-loop
-μ-loop fd bytes at₀ at = length bytes - at
+μ-loop fd buf₀ rounds₀ buf rounds = rounds
 
-pub write-all-spec : {M : Type 1} → statement M
-write-all-spec =
+pub read-once-spec : {M : Type 1} → statement M
+read-once-spec =
     tie.close
     (tie.spec
     Inv-loop
     μ-loop
     (λ c. search needs)
     (λ c. search needs)
+    (λ c κs. search needs)
     (λ c. search needs)
     (λ c. search needs)
     (λ c κs. search needs)
     (λ c. search needs)
-    (λ c. search needs)
-    (λ c. search needs)
-    (λ c κs. search needs)
     (λ c. search needs)
     (λ c. search needs)
     (λ c. search needs)
