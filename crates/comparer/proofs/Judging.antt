@@ -14,7 +14,7 @@ use Rattle.answer.specs.declared.Answer.{Answer}
 use Rattle.reading.specs.Reading.{Ending, accepted, fault, Reading, Rule, closing, onEnding, reading}
 use Rattle.reading.specs.Spans.{Marking, markedIn}
 use Rattle.reading.specs.declared.Marked.{Marked}
-use Rattle.reading.proofs.Spans.{marked-cells}
+use Rattle.reading.proofs.Spans.{values, marked-cells}
 use Rattle.utf7.specs.Sets.{member}
 use Rattle.utf7.specs.Rule.{utf7}
 use Rattle.utf7.specs.Spans as utf7-spans
@@ -30,7 +30,7 @@ use Rattle.codec.proofs.ByKind.{read-form}
 use Rattle.codec.proofs.Faults.{KnownEnd, known}
 use Rattle.stepper.specs.Stepper.{readingOf, markedOf}
 use Rattle.comparer.specs.Compare.{same, marksOf, verdictIn, compareOf}
-use Rattle.comparer.proofs.Laws.{with-itself}
+use Rattle.comparer.proofs.Laws.{with-itself, alike-same}
 
 -- 9 with the count that an output lacked room for is 0 with that count where there is room
 abbrev pub roomy : Verdict → Verdict
@@ -69,7 +69,7 @@ roomy-ended :
 roomy-ended f accepted cells out k = roomy-delivered cells out
 roomy-ended f (fault n place) cells out k = rw (other-by f n 9 (eqb n 9) (not-nine f) refl k)
 
-same-reading : (f : Format) (text : List ℕ) → kinds.readingOf f text ≡ readingOf f text
+pub same-reading : (f : Format) (text : List ℕ) → kinds.readingOf f text ≡ readingOf f text
 unfolding kinds.readingOf
 same-reading Utf7 text = refl
 same-reading Jp2 text = refl
@@ -124,7 +124,7 @@ module _ (f : Format) (text : List ℕ) (n : ℕ) where
   count-by true e m ms l k q = absurd (omega (arith, ap (λ (v : Verdict). v .number) q))
   count-by false e m ms l k q = count-ended e m k q ∙ sym l
 
-  counted : numbered 0 n ≡ verdictIn f text → n ≡ length (marksOf f text)
+  pub counted : numbered 0 n ≡ verdictIn f text → n ≡ length (marksOf f text)
   counted q =
       count-by (ltb limit (length text)) (readingOf f text .ending) (length (readingOf f text .cells)) (markedOf f text)
       as-many-of (rw (same-reading f text) at (known f text)) q
@@ -132,6 +132,40 @@ module _ (f : Format) (text : List ℕ) (n : ℕ) where
   -- and is the same as itself
   pub same-itself : numbered 0 n ≡ verdictIn f text → same n ≡ compareOf f text text
   same-itself q = rw (counted q) (sym (rw (← q) at (with-itself f text)))
+
+-- the values of an accepted text's marks are its cells
+module _ (f : Format) (text : List ℕ) (n : ℕ) where
+  values-of : values (markedOf f text) ≡ readingOf f text .cells
+  values-of = by f
+    where
+      by : (g : Format) → values (markedOf g text) ≡ readingOf g text .cells
+      by Utf7 = marked-cells utf7 utf7-spans.spanIn text
+      by Jp2 = marked-cells jp2 jp2-spans.spanIn text
+      by Mailbox = marked-cells mailbox mailbox-spans.spanIn text
+
+  values-by :
+      (t : Bool) (v : Verdict) (ms : List Marked) (cells : List ℕ) → values ms ≡ cells → numbered 0 n ≡ cond t tooLong v →
+      values (cond t [] ms) ≡ cells
+  values-by true v ms cells l q = absurd (omega (arith, ap (λ (x : Verdict). x .number) q))
+  values-by false v ms cells l q = l
+
+  accepted-values : numbered 0 n ≡ verdictIn f text → values (marksOf f text) ≡ readingOf f text .cells
+  accepted-values q = values-by (ltb limit (length text)) _ (markedOf f text) (readingOf f text .cells) values-of q
+
+-- two accepted texts that read as the same cells
+pub same-read :
+    (f : Format) (first second : List ℕ) (n m : ℕ) → numbered 0 n ≡ verdictIn f first →
+    numbered 0 m ≡ verdictIn f second → readingOf f first .cells ≡ readingOf f second .cells →
+    same n ≡ compareOf f first second
+same-read f first second n m v w e =
+    sym
+    (alike-same f first second n
+    (record {
+      one = sym (ap (λ (x : Verdict). x .number) v);
+      two = sym (ap (λ (x : Verdict). x .number) w);
+      cells = accepted-values f first n v ∙ e ∙ sym (accepted-values f second m w);
+      count = counted f first n v;
+    }))
 
 -- equal so far, byte by byte
 abbrev pub Equal : List ℕ → List ℕ → ℕ → Type 0

@@ -2,4 +2,5 @@ pub mod Places
 pub mod Comparing
 pub mod Laws
 pub mod Judging
+pub mod Cutting
 pub mod Cases

@@ -1,4 +1,6 @@
 // Whether two arrived texts of one format read as the same cells: document 02, order 11.
+mod blocks;
+
 use answer::Answer;
 use answer::Refusal;
 use codec::Format;
@@ -104,7 +106,12 @@ pub fn compare(format: Format, first: &[u8], second: &[u8]) -> Compared
             let two = answer_of(format, second);
             match two {
                 Answer::Refused(why, place) => Compared::Refused(Text::Second, why, place),
-                Answer::Accepted(_) => parting(format, first, second),
+                Answer::Accepted(_) => {
+                    if blocks::read_alike(format, first, second) {
+                        return Compared::Same(count);
+                    }
+                    parting(format, first, second)
+                }
             }
         }
     }

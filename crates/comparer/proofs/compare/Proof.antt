@@ -4,7 +4,7 @@ use borrow.Author.Needs.{needs}
 use Rattle.comparer.specs.Compare.{unlessRefused, verdictIn, partsOf}
 use Rattle.comparer.specs.declared.Text.the-variants.{Second}
 use Rattle.comparer.proofs.Comparing.{judged-first, judged-second, judged, compared}
-use Rattle.comparer.proofs.Judging.{same-itself}
+use Rattle.comparer.proofs.Judging.{same-itself, same-read}
 use Rattle.comparer.proofs.compare.Statement.{statement}
 use Rattle.comparer.proofs.compare.Tie as tie
 
@@ -18,6 +18,17 @@ returns c =
 
 returns-2 : tie.Need-returns-2
 returns-2 c =
+    let r = c .before in
+    let w = r .before in
+    let h = w .before .before in
+    let o = h .before .before .before .before in
+    let g = o .before .before in
+    let a = g .before .before .before .args in
+    same-read (a .format) (now (a .first)) (now (a .second)) _ _ (rw (o .one2 .given .1) at (g .answer-of .ensures))
+    (rw (w .enum-told .given .1) at (h .answer-of2 .ensures)) (r .read-alike .ensures (c .if2 .taken) .cells)
+
+returns-3 : tie.Need-returns-3
+returns-3 c =
     let o = c .before in
     let g = o .before .before in
     let a = g .before .before .before .args in
@@ -28,8 +39,8 @@ returns-2 c =
     (o .one .given .1))
     (g .answer-of .ensures) refl refl
 
-returns-3 : tie.Need-returns-3
-returns-3 c =
+returns-4 : tie.Need-returns-4
+returns-4 c =
     let w = c .before in
     let h = w .before .before in
     let o = h .before .before .before .before in
@@ -41,9 +52,9 @@ returns-3 c =
     (judged-second (partsOf (a .format) first second) (o .one2 .given .1) (w .two .given .1))
     (g .answer-of .ensures) (h .answer-of2 .ensures) refl
 
-returns-4 : tie.Need-returns-4
-returns-4 c =
-    let w = c .before in
+returns-5 : tie.Need-returns-5
+returns-5 c =
+    let w = c .before .before .before in
     let h = w .before .before in
     let o = h .before .before .before .before in
     let g = o .before .before in
@@ -66,5 +77,7 @@ compare-spec =
     (λ c. search needs)
     (λ c κs. search needs)
     returns-2
+    (λ c κs. search needs)
     returns-3
-    returns-4)
+    returns-4
+    returns-5)

@@ -19,10 +19,9 @@ with-line-requires-3 c κs =
 with-line-requires-4 : tie.Need-with-line-requires-4
 with-line-requires-4 c κs =
     let w = c .before .before .before in
-    let s = w .before .before in
-    (
+    let s = w .before .before in (
       holds-less (c .before .with-line3 .ensures .0)
-      (omega (arith, w .with-line2 .ensures .0 .few, s .status2 .ensures .0 .few)),
+          (omega (arith, w .with-line2 .ensures .0 .few, s .status2 .ensures .0 .few)),
       omega arith,
     )
 

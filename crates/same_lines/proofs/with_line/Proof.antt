@@ -52,8 +52,8 @@ returns c =
         few = omega (arith, size c, few);
       },
       λ l e.
-      lines-next (a .lines) l (says (now (a .name)) (a .n)) _ _ e (s .pre .0 .room)
-      (omega (arith, few, s .pre .0 .few, s .pre .1)) out (ap (λ k. a .lines .size + k) (size c)),
+          lines-next (a .lines) l (says (now (a .name)) (a .n)) _ _ e (s .pre .0 .room)
+          (omega (arith, few, s .pre .0 .few, s .pre .1)) out (ap (λ k. a .lines .size + k) (size c)),
     )
 
 pub with-line-spec : {M : Type 1} → statement M
