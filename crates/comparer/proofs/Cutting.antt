@@ -202,5 +202,8 @@ pub block-alike :
 unfolding kinds.readsIn
 block-alike f first second out out' n e h =
     let r = block-read f first out out' n e in
-    let q = accepted-means (readingOf f second .ending) (readingOf f second .cells) (take n out') (rw (same-reading f second) at h) in
+    let q =
+    accepted-means (readingOf f second .ending) (readingOf f second .cells) (take n out')
+    (rw (same-reading f second) at h)
+    in
     record { one = r .0; two = q .0; cells = sym (r .1) ∙ sym (q .1) }

@@ -11,8 +11,7 @@ use borrow.Author.Tests.{eqb-true, eqb-false, eq-eqb, ne-eqb}
 use Rattle.answer.specs.Answer.{Verdict, numbered, inNumbers, limit, tooLong}
 use Rattle.answer.specs.Output.{Outcome, leaves, refusing, deliver}
 use Rattle.answer.specs.declared.Answer.{Answer}
-use Rattle.reading.specs.Reading.{Ending, accepted, fault, Reading, Rule, closing, onEnding, reading}
-use Rattle.reading.specs.Spans.{Marking, markedIn}
+use Rattle.reading.specs.Reading.{Ending, accepted, fault, closing, onEnding}
 use Rattle.reading.specs.declared.Marked.{Marked}
 use Rattle.reading.proofs.Spans.{values, marked-cells}
 use Rattle.utf7.specs.Sets.{member}
@@ -85,8 +84,9 @@ long-by false o out v e = e
 pub as-asked : (f : Format) (text out : List ℕ) → roomy (kinds.readIn f text out .verdict) ≡ verdictIn f text
 as-asked f text out =
     rw (read-form f text out, ← same-reading f text)
-    (long-by (ltb limit (length text)) (onEnding (kinds.readingOf f text .ending) (kinds.readingOf f text .cells) out) out _
-    (roomy-ended f (kinds.readingOf f text .ending) (kinds.readingOf f text .cells) out (known f text)))
+    (let r = kinds.readingOf f text in
+    long-by (ltb limit (length text)) (onEnding (r .ending) (r .cells) out) out _
+    (roomy-ended f (r .ending) (r .cells) out (known f text)))
 
 -- by what reading into some output left
 module _ (f : Format) (text : List ℕ) (found : Answer) (out out' : List ℕ)
@@ -100,18 +100,16 @@ module _ (f : Format) (text : List ℕ) (found : Answer) (out out' : List ℕ)
   pub told-other : (inNumbers found .number ≡ 9 → ⊥) → inNumbers found ≡ verdictIn f text
   told-other h = rw (ne-eqb (inNumbers found .number) 9 h) at told
 
--- an accepted text has as many cells as its answer says
-module _ (f : Format) (text : List ℕ) (n : ℕ) where
-  as-many : {S : Type 0} (rule : Rule S) (marking : Marking S) → length (markedIn rule marking text) ≡ length (reading rule text .cells)
-  as-many rule marking = simp length-map at (ap length (marked-cells rule marking text))
+-- the values of a text's marks are its cells
+values-of : (f : Format) (text : List ℕ) → values (markedOf f text) ≡ readingOf f text .cells
+values-of Utf7 text = marked-cells utf7 utf7-spans.spanIn text
+values-of Jp2 text = marked-cells jp2 jp2-spans.spanIn text
+values-of Mailbox text = marked-cells mailbox mailbox-spans.spanIn text
 
-  as-many-of : length (markedOf f text) ≡ length (readingOf f text .cells)
-  as-many-of = by f
-    where
-      by : (g : Format) → length (markedOf g text) ≡ length (readingOf g text .cells)
-      by Utf7 = as-many utf7 utf7-spans.spanIn
-      by Jp2 = as-many jp2 jp2-spans.spanIn
-      by Mailbox = as-many mailbox mailbox-spans.spanIn
+-- an accepted text has as many cells as its answer says, and its marks are all of them
+module _ (f : Format) (text : List ℕ) (n : ℕ) where
+  as-many : length (markedOf f text) ≡ length (readingOf f text .cells)
+  as-many = simp length-map at (ap length (values-of f text))
 
   count-ended : (e : Ending) (m : ℕ) → KnownEnd (faultsIn f) e → numbered 0 n ≡ closing e m → n ≡ m
   count-ended accepted m k q = ap (λ (v : Verdict). v .place) q
@@ -124,33 +122,24 @@ module _ (f : Format) (text : List ℕ) (n : ℕ) where
   count-by true e m ms l k q = absurd (omega (arith, ap (λ (v : Verdict). v .number) q))
   count-by false e m ms l k q = count-ended e m k q ∙ sym l
 
-  pub counted : numbered 0 n ≡ verdictIn f text → n ≡ length (marksOf f text)
+  counted : numbered 0 n ≡ verdictIn f text → n ≡ length (marksOf f text)
   counted q =
       count-by (ltb limit (length text)) (readingOf f text .ending) (length (readingOf f text .cells)) (markedOf f text)
-      as-many-of (rw (same-reading f text) at (known f text)) q
-
-  -- and is the same as itself
-  pub same-itself : numbered 0 n ≡ verdictIn f text → same n ≡ compareOf f text text
-  same-itself q = rw (counted q) (sym (rw (← q) at (with-itself f text)))
-
--- the values of an accepted text's marks are its cells
-module _ (f : Format) (text : List ℕ) (n : ℕ) where
-  values-of : values (markedOf f text) ≡ readingOf f text .cells
-  values-of = by f
-    where
-      by : (g : Format) → values (markedOf g text) ≡ readingOf g text .cells
-      by Utf7 = marked-cells utf7 utf7-spans.spanIn text
-      by Jp2 = marked-cells jp2 jp2-spans.spanIn text
-      by Mailbox = marked-cells mailbox mailbox-spans.spanIn text
+      as-many (rw (same-reading f text) at (known f text)) q
 
   values-by :
-      (t : Bool) (v : Verdict) (ms : List Marked) (cells : List ℕ) → values ms ≡ cells → numbered 0 n ≡ cond t tooLong v →
-      values (cond t [] ms) ≡ cells
+      (t : Bool) (v : Verdict) (ms : List Marked) (cells : List ℕ) → values ms ≡ cells →
+      numbered 0 n ≡ cond t tooLong v → values (cond t [] ms) ≡ cells
   values-by true v ms cells l q = absurd (omega (arith, ap (λ (x : Verdict). x .number) q))
   values-by false v ms cells l q = l
 
   accepted-values : numbered 0 n ≡ verdictIn f text → values (marksOf f text) ≡ readingOf f text .cells
-  accepted-values q = values-by (ltb limit (length text)) _ (markedOf f text) (readingOf f text .cells) values-of q
+  accepted-values q =
+      values-by (ltb limit (length text)) _ (markedOf f text) (readingOf f text .cells) (values-of f text) q
+
+  -- and is the same as itself
+  pub same-itself : numbered 0 n ≡ verdictIn f text → same n ≡ compareOf f text text
+  same-itself q = rw (counted q) (sym (rw (← q) at (with-itself f text)))
 
 -- two accepted texts that read as the same cells
 pub same-read :

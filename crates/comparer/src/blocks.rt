@@ -1,5 +1,5 @@
-// Two texts that read as the same cells, seen at the pace of reading: they are cut behind line ends, and a block of lines
-// is read by itself and compared with as many lines of the other. Document 02, order 9 says that a text is read as its
+// Two texts that read as the same cells, seen at the pace of reading: they are cut behind line ends, and a block of
+// lines is read by itself and compared with as many lines of the other. By document 02, order 9 a text is read as its
 // blocks are. Where that tells nothing, the texts are stepped through.
 use answer::Answer;
 use codec::Format;

@@ -7,7 +7,7 @@ use lib.ListN.{length, take, drop, replicate, length-append, length-take, length
 use lib.Seq.{take-at, drop-at}
 use borrow.Author.Tests.{le-ltb}
 use borrow.Rule.Slice.PartMut.{putMid}
-use Rattle.answer.specs.Answer.{inNumbers}
+use Rattle.answer.specs.Answer.{numbered, inNumbers}
 use Rattle.answer.specs.Output.{Outcome, leaves, filled, deliver}
 use Rattle.answer.specs.declared.Answer.{Answer}
 use Rattle.answer.proofs.Put.{Put, put-lent, put-done}
@@ -24,7 +24,7 @@ says-few name n = omega (arith, line-size name (decimal n), decimal-few 20 n)
 -- what was said, where there is room
 module _ (name : List ℕ) (n : ℕ) (sub y : List ℕ) (said : Answer) (e : leaves said y ≡ sayInto name n sub)
     (h : length (says name n) ≤ length sub) where
-  fits : leaves said y ≡ record { verdict = record { number = 0; place = length (says name n) }; out = filled (says name n) sub }
+  fits : leaves said y ≡ record { verdict = numbered 0 (length (says name n)); out = filled (says name n) sub }
   unfolding sayInto deliver
   fits = rw (le-ltb (length sub) (length (says name n)) h) at e
 

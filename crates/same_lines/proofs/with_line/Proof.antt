@@ -48,7 +48,9 @@ returns c =
     let few = says-few (now (a .name)) (a .n) in
     let out = said-out (now (a .name)) (a .n) _ _ (w .say .result) (w .say .ensures) (room w) in (
       record {
-        room = lines-room (a .lines) (says (now (a .name)) (a .n)) _ (s .pre .0 .room) (omega (arith, s .pre .0 .few)) (room w) out;
+        room =
+            lines-room (a .lines) (says (now (a .name)) (a .n)) _ (s .pre .0 .room) (omega (arith, s .pre .0 .few))
+            (room w) out;
         few = omega (arith, size c, few);
       },
       λ l e.

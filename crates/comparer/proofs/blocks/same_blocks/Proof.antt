@@ -26,7 +26,9 @@ last-end-requires : tie.Need-last-end-requires Inv-loop μ-loop
 last-end-requires c κs = search needs
 
 slice-aggregate-same-block : tie.Need-slice-aggregate-same-block Inv-loop μ-loop
-slice-aggregate-same-block c = sym (c .before .before .before .before .before .before .before .before .before .loop .inv .1)
+slice-aggregate-same-block c =
+    let p = c .before .before .before .before .before in
+    sym (p .before .before .before .before .loop .inv .1)
 
 -- both places went on, and stay within the texts
 abbrev Further : tie.After-same-block Inv-loop μ-loop → Type 0
