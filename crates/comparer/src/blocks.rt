@@ -50,13 +50,38 @@ fn count_ends(text: &[u8], from: usize, to: usize) -> usize
     n
 }
 
+// A place, and how many line ends are still to be passed.
+struct Passed {
+    at: usize,
+    left: usize,
+}
+
+// Over blocks that have fewer line ends than are to be passed: a loop of a fixed length compiles to no branch.
+fn pass_blocks(text: &[u8], from: usize, count: usize) -> Passed
+    requires { ⌜ from ≤ length (now text) ⌝ }
+    ensures { λ r. ⌜ (from ≤ r .at) × (r .at ≤ length (now (text .entry))) ⌝ }
+{
+    let mut left = count;
+    let mut at = from;
+    while at + 64 <= text.len() {
+        let n = count_ends(text, at, at + 64);
+        if left <= n {
+            return Passed { at, left };
+        }
+        left -= n;
+        at += 64;
+    }
+    Passed { at, left }
+}
+
 // Behind so many line ends from a place on, or that place where there are fewer.
 fn past_ends(text: &[u8], from: usize, count: usize) -> usize
     requires { ⌜ from ≤ length (now text) ⌝ }
     ensures { λ r. ⌜ (from ≤ r) × (r ≤ length (now (text .entry))) × Ended (now (text .entry)) from r ⌝ }
 {
-    let mut left = count;
-    let mut at = from;
+    let passed = pass_blocks(text, from, count);
+    let mut left = passed.left;
+    let mut at = passed.at;
     while at < text.len() {
         if text[at] == b'\n' {
             if left <= 1 {
