@@ -10,8 +10,8 @@ ghost use lib.ListN.{length, take};
 ghost use Rattle.codec.specs.Kinds.{readsIn};
 ghost use Rattle.comparer.specs.Cutting.{Ended, ReadAlike, Cut};
 
-// A block has so many bytes at most, and so its cells fit a buffer of 16 KiB.
-const MOST: usize = 4096;
+// A block has so many bytes at most, and so its cells fit a buffer of 8 KiB: reading takes 48 KiB of the stack besides.
+const MOST: usize = 2048;
 
 // Behind the last line end between two places, or the first of them where there is none.
 fn last_end(text: &[u8], from: usize, to: usize) -> usize
@@ -120,7 +120,7 @@ fn same_blocks(format: Format, first: &[u8], second: &[u8]) -> bool
     requires { ⌜ Cut format ⌝ }
     ensures { λ r. ⌜ (r ≡ true → ReadAlike format (now (first .entry)) (now (second .entry))) ⌝ }
 {
-    let mut cells = [0u32; 4096];
+    let mut cells = [0u32; 2048];
     let mut a: usize = 0;
     let mut b: usize = 0;
     while MOST < first.len() - a {

@@ -12,7 +12,7 @@ use Rattle.comparer.proofs.blocks.same_blocks.Statement.{statement}
 use Rattle.comparer.proofs.blocks.same_blocks.Tie as tie
 
 abbrev Inv-loop : tie.InvT-loop
-Inv-loop format first second cells₀ a₀ b₀ cells a b = Halved format first second a b × (length cells ≡ 4096)
+Inv-loop format first second cells₀ a₀ b₀ cells a b = Halved format first second a b × (length cells ≡ 2048)
 
 abbrev μ-loop : tie.MeasureT-loop
 μ-loop format first second cells₀ a₀ b₀ cells a b = length first - a
