@@ -14,14 +14,18 @@ header = include/qalithonda.h
 sources = crates.txt $(shell find crates -name '*.rt' -o -name '*.antt')
 strict = -Wall -Wextra -pedantic -Werror -Iinclude
 
+.DELETE_ON_ERROR:
 .PHONY: all library test-bindings test-c test-rust test-python install clean
 
 all: library target/examples/where
 
 library: $(archive) $(shared)
 
+# Two objects: the comparers are one of their own (crates/qalithonda_compare/src/lib.rt says why).
 $(archive): $(sources)
+	rt staticlib qalithonda_compare
 	rt staticlib qalithonda
+	cd $(@D) && ar x libqalithonda_compare.a && ar q $(@F) qalithonda_compare.o && rm qalithonda_compare.o
 
 # The archive shows no other names than qalithonda_.., so neither does this.
 $(shared): $(archive)

@@ -1,5 +1,4 @@
 // The C interface, for hosts in other languages: each function hands a call on and gives its answer in numbers.
-pub mod compare;
 pub mod pages;
 pub mod steps;
 

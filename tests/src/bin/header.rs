@@ -14,8 +14,9 @@ use header::item::{self, Item};
 use header::{c, layout, rattle};
 
 const HEADER: &str = "include/qalithonda.h";
-const SOURCES: [&str; 5] = [
+const SOURCES: [&str; 6] = [
     "crates/qalithonda/src",
+    "crates/qalithonda_compare/src",
     "crates/host_numbers/src",
     "crates/host_steps/src",
     "crates/host_compare/src",

@@ -1,6 +1,6 @@
 use borrow.Author.Needs.{needs}
-use Rattle.qalithonda.proofs.compare.qalithonda_utf7_compare.Statement.{statement}
-use Rattle.qalithonda.proofs.compare.qalithonda_utf7_compare.Tie as tie
+use Rattle.qalithonda_compare.proofs.qalithonda_utf7_compare.Statement.{statement}
+use Rattle.qalithonda_compare.proofs.qalithonda_utf7_compare.Tie as tie
 
 compare-requires : tie.Need-compare-requires
 compare-requires c κs = search needs

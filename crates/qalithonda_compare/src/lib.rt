@@ -1,4 +1,5 @@
-// Comparing two texts of one format, for hosts.
+// The C interface, its comparers. They are an object of their own in the archive: beside a second user of the steps, LLVM
+// would no longer inline those into the steps for hosts, which would take twice as long.
 use codec::Format;
 use host_compare::HostCompared;
 ghost use mathlib.Core.Path.{_≡_};
