@@ -47,7 +47,7 @@ module _ (form : Form) (p : Parses (linesOf form) (Files form)) (r : List ℕ) (
               s .2 .0,
               s .2 .1,
               starts-same (n + 1) (bytes "form=") r (drop 5 (fileIn form c)) (omega arith)
-              ∙ sym (file-starts form c),
+                  ∙ sym (file-starts form c),
             ),
           ))
 

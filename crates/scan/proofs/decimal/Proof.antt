@@ -109,8 +109,7 @@ loop-again c =
     let l = c .before .before .before .before .before .before .loop in
     let digit-at′ = c .before .before .before .digit-at in
     let tens′ = c .before .tens in
-    let if3′ = c .if3 in
-    (
+    let if3′ = c .if3 in (
       code-on _ _ (omega arith) (l .inv .0) (omega arith) (digit-at′ .ensures .0) (tens′ .ensures) (omega arith)
           (omega (arith, if3′ .left, l .inv .1)),
       l .inv .1,

@@ -45,8 +45,8 @@ returns-2 c =
       rw (no-plan2′ .ensures .0, no-plan2′ .ensures .1) (sym (head-found (a .file .now) (first-lines′ .result)
           (first-lines′ .ensures) (not-no _ (if1′ .left)) ∙ rw (list-is "arrived" 2 (least (formIf (first-lines′
           .result .two)) (first-lines′ .result .page))
-            (formIf (first-lines′ .result .two) .bound) (drop (first-lines′ .result .at) (a .file .now)) (first-lines′
-            .result .at) ∙ is-failed
+          (formIf (first-lines′ .result .two) .bound) (drop (first-lines′ .result .at) (a .file .now)) (first-lines′
+          .result .at) ∙ is-failed
           (hexesAt (a .file .now) (arrived-line′ .result .from) 2 (arrived-line′ .result .count)) (a .file .now)
           (arrived-line′ .result .ok) (arrived-line′ .result .at) (arrived-line′ .ensures .0)
           (not-yes _ (if2′ .taken))))),
@@ -77,8 +77,8 @@ returns-3 c =
       rw (no-plan3′ .ensures .0, no-plan3′ .ensures .1) (sym (head-found (a .file .now) (first-lines′ .result)
           (first-lines′ .ensures) (not-no _ (if1′ .left)) ∙ rw (
             list-is "arrived" 2 (least (formIf (first-lines′ .result .two)) (first-lines′ .result .page))
-            (formIf (first-lines′ .result .two) .bound) (drop (first-lines′ .result .at) (a .file .now)) (first-lines′
-            .result .at) ∙ is-found
+                (formIf (first-lines′ .result .two) .bound) (drop (first-lines′ .result .at) (a .file .now)) (first-lines′
+                .result .at) ∙ is-found
                 (hexesAt (a .file .now) (arrived-line′ .result .from) 2 (arrived-line′ .result .count)) (a .file .now)
                 (arrived-line′ .result .ok) (arrived-line′ .result .at) (arrived-line′ .ensures .0)
                 (not-no _ (if2′ .left)),
@@ -118,8 +118,8 @@ returns-4 c =
       rw (no-plan4′ .ensures .0, no-plan4′ .ensures .1) (sym (head-found (a .file .now) (first-lines′ .result)
           (first-lines′ .ensures) (not-no _ (if1′ .left)) ∙ rw (
             list-is "arrived" 2 (least (formIf (first-lines′ .result .two)) (first-lines′ .result .page))
-            (formIf (first-lines′ .result .two) .bound) (drop (first-lines′ .result .at) (a .file .now)) (first-lines′
-            .result .at) ∙ is-found
+                (formIf (first-lines′ .result .two) .bound) (drop (first-lines′ .result .at) (a .file .now)) (first-lines′
+                .result .at) ∙ is-found
                 (hexesAt (a .file .now) (arrived-line′ .result .from) 2 (arrived-line′ .result .count)) (a .file .now)
                 (arrived-line′ .result .ok) (arrived-line′ .result .at) (arrived-line′ .ensures .0)
                 (not-no _ (if2′ .left)),
@@ -160,8 +160,8 @@ returns-5 c =
       rw (no-plan5′ .ensures .0, no-plan5′ .ensures .1) (sym (head-found (a .file .now) (first-lines′ .result)
           (first-lines′ .ensures) (not-no _ (if1′ .left)) ∙ rw (
             list-is "arrived" 2 (least (formIf (first-lines′ .result .two)) (first-lines′ .result .page))
-            (formIf (first-lines′ .result .two) .bound) (drop (first-lines′ .result .at) (a .file .now)) (first-lines′
-            .result .at) ∙ is-found
+                (formIf (first-lines′ .result .two) .bound) (drop (first-lines′ .result .at) (a .file .now)) (first-lines′
+                .result .at) ∙ is-found
                 (hexesAt (a .file .now) (arrived-line′ .result .from) 2 (arrived-line′ .result .count)) (a .file .now)
                 (arrived-line′ .result .ok) (arrived-line′ .result .at) (arrived-line′ .ensures .0)
                 (not-no _ (if2′ .left)),
