@@ -123,12 +123,17 @@ fn folder_of(place: &str) -> Option<String> {
     folder.rsplit('/').next().map(str::to_string)
 }
 
-/// The function that is declared at a place `PATH:LINE:COLUMN`.
+/// The function in which a place `PATH:LINE:COLUMN` stands: the last one declared up to there.
 fn function_at(place: &str, line: &dyn Fn(&str, usize) -> Option<String>) -> Option<String> {
     let mut parts = place.rsplitn(3, ':').skip(1);
     let at: usize = parts.next()?.parse().ok()?;
-    let declared = line(parts.next()?, at)?;
-    let (_, after) = declared.split_once("fn ")?;
+    let path = parts.next()?;
+    (1..=at).rev().find_map(|number| declared(&line(path, number)?))
+}
+
+/// The function that a line declares.
+fn declared(line: &str) -> Option<String> {
+    let (_, after) = line.split_once("fn ")?;
     after.split('(').next().map(str::to_string)
 }
 
@@ -206,9 +211,11 @@ mod tests {
             /t/proofs/g/Proof.antt:9:1: error: `g-spec`: `close` was not admitted (..)\n\
             /t/proofs/h/Proof.antt:9:1: error: `x`: has no `Need-x` that can be named from here\n\
             /t/proofs/Cases.antt:9:1: error: `hold`: they differ\n\
-            note: /t/src/lib.rt:3:1: it is not proved that what the function ensures holds\n";
-        let line = |path: &str, at: usize| (path == "/t/src/lib.rt" && at == 3).then(|| "pub fn k(x: u8)".to_string());
-        assert_eq!(refused_at(log, &line), names(&["returns", "f", "hold", "k"]));
+            note: /t/src/lib.rt:3:1: it is not proved that what the function ensures holds\n\
+            note: /t/src/lib.rt:7:9: it is not proved that what the function ensures holds when it returns\n";
+        let source = |path: &str, at: usize| (path == "/t/src/lib.rt").then(|| ["", "", "pub fn k(x: u8)", "fn m()"].get(at - 1).copied());
+        let line = |path: &str, at: usize| source(path, at).flatten().map(str::to_string);
+        assert_eq!(refused_at(log, &line), names(&["returns", "f", "hold", "k", "m"]));
     }
 
     #[test]
