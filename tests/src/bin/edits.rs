@@ -213,7 +213,9 @@ mod tests {
             /t/proofs/Cases.antt:9:1: error: `hold`: they differ\n\
             note: /t/src/lib.rt:3:1: it is not proved that what the function ensures holds\n\
             note: /t/src/lib.rt:7:9: it is not proved that what the function ensures holds when it returns\n";
-        let source = |path: &str, at: usize| (path == "/t/src/lib.rt").then(|| ["", "", "pub fn k(x: u8)", "fn m()"].get(at - 1).copied());
+        let source = |path: &str, at: usize| {
+            (path == "/t/src/lib.rt").then(|| ["", "", "pub fn k(x: u8)", "fn m()"].get(at - 1).copied())
+        };
         let line = |path: &str, at: usize| source(path, at).flatten().map(str::to_string);
         assert_eq!(refused_at(log, &line), names(&["returns", "f", "hold", "k", "m"]));
     }
