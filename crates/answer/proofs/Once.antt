@@ -7,7 +7,7 @@ use lib.Dec.{eqb, lit<}
 use borrow.Author.Tests.{ne-eqb}
 use Rattle.answer.specs.Answer.{limit, Verdict, numberOf, inNumbers}
 use Rattle.answer.specs.declared.Refusal.{Refusal}
-use Rattle.answer.specs.declared.Refusal.the-variants.{HighByte, LoneSign, StrayByte, LeftOverBits, UnknownEscape, EmptyG2, CutShort, NotAscii, NoRoom, Unwritable, BeyondLength, HistoryFull, NothingLeft, Unsound, NotTheText, OverLimit, NeedlessShift, BadPageFile, NoGain}
+use Rattle.answer.specs.declared.Refusal.the-variants.{HighByte, LoneSign, StrayByte, LeftOverBits, UnknownEscape, EmptyG2, CutShort, NotAscii, NoRoom, Unwritable, BeyondLength, HistoryFull, NothingLeft, Unsound, NotTheText, OverLimit, NeedlessShift, BadPageFile, NoGain, NoSuchBench, BadWord}
 use Rattle.answer.specs.declared.Answer.{Answer}
 use Rattle.answer.specs.declared.Answer.the-variants.{Accepted, Refused}
 
@@ -26,7 +26,7 @@ named k =
     (cond (eqb k 10) Unwritable
     (cond (eqb k 11) BeyondLength
     (cond (eqb k 12) HistoryFull
-    (cond (eqb k 13) NothingLeft (cond (eqb k 14) Unsound (cond (eqb k 15) NotTheText (cond (eqb k 16) OverLimit (cond (eqb k 17) NeedlessShift (cond (eqb k 18) BadPageFile NoGain)))))))))))))))))
+    (cond (eqb k 13) NothingLeft (cond (eqb k 14) Unsound (cond (eqb k 15) NotTheText (cond (eqb k 16) OverLimit (cond (eqb k 17) NeedlessShift (cond (eqb k 18) BadPageFile (cond (eqb k 19) NoGain (cond (eqb k 20) NoSuchBench BadWord)))))))))))))))))))
 
 named-number : (why : Refusal) → named (numberOf why) ≡ why
 unfolding named
@@ -49,6 +49,8 @@ named-number OverLimit = refl
 named-number NeedlessShift = refl
 named-number BadPageFile = refl
 named-number NoGain = refl
+named-number NoSuchBench = refl
+named-number BadWord = refl
 
 -- no refusal has the number 0
 pub number-pos : (why : Refusal) → 0 < numberOf why
@@ -71,6 +73,8 @@ number-pos OverLimit = lit< tt
 number-pos NeedlessShift = lit< tt
 number-pos BadPageFile = lit< tt
 number-pos NoGain = lit< tt
+number-pos NoSuchBench = lit< tt
+number-pos BadWord = lit< tt
 
 -- the answer of a number and a place
 pub answered : Verdict → Answer

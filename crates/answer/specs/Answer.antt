@@ -1,7 +1,7 @@
 -- Document 01, "Numbers given back": the table's numbers and places, and the limit.
 use Prim.Native.Nat.{ℕ}
 use Rattle.answer.specs.declared.Refusal.{Refusal}
-use Rattle.answer.specs.declared.Refusal.the-variants.{HighByte, LoneSign, StrayByte, LeftOverBits, UnknownEscape, EmptyG2, CutShort, NotAscii, NoRoom, Unwritable, BeyondLength, HistoryFull, NothingLeft, Unsound, NotTheText, OverLimit, NeedlessShift, BadPageFile, NoGain}
+use Rattle.answer.specs.declared.Refusal.the-variants.{HighByte, LoneSign, StrayByte, LeftOverBits, UnknownEscape, EmptyG2, CutShort, NotAscii, NoRoom, Unwritable, BeyondLength, HistoryFull, NothingLeft, Unsound, NotTheText, OverLimit, NeedlessShift, BadPageFile, NoGain, NoSuchBench, BadWord}
 use Rattle.answer.specs.declared.Answer.{Answer}
 use Rattle.answer.specs.declared.Answer.the-variants.{Accepted, Refused}
 
@@ -41,6 +41,10 @@ numberOf NeedlessShift = 17
 numberOf BadPageFile = 18
 -- document 02, order 8: no gain
 numberOf NoGain = 19
+-- document 02, order 13: no such bench
+numberOf NoSuchBench = 20
+-- document 02, order 14: bad word
+numberOf BadWord = 21
 
 -- the number and the place of every answer: "0, accepted, the count of elements", and the refusals
 abbrev pub inNumbers : Answer → Verdict

@@ -6,7 +6,7 @@ ghost use Rattle.answer.specs.Answer.{limit, tooLong, inNumbers, numberO
 // "over 65,536", raised to 1,048,576 by document 02, order 10: the most elements that a lent text, list, text buffer or history may have.
 pub const LIMIT: usize = 1048576;
 
-// Why a call was refused, in the order of document 01's table, from number 1 on; those from 17 on are document 02's, orders 1, 6 and 8.
+// Why a call was refused, in the order of document 01's table, from number 1 on; those from 17 on are document 02's, orders 1, 6, 8, 13 and 14.
 pub enum Refusal {
     HighByte,
     LoneSign,
@@ -27,6 +27,8 @@ pub enum Refusal {
     NeedlessShift,
     BadPageFile,
     NoGain,
+    NoSuchBench,
+    BadWord,
 }
 
 // Accepted with the count of elements, or refused with the place.
@@ -71,6 +73,8 @@ fn refusal_number(why: Refusal) -> u32
         Refusal::NeedlessShift => 17,
         Refusal::BadPageFile => 18,
         Refusal::NoGain => 19,
+        Refusal::NoSuchBench => 20,
+        Refusal::BadWord => 21,
     }
 }
 
