@@ -78,7 +78,7 @@ module _ {S : Type 0} {layout : Layout S} {Lies : ℕ → S → Editor → Type 
   or-none false = refl
 
   -- where an editor lies, only 16 for the list that is lent comes before it
-  outcome-is :
+  pub outcome-is :
       {n : ℕ} {s : S} {e : Editor} → Lies n s e → (c : Call) →
       outcomeOf layout s c
       ≡ cond (overlong c) (refusing s (outputOf c) tooLong)
@@ -86,7 +86,7 @@ module _ {S : Type 0} {layout : Layout S} {Lies : ℕ → S → Editor → Type 
   unfolding outcomeOf callOn
   outcome-is l c = rw (lays .short l, or-none (overlong c), lays .sees l)
 
-  turn-lies :
+  pub turn-lies :
       {n : ℕ} {s : S} {e : Editor} → Lies n s e → {out : List ℕ} (t : Turn) →
       Ends (layout .weigh) (layout .spaceIn s) e out t →
       Legal (layout .weigh) n (t .editor) → Lies n (laid layout s t .state) (t .editor)
