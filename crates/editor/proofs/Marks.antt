@@ -1,12 +1,12 @@
 -- What steps count for, and that a saved mark stays 0, the end of a record, or none. Assumes nothing.
-use Prim.Native.Nat.{ℕ, _+_, _-_, _≤_}
+use Prim.Native.Nat.{ℕ, _+_, _-_, _≤_, _<_}
 use mathlib.Core.Path.{_≡_, refl, sym, ap, _∙_}
 use mathlib.Core.Bool.{Bool, true, false, _&&_, _||_}
 use mathlib.Core.List.{List, [], _∷_, _++_, reverseAux, reverse, reverseAux-eq}
 use native.Mathlib.Omega.{arith}
 use native.Mathlib.Nat.{add-zero, zero-add}
 use lib.Dec.{leb, ltb, eqb}
-use borrow.Author.Tests.{le-leb, leb-true, ltb-false, eqb-true}
+use borrow.Author.Tests.{le-leb, leb-true, ltb-false, eqb-true, ne-eqb}
 use Rattle.answer.proofs.Below.{cond-case}
 use Rattle.editor.specs.declared.Mark.{Mark}
 use Rattle.editor.specs.declared.Mark.the-variants.{None, At}
@@ -22,6 +22,10 @@ and-same : (t a b : Bool) → (t ≡ true → a ≡ b) → (t && a) ≡ (t && b)
 and-same true a b f = f refl
 and-same false a b f = refl
 
+and-false-right : (a : Bool) → (a && false) ≡ false
+and-false-right true = refl
+and-false-right false = refl
+
 module _ (weigh : Step → ℕ) where
   abbrev weight : List Step → ℕ
   weight = weightOf weigh
@@ -34,6 +38,14 @@ module _ (weigh : Step → ℕ) where
   unfolding endsAt
   ends-zero [] = refl
   ends-zero (x ∷ rest) = refl
+
+  -- past all of them there is none
+  pub ends-far : (steps : List Step) (n : ℕ) → weight steps < n → endsAt weigh steps n ≡ false
+  unfolding endsAt
+  ends-far [] n h = ne-eqb n 0 (λ (z : n ≡ 0). omega arith)
+  ends-far (x ∷ rest) n h =
+      rw (ne-eqb n 0 (λ (z : n ≡ 0). omega arith), ends-far rest (n - weigh x) (omega arith))
+      (and-false-right (leb (weigh x) n))
 
   -- past the first steps an end is one of the later ones
   pub ends-beyond :

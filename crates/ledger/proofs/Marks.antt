@@ -6,23 +6,19 @@ use mathlib.Core.List.{List, [], _∷_, _++_, map, map-append, append-nil}
 use native.Mathlib.Omega.{arith}
 use native.Mathlib.Nat.{zero-add}
 use lib.Dec.{leb, ltb, eqb}
-use borrow.Author.Tests.{le-leb, lt-leb, le-ltb, lt-ltb, ltb-true, ltb-false, ne-eqb}
+use borrow.Author.Tests.{le-leb, lt-leb, le-ltb, lt-ltb, ltb-true, ltb-false}
 use Rattle.answer.proofs.Below.{cond-case}
 use Rattle.editor.specs.declared.Mark.{Mark}
 use Rattle.editor.specs.declared.Mark.the-variants.{None, At}
 use Rattle.editor.specs.Ledger.{Step, weightOf}
 use Rattle.editor.specs.Records.{stepOf, endsAt, markFits}
-use Rattle.editor.proofs.Marks.{ends-zero, ends-beyond, within-first}
+use Rattle.editor.proofs.Marks.{ends-zero, ends-far, ends-beyond, within-first}
 use Rattle.ledger.specs.Words.{Entry, inWords, sizes}
 use Rattle.ledger.specs.Parts.{markWithin, cutIn, ends}
 
 and-true-right : (a : Bool) → (a && true) ≡ a
 and-true-right true = refl
 and-true-right false = refl
-
-and-false-right : (a : Bool) → (a && false) ≡ false
-and-false-right true = refl
-and-false-right false = refl
 
 pub by-test : {P : Type 0} (t : Bool) → (t ≡ true → P) → (t ≡ false → P) → P
 by-test true f g = f refl
@@ -38,14 +34,6 @@ weight-sizes (e ∷ es) = omega (arith, weight-sizes es)
 weight-append : (first rest : List Step) → weight (first ++ rest) ≡ weight first + weight rest
 weight-append [] rest = omega arith
 weight-append (x ∷ first) rest = omega (arith, weight-append first rest)
-
--- past all of them
-ends-far : (steps : List Step) (n : ℕ) → weight steps < n → endsAt inWords steps n ≡ false
-unfolding endsAt
-ends-far [] n h = ne-eqb n 0 (λ (z : n ≡ 0). omega arith)
-ends-far (x ∷ rest) n h =
-    rw (ne-eqb n 0 (λ (z : n ≡ 0). omega arith), ends-far rest (n - inWords x) (omega arith))
-    (and-false-right (leb (inWords x) n))
 
 module _ (es fs : List Entry) (done used : ℕ) (d : sizes es ≡ done) (u : done + sizes fs ≡ used) where
   abbrev all : List Step
@@ -94,7 +82,7 @@ module _ (es fs : List Entry) (done used : ℕ) (d : sizes es ≡ done) (u : don
     mark-beyond : used < n → Parts (endsAt inWords all n)
     mark-beyond h =
         let far : endsAt inWords all n ≡ false =
-        ends-far all n (omega (arith, weight-append (map stepOf es) (map stepOf fs), first-weight, weight-sizes fs)) in
+        ends-far inWords all n (omega (arith, weight-append (map stepOf es) (map stepOf fs), first-weight, weight-sizes fs)) in
         rw (far, lt-leb n used h)
 
     mark-at : Parts (endsAt inWords all n)
