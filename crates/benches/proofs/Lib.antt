@@ -1,0 +1,5 @@
+pub mod Words
+pub mod Lying
+pub mod Runs
+pub mod Opens
+pub mod Demand

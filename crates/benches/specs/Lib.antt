@@ -1,0 +1,5 @@
+pub mod Words
+pub mod Benches
+pub mod Layout
+pub mod Calls
+pub mod Demand
