@@ -1,10 +1,8 @@
--- Demand 3 for each bench over its own calls, what two runs have in common, and that a refusal changes nothing. Assumes
--- nothing.
+-- Demand 3 for each bench over its own calls, and what two runs have in common. Assumes nothing.
 use Prim.Native.Nat.{ℕ, zero, suc}
 use mathlib.Core.Path.{_≡_, refl, sym, ap, _∙_, subst}
 use mathlib.Core.Bool.{Bool, true, false, cond, _||_}
 use mathlib.Core.List.{List, [], _∷_}
-use mathlib.Core.Option.{Option, none, some}
 use native.Mathlib.Omega.{arith}
 use lib.ListN.{length}
 use lib.Dec.{eqb}
@@ -17,19 +15,18 @@ use Rattle.editor.specs.declared.Mark.the-variants.{At}
 use Rattle.editor.specs.Marks.{unchangedAt}
 use Rattle.editor.specs.Ledger.{Ledger, opened, fed}
 use Rattle.editor.specs.Editor.{Editor, Turn, refused, turnOf, overlong, outputOf}
-use Rattle.editor.specs.Layout.{taken, refusing, laid}
+use Rattle.editor.specs.Layout.{taken, refusing, laid, Reply}
 use Rattle.editor.specs.Layout as layout
-use Rattle.editor.specs.Demand.{Promised, Unchanged}
+use Rattle.editor.specs.Demand.{Promised}
 use Rattle.editor.proofs.Ends.{turn-ends}
-use Rattle.editor.proofs.Ends as editor
 use Rattle.editor.proofs.Held.{Held, Legal, legal, reading-kept}
 use Rattle.editor.proofs.Calls.{accepts}
 use Rattle.editor.proofs.Promises.{Lays, outcome-is, turn-lies, kept, promised}
-use Rattle.benches.specs.Words.{Side, first, second, numberOf, sideOf, Both, at, inSteps}
-use Rattle.benches.specs.Benches.{State, Outcome}
+use Rattle.benches.specs.Words.{Side, first, second, numberOf, Both, at, inSteps}
+use Rattle.benches.specs.Benches.{State, textIn, Outcome}
 use Rattle.benches.specs.Layout.{long, bench}
 use Rattle.benches.specs.Calls.{Call, callOf, outcomeAt, outcomeOf, replyAt, unchangedOf, openOf}
-use Rattle.benches.specs.Demand.{Order, after, heardOf, heardAt, ledgerAfter, Demand3, TwoRuns, RefusedSame}
+use Rattle.benches.specs.Demand.{Order, after, heardOf, heardAt, ledgerAfter, Demand3, TwoRuns}
 use Rattle.benches.proofs.Words.{other, side-number}
 use Rattle.benches.proofs.Lying.{Lying, swapped, swapped-back, stood-here, bench-lays}
 use Rattle.benches.proofs.Runs.{Met, spaceFor, called, editorAfter, answered, held-called, held-run, reading-run}
@@ -75,7 +72,9 @@ module _ (s : Side) {m : ℕ} {f : Editor} {n : ℕ} {t : State} {e : Editor} (l
       named t s c ∙ outcome-is lays l (callOf c)
       ∙ rw space-met (refused-laid (overlong (callOf c)) (turnOf inSteps (spaceFor met e) e (callOf c)))
 
-  call-lies : Legal inSteps n (called e met .editor) → Lying s m f n (outcomeOf t (numberOf s) c .state) (called e met .editor)
+  call-lies :
+      Legal inSteps n (called e met .editor) →
+      Lying s m f n (outcomeOf t (numberOf s) c .state) (called e met .editor)
   call-lies ok =
       rw call-is
       (cond-case
@@ -196,11 +195,15 @@ module _ (kinds : Both Kind) (arrived texts : Both (List ℕ)) (history : List �
   abbrev at-first : Editor
   at-first = editorAt kinds arrived texts history s
 
-  pub ran-opened : Ran s (length (readingIn (at kinds s) (at arrived s) .cells)) start at-first orders
+  abbrev openingAt : Side → ℕ
+  openingAt p = length (readingIn (at kinds p) (at arrived p) .cells)
+
+  pub ran-opened : Ran s (openingAt s) start at-first orders
   ran-opened =
       let b = both-opened kinds arrived texts history ok in
-      let ours : (p : Side) → Ours (length (readingIn (at kinds p) (at arrived p) .cells)) (editorAt kinds arrived texts history p) =
-      λ p. record { arrived = at arrived p; ledger = _; held = held-at kinds arrived texts history b p; opening = refl } in
+      let ours : (p : Side) → Ours (openingAt p) (editorAt kinds arrived texts history p) =
+      λ p.
+      record { arrived = at arrived p; ledger = _; held = held-at kinds arrived texts history b p; opening = refl } in
       ran s orders _ _ start at-first _ (lying-opened kinds arrived texts history b s) (ours s) (ours (other s))
 
   promised-at :
@@ -220,13 +223,28 @@ pub demand3 : Demand3
 demand3 = promised-at
 
 -- what the question is answered
+abbrev asked : Editor → Reply
+asked e = record { verdict = numbered 0 0; unchanged = unchangedAt (length (e .standing)) (e .saved) }
+
 reply-is :
     (s : Side) {m : ℕ} {f : Editor} {n : ℕ} {t : State} {e : Editor} → Lying s m f n t e →
-    unchangedOf t (numberOf s) ≡ record { verdict = numbered 0 0; unchanged = unchangedAt (length (e .standing)) (e .saved) }
+    unchangedOf t (numberOf s) ≡ asked e
 unfolding layout.replyOf
 reply-is s {m} {f} {t = t} l =
     let lays : Lays (bench s) (Lying s m f) = bench-lays s m f in
     named-reply t s ∙ rw (lays .short l, lays .sees l, stood-here s m f l)
+
+-- benches of two states at which the same editor lies
+same-text :
+    (s p : Side) {m n j k : ℕ} {t u : State} {e f g h : Editor} → Lying s m f n t e → Lying p j g k u h → e ≡ h →
+    textIn t s ≡ textIn u p
+same-text s p {m} {n} {j} {k} {t} {u} {e} {f} {g} {h} a b same =
+    bench-lays s m f .shows a ∙ (ap (λ (e : Editor). e .text) same ∙ sym (bench-lays p j g .shows b))
+
+same-reply :
+    (s p : Side) {m n j k : ℕ} {t u : State} {e f g h : Editor} → Lying s m f n t e → Lying p j g k u h → e ≡ h →
+    unchangedOf t (numberOf s) ≡ unchangedOf u (numberOf p)
+same-reply s p a b same = reply-is s a ∙ (ap asked same ∙ sym (reply-is p b))
 
 pub two-runs-alike : TwoRuns
 two-runs-alike r q s p kind arrived long calls twelves =
@@ -244,29 +262,10 @@ two-runs-alike r q s p kind arrived long calls twelves =
       undone = [];
       saved = At 0;
     } in
-    let t = two-runs e f same (a .mets) (b .mets) (rw (a .hears, b .hears) at calls) (rw (a .hears, b .hears) at twelves) in
+    let t =
+    two-runs e f same (a .mets) (b .mets) (rw (a .hears, b .hears) at calls) (rw (a .hears, b .hears) at twelves) in
     record {
       answers = rw (a .hears, b .hears) (t .0);
-      text =
-          bench-lays s (a .opening) (a .beside) .shows (a .lying) ∙ ap (λ (e : Editor). e .text) (t .1)
-          ∙ sym (bench-lays p (b .opening) (b .beside) .shows (b .lying));
-      question =
-          reply-is s (a .lying)
-          ∙ ap
-          (λ (e : Editor). record { verdict = numbered 0 0; unchanged = unchangedAt (length (e .standing)) (e .saved) })
-          (t .1)
-          ∙ sym (reply-is p (b .lying));
+      text = same-text s p (a .lying) (b .lying) (t .1);
+      question = same-reply s p (a .lying) (b .lying) (t .1);
     }
-
--- "A refusal changes no page and no buffer"
-refused-at :
-    (t : State) (c : Call) (s : Option Side) → taken (outcomeAt t s (callOf c)) ≡ false →
-    Unchanged t (outputOf (callOf c)) (outcomeAt t s (callOf c))
-unfolding outcomeAt
-refused-at t c none =
-    cond-case (λ (r : Outcome). taken r ≡ false → Unchanged t (outputOf (callOf c)) r) (overlong (callOf c) || long t)
-    (λ _ _. record { state = refl; output = refl }) (λ _ _. record { state = refl; output = refl })
-refused-at t c (some s) = editor.refused-same (bench s) t (callOf c)
-
-pub refused-same : RefusedSame
-refused-same t n c = refused-at t c (sideOf n)

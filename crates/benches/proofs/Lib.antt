@@ -3,3 +3,5 @@ pub mod Lying
 pub mod Runs
 pub mod Opens
 pub mod Demand
+pub mod Refusals
+pub mod Example

@@ -120,7 +120,8 @@ module _ {n : ℕ} {b : Bench} {text : List ℕ} {es : List Entry} {e : Editor} 
 
   -- a call that moves, or records, leaves its editor at the bench
   left-at :
-      (text' : List ℕ) (standing undone : List Entry) (saved : Mark) (own : List Entry) → own ≡ reverseAux standing undone →
+      (text' : List ℕ) (standing undone : List Entry) (saved : Mark) (own : List Entry) →
+      own ≡ reverseAux standing undone →
       Legal inSteps n (withText e text' standing undone saved) →
       LiesAt n (benchOf n (withText e text' standing undone saved)) (pad (length text) text') own
       (withText e text' standing undone saved)
@@ -292,7 +293,14 @@ module _ (s : Side) (m : ℕ) (f : Editor) {n : ℕ} {t : State} {e : Editor} (l
     few-after fits =
         let count : length (words (old ++ new)) ≡ length (words old) + sizeOf x =
         rw (words-append old new) (simp length-append (omega arith)) in
-        omega (arith, count, rw records-are at fits, words-kept s (at (t .benches) s .standing) (l .rs), l .used, space-is)
+        omega (
+          arith,
+          count,
+          rw records-are at fits,
+          words-kept s (at (t .benches) s .standing) (l .rs),
+          l .used,
+          space-is,
+        )
 
     recorded-lying :
         (text : List ℕ) (mark : Mark) → spaceIn t s .needed x ≤ spaceIn t s .words →

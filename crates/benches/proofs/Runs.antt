@@ -105,7 +105,8 @@ module _ (c : Call) where
   twelve e m n t other false false = alike t
 
 module _ (e : Editor) (a b : Met) where
-  fitting-alike : (c : Call) (x : Entry) → Alike c (replaceFitting (spaceFor a e) e x) (replaceFitting (spaceFor b e) e x)
+  fitting-alike :
+      (c : Call) (x : Entry) → Alike c (replaceFitting (spaceFor a e) e x) (replaceFitting (spaceFor b e) e x)
   unfolding replaceFitting
   fitting-alike c x =
       both-cond c (ltb (e .room) (length (applied x (e .text)))) (alike c _)

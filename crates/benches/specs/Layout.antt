@@ -41,9 +41,8 @@ these (some rs) = rs
 abbrev pub lyingIn : State → List Record
 lyingIn t = these (records t)
 
--- "12 exactly when all words, less the caller's undone ones, plus the new record's exceed the room"; what is done is how
--- many steps stand. "Squeezing and page files stay with single pages": nothing is laid for records that are folded, so
--- there is nothing to gain.
+-- "12 exactly when all words, less the caller's undone ones, plus the new record's exceed the room". What is done is
+-- how many steps stand. "Squeezing and page files stay with single pages": no words are laid for folded records here.
 abbrev pub spaceIn : State → Side → Space
 spaceIn t s =
     record {
@@ -105,5 +104,6 @@ bench s =
       recorded =
           λ t e x.
           left t s e (length (words (recordsAfter t s x))) (pad (length (t .history)) (words (recordsAfter t s x)));
+      -- no call of a bench folds
       folded = λ t e old x. t;
     }
