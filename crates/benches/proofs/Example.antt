@@ -1,6 +1,6 @@
 -- Two benches on one letter each, worked by hand from order 13's sentences: what the calls leave, the exact numbers
--- given with 12, the sum given by open, the marks, the order of the refusals, and states damaged by hand, computed.
--- Assumes nothing.
+-- given with 12, the sum given by open, the marks, the order of the refusals, what the ledgers are told, and states
+-- damaged by hand, computed. Assumes nothing.
 use Prim.Native.Nat.{ℕ}
 use mathlib.Core.Path.{_≡_, refl}
 use mathlib.Core.Bool.{Bool, true, false}
@@ -14,6 +14,7 @@ use Rattle.codec.proofs.Worked.{letter, cellsRead, cellsEdited, written, letter
 use Rattle.codec.proofs.Worked.{edited-writable, edited-writes}
 use Rattle.editor.specs.declared.Mark.{Mark}
 use Rattle.editor.specs.declared.Mark.the-variants.{None, At}
+use Rattle.editor.specs.Ledger.{Ledger}
 use Rattle.editor.specs.Records.{reached, lengthsFit}
 use Rattle.editor.specs.Editor.{undoLast, redoNext, replaceFitting, replaceAt, saveStanding}
 use Rattle.editor.specs.Layout.{Reply, refusing}
@@ -21,9 +22,11 @@ use Rattle.editor.specs.Layout as layout
 use Rattle.ledger.specs.Words.{zeros}
 use Rattle.ledger.specs.Calls as pages
 use Rattle.benches.specs.declared.Bench.{Bench}
-use Rattle.benches.specs.Words.{Both, recordsIn, own, kept}
+use Rattle.benches.specs.Words.{first, second, Both, recordsIn, own, kept}
 use Rattle.benches.specs.Benches.{State, stateOf, Outcome, benchSound, judged, records}
-use Rattle.benches.specs.Calls.{outcomeAt, replaceOf, undoOf, redoOf, saveOf, replyAt, unchangedOf, openOf}
+use Rattle.benches.specs.Calls.{undo, redo, outcomeAt, replaceOf, undoOf, redoOf, saveOf, replyAt, unchangedOf}
+use Rattle.benches.specs.Calls.{openOf}
+use Rattle.benches.specs.Demand.{Order, heardAt, ledgerAfter}
 
 abbrev both : {A : Type 0} → A → A → Both A
 both a b = record { bench0 = a; bench1 = b }
@@ -202,6 +205,28 @@ ordered =
       replace-14 = refl;
       save-14 = refl;
     }
+
+-- "its ledger is fed its own [..] calls alone", and of a refused one nothing
+abbrev orders : List Order
+orders =
+    record { bench = 0; call = undo } ∷ record { bench = 2; call = redo } ∷ record { bench = 1; call = undo }
+    ∷ record { bench = 1; call = undo } ∷ []
+
+pub record Told : Type 0 where
+  pub first-hears :
+      heardAt first two orders ≡ record { call = undo; verdict = numbered 0 4; output = [] } ∷ []
+  pub second-hears :
+      heardAt second two orders
+      ≡ record { call = undo; verdict = numbered 0 4; output = [] }
+      ∷ record { call = undo; verdict = numbered 13 0; output = [] }
+      ∷ []
+  pub refused-untold :
+      (l : Ledger) → ledgerAfter l (record { call = undo; verdict = numbered 13 0; output = [] } ∷ []) ≡ l
+
+pub told : Told
+unfolding limit recordsIn own reached lengthsFit zeros benchSound judged records layout.callOn layout.outcomeOf
+    outcomeAt undoLast
+told = record { first-hears = refl; second-hears = refl; refused-untold = λ l. refl }
 
 -- "14 is over both benches, each judged by its own records and text, every first word 0 or 1, its standing steps and
 -- any mark at most the number of its records": bench 1 is damaged, and bench 0 asks
