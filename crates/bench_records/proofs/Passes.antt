@@ -68,9 +68,9 @@ module _ (room standing : ℕ) (s : Side) where
       (P : Pass → ℕ → List Record → Pass → Type 0)
       (none : (at : ℕ) (p : Pass) → P p at [] p)
       (mine : (r : Record) (rs : List Record) (at : ℕ) (p q : Pass) → same s (r .bench) ≡ true →
-          P (owned room standing s at p (r .entry)) (at + sizeOf (r .entry)) rs q → P p at (r ∷ rs) q)
+      P (owned room standing s at p (r .entry)) (at + sizeOf (r .entry)) rs q → P p at (r ∷ rs) q)
       (others : (r : Record) (rs : List Record) (at : ℕ) (p q : Pass) → same s (r .bench) ≡ false →
-          P p (at + sizeOf (r .entry)) rs q → P p at (r ∷ rs) q) where
+      P p (at + sizeOf (r .entry)) rs q → P p at (r ∷ rs) q) where
     ends-by : (rs : List Record) (at : ℕ) (p : Pass) → P p at rs (endOf at p rs)
     unfolding endOf
     ends-by [] at p = none at p
