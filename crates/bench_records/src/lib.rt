@@ -1,4 +1,18 @@
 // Whether two benches are sound: what every call asks first. One pass for each bench over all records.
+ghost use mathlib.Core.Path.{_≡_};
+ghost use Prim.Native.Nat.{_+_, _≤_, _<_, _^_};
+ghost use lib.ListN.{length, take};
+ghost use Rattle.answer.specs.Answer.{limit};
+ghost use Rattle.bench_records.specs.Passing.{onward, begun};
+ghost use Rattle.bench_records.specs.Turning.{headAt, sizeAt, Bounded, turned, passIn};
+
+// The first four words of a record.
+struct Head {
+    bench: usize,
+    place: usize,
+    removed: usize,
+    added: usize,
+}
 
 // Where a pass over a bench's own records stands: how many were passed, and the length that they lead to; the length
 // that those that stand lead to, and the word where the last of them begins; the word where the first undone one
@@ -16,4 +30,125 @@ pub struct Pass {
 pub enum Passed {
     Broken,
     Through(Pass),
+}
+
+fn head_at(history: &[u32], at: usize) -> Head
+    requires { ⌜ at + 4 ≤ length (now history) ⌝ }
+    ensures { λ r. ⌜ (r ≡ headAt (now (history .entry)) at) × (r .place < 2 ^ 32) × (r .removed < 2 ^ 32) × (r .added < 2 ^ 32) ⌝ }
+{
+    let bench = records::wide(history[at]);
+    let place = records::wide(history[at + 1]);
+    let removed = records::wide(history[at + 2]);
+    let added = records::wide(history[at + 3]);
+    Head {
+        bench,
+        place,
+        removed,
+        added,
+    }
+}
+
+// An own record more, of so many words, which begins at a word and leads to a length.
+fn pass_own(standing: usize, at: usize, p: Pass, after: usize, size: usize) -> Pass
+    requires { ⌜ (p .seen ≤ limit) × (p .spare + size ≤ limit) ⌝ }
+    ensures { λ r. ⌜ r ≡ onward standing at p after size ⌝ }
+{
+    let seen = p.seen + 1;
+    let len = after;
+    let next = p.next;
+    if p.seen < standing {
+        return Pass {
+            seen,
+            len,
+            stood: after,
+            last: at,
+            next,
+            spare: p.spare,
+        };
+    }
+    let spare = p.spare + size;
+    let stood = p.stood;
+    let last = p.last;
+    if p.seen == standing {
+        return Pass {
+            seen,
+            len,
+            stood,
+            last,
+            next: at,
+            spare,
+        };
+    }
+    Pass {
+        seen,
+        len,
+        stood,
+        last,
+        next,
+        spare,
+    }
+}
+
+// One record more: the other bench's changes nothing.
+fn pass_one(room: usize, standing: usize, mine: usize, at: usize, p: Pass, h: Head) -> Passed
+    requires { ⌜ Bounded room at p × (room ≤ limit) × (at + sizeAt h ≤ limit) × (h .place < 2 ^ 32) ⌝ }
+    ensures { λ r. ⌜ r ≡ turned room standing mine at p h ⌝ }
+{
+    if 1 < h.bench {
+        return Passed::Broken;
+    }
+    if h.bench != mine {
+        return Passed::Through(p);
+    }
+    let len = p.len;
+    let removed = h.removed;
+    if len < h.place + removed {
+        return Passed::Broken;
+    }
+    let after = len - removed + h.added;
+    if room < after {
+        return Passed::Broken;
+    }
+    let size = 4 + removed + h.added;
+    Passed::Through(pass_own(standing, at, p, after, size))
+}
+
+// A bench's own records among all words used, from its opening length on; no length may exceed the room.
+pub fn pass_over(
+    history: &[u32],
+    used: usize,
+    mine: usize,
+    standing: usize,
+    opening: usize,
+    room: usize,
+) -> Passed
+    requires { ⌜ (used ≤ length (now history)) × (length (now history) ≤ limit) × (mine ≤ 1) × (opening ≤ room) × (room ≤ limit) ⌝ }
+    ensures { λ r. ⌜ r ≡ passIn room standing mine 0 (begun opening used) (take used (now (history .entry))) ⌝ }
+{
+    let mut at = 0;
+    let mut p = Pass {
+        seen: 0,
+        len: opening,
+        stood: opening,
+        last: 0,
+        next: used,
+        spare: 0,
+    };
+    while at < used {
+        if used - at < 4 {
+            return Passed::Broken;
+        }
+        let h = head_at(history, at);
+        let size = 4 + h.removed + h.added;
+        if used - at < size {
+            return Passed::Broken;
+        }
+        let found = pass_one(room, standing, mine, at, p, h);
+        let Passed::Through(next) = found else {
+            return Passed::Broken;
+        };
+        p = next;
+        at += size;
+    }
+    Passed::Through(p)
 }
