@@ -67,7 +67,7 @@ fn past_blocks(s: &[u32], at: usize) -> usize
 }
 
 // Whether every element from a place on is 0.
-fn zero_from(s: &[u32], at: usize) -> bool
+pub fn zero_from(s: &[u32], at: usize) -> bool
     requires { ⌜ at ≤ length (now s) ⌝ }
     ensures { λ r. ⌜ r ≡ zeros (drop at (now (s .entry))) ⌝ }
 {
