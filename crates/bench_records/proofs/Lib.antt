@@ -1,3 +1,4 @@
 pub mod Passes
 pub mod Places
 pub mod Turns
+pub mod Fitting

@@ -1,9 +1,11 @@
 // Whether two benches are sound: what every call asks first. One pass for each bench over all records.
+use benches::Bench;
 ghost use mathlib.Core.Path.{_≡_};
 ghost use Prim.Native.Nat.{_+_, _≤_, _<_, _^_};
 ghost use lib.ListN.{length, take};
 ghost use Rattle.answer.specs.Answer.{limit};
 ghost use Rattle.bench_records.specs.Passing.{onward, begun};
+ghost use Rattle.bench_records.specs.Judging.{textFits, leadsAs, fittedOf};
 ghost use Rattle.bench_records.specs.Turning.{headAt, sizeAt, Bounded, turned, passIn};
 
 // The first four words of a record.
@@ -34,7 +36,8 @@ pub enum Passed {
 
 fn head_at(history: &[u32], at: usize) -> Head
     requires { ⌜ at + 4 ≤ length (now history) ⌝ }
-    ensures { λ r. ⌜ (r ≡ headAt (now (history .entry)) at) × (r .place < 2 ^ 32) × (r .removed < 2 ^ 32) × (r .added < 2 ^ 32) ⌝ }
+    ensures { λ r. ⌜ (r ≡ headAt (now (history .entry)) at)
+        × (r .place < 2 ^ 32) × (r .removed < 2 ^ 32) × (r .added < 2 ^ 32) ⌝ }
 {
     let bench = records::wide(history[at]);
     let place = records::wide(history[at + 1]);
@@ -122,7 +125,8 @@ pub fn pass_over(
     opening: usize,
     room: usize,
 ) -> Passed
-    requires { ⌜ (used ≤ length (now history)) × (length (now history) ≤ limit) × (mine ≤ 1) × (opening ≤ room) × (room ≤ limit) ⌝ }
+    requires { ⌜ (used ≤ length (now history)) × (length (now history) ≤ limit) × (mine ≤ 1)
+        × (opening ≤ room) × (room ≤ limit) ⌝ }
     ensures { λ r. ⌜ r ≡ passIn room standing mine 0 (begun opening used) (take used (now (history .entry))) ⌝ }
 {
     let mut at = 0;
@@ -149,6 +153,51 @@ pub fn pass_over(
         };
         p = next;
         at += size;
+    }
+    Passed::Through(p)
+}
+
+// Whether a bench's lengths fit its text buffer, and everything past its text is 0.
+fn text_fits(b: Bench, text: &[u32]) -> bool
+    ensures { λ r. ⌜ r ≡ textFits b (now (text .entry)) ⌝ }
+{
+    if text.len() < b.opening {
+        return false;
+    }
+    if text.len() < b.length {
+        return false;
+    }
+    records::zero_from(text, b.length)
+}
+
+// Whether as many stand as the bench says, lead to its length, and its mark is at most the number of all.
+fn leads_as(b: Bench, p: Pass) -> bool
+    ensures { λ r. ⌜ r ≡ leadsAs b p ⌝ }
+{
+    if p.seen < b.standing {
+        return false;
+    }
+    let saved = b.saved;
+    if !records::mark_within(saved, p.seen) {
+        return false;
+    }
+    p.stood == b.length
+}
+
+// A bench by its own records and text: where its pass stands at the end, if it is sound.
+pub fn bench_fitted(b: Bench, text: &[u32], history: &[u32], used: usize, mine: usize) -> Passed
+    requires { ⌜ (length (now text) ≤ limit) × (used ≤ length (now history)) × (length (now history) ≤ limit) × (mine ≤ 1) ⌝ }
+    ensures { λ r. ⌜ r ≡ fittedOf b (now (text .entry)) used mine (take used (now (history .entry))) ⌝ }
+{
+    if !text_fits(b, text) {
+        return Passed::Broken;
+    }
+    let found = pass_over(history, used, mine, b.standing, b.opening, text.len());
+    let Passed::Through(p) = found else {
+        return Passed::Broken;
+    };
+    if !leads_as(b, p) {
+        return Passed::Broken;
     }
     Passed::Through(p)
 }

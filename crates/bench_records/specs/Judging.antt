@@ -1,0 +1,30 @@
+-- What the code finds of a bench, over its words.
+use Prim.Native.Nat.{ℕ}
+use mathlib.Core.Bool.{Bool, cond, _&&_}
+use mathlib.Core.List.{List}
+use lib.ListN.{length, drop}
+use lib.Dec.{leb, eqb}
+use Rattle.ledger.specs.Words.{zeros}
+use Rattle.ledger.specs.Parts.{markWithin}
+use Rattle.benches.specs.declared.Bench.{Bench}
+use Rattle.bench_records.specs.declared.Pass.{Pass}
+use Rattle.bench_records.specs.declared.Passed.{Passed}
+use Rattle.bench_records.specs.declared.Passed.the-variants.{Broken, Through}
+use Rattle.bench_records.specs.Passing.{begun}
+use Rattle.bench_records.specs.Turning.{passIn}
+
+abbrev pub textFits : Bench → List ℕ → Bool
+textFits b text =
+    leb (b .opening) (length text) && leb (b .length) (length text) && zeros (drop (b .length) text)
+
+abbrev pub leadsAs : Bench → Pass → Bool
+leadsAs b p = leb (b .standing) (p .seen) && markWithin (p .seen) (b .saved) && eqb (p .stood) (b .length)
+
+abbrev pub fittedBy : Bench → Passed → Passed
+fittedBy b Broken = Broken
+fittedBy b (Through p) = cond (leadsAs b p) (Through p) Broken
+
+-- by its own records among these words
+unfoldable pub fittedOf : Bench → List ℕ → ℕ → ℕ → List ℕ → Passed
+fittedOf b text used mine words =
+    cond (textFits b text) (fittedBy b (passIn (length text) (b .standing) mine 0 (begun (b .opening) used) words)) Broken
