@@ -2,3 +2,4 @@ pub mod Passes
 pub mod Places
 pub mod Turns
 pub mod Fitting
+pub mod Judging

@@ -68,7 +68,9 @@ Within room at Broken = Unit {0}
 Within room at (Through p) = Bounded room at p
 
 module _ (room standing mine at : ℕ) (p : Pass) (h : Head) (b : Bounded room at p) where
-  own-within : after room standing mine at p h ≤ room → Bounded room (at + sizeAt h) (onward standing at p (after room standing mine at p h) (sizeAt h))
+  own-within :
+      after room standing mine at p h ≤ room →
+      Bounded room (at + sizeAt h) (onward standing at p (after room standing mine at p h) (sizeAt h))
   own-within q =
       cond-case (Bounded room (at + sizeAt h)) (ltb (p .seen) standing)
       (λ _. record { fits = q; few = omega (arith, b .few); small = omega (arith, b .small) })
@@ -187,7 +189,14 @@ thenOn Broken f = Broken
 thenOn (Through p) f = f p
 
 -- a turn of the loop, at a word of the history before `to`
-module _ (room standing mine : ℕ) (one : mine ≤ 1) (h : List ℕ) (to : ℕ) (fits : to ≤ length h) (at : ℕ) (q : Pass) where
+module _
+    (room standing mine : ℕ)
+    (one : mine ≤ 1)
+    (h : List ℕ)
+    (to : ℕ)
+    (fits : to ≤ length h)
+    (at : ℕ)
+    (q : Pass) where
   abbrev from : Passed
   from = passIn room standing mine at q (slice at to h)
 

@@ -2,16 +2,19 @@
 use Prim.Native.Nat.{ℕ}
 use mathlib.Core.Bool.{Bool, cond, _&&_}
 use mathlib.Core.List.{List}
+use mathlib.Core.Option.{Option, none, some}
 use lib.ListN.{length, drop}
 use lib.Dec.{leb, eqb}
 use Rattle.ledger.specs.Words.{zeros}
 use Rattle.ledger.specs.Parts.{markWithin}
 use Rattle.benches.specs.declared.Bench.{Bench}
+use Rattle.benches.specs.Words.{Side, at, Record}
+use Rattle.benches.specs.Benches.{State}
 use Rattle.bench_records.specs.declared.Pass.{Pass}
 use Rattle.bench_records.specs.declared.Passed.{Passed}
 use Rattle.bench_records.specs.declared.Passed.the-variants.{Broken, Through}
-use Rattle.bench_records.specs.Passing.{begun}
-use Rattle.bench_records.specs.Turning.{passIn}
+use Rattle.bench_records.specs.Passing.{passed, begun}
+use Rattle.bench_records.specs.Turning.{sideAt, passIn}
 
 abbrev pub textFits : Bench → List ℕ → Bool
 textFits b text =
@@ -27,4 +30,16 @@ fittedBy b (Through p) = cond (leadsAs b p) (Through p) Broken
 -- by its own records among these words
 unfoldable pub fittedOf : Bench → List ℕ → ℕ → ℕ → List ℕ → Passed
 fittedOf b text used mine words =
-    cond (textFits b text) (fittedBy b (passIn (length text) (b .standing) mine 0 (begun (b .opening) used) words)) Broken
+    cond (textFits b text)
+    (fittedBy b (passIn (length text) (b .standing) mine 0 (begun (b .opening) used) words))
+    Broken
+
+-- where the pass of a bench stands, over the records of sound benches
+abbrev pub passAt : State → List Record → Side → Passed
+passAt t rs s =
+    passed (length (at (t .texts) s)) (at (t .benches) s .standing) s 0
+    (begun (at (t .benches) s .opening) (t .used)) rs
+
+abbrev pub judgedAt : State → ℕ → Option (List Record) → Passed
+judgedAt t mine none = Broken
+judgedAt t mine (some rs) = passAt t rs (sideAt mine)

@@ -1,11 +1,13 @@
 // Whether two benches are sound: what every call asks first. One pass for each bench over all records.
 use benches::Bench;
+use benches::Benches;
 ghost use mathlib.Core.Path.{_≡_};
 ghost use Prim.Native.Nat.{_+_, _≤_, _<_, _^_};
 ghost use lib.ListN.{length, take};
 ghost use Rattle.answer.specs.Answer.{limit};
 ghost use Rattle.bench_records.specs.Passing.{onward, begun};
-ghost use Rattle.bench_records.specs.Judging.{textFits, leadsAs, fittedOf};
+ghost use Rattle.benches.specs.Benches.{stateOf, records};
+ghost use Rattle.bench_records.specs.Judging.{textFits, leadsAs, fittedOf, judgedAt};
 ghost use Rattle.bench_records.specs.Turning.{headAt, sizeAt, Bounded, turned, passIn};
 
 // The first four words of a record.
@@ -186,7 +188,8 @@ fn leads_as(b: Bench, p: Pass) -> bool
 
 // A bench by its own records and text: where its pass stands at the end, if it is sound.
 pub fn bench_fitted(b: Bench, text: &[u32], history: &[u32], used: usize, mine: usize) -> Passed
-    requires { ⌜ (length (now text) ≤ limit) × (used ≤ length (now history)) × (length (now history) ≤ limit) × (mine ≤ 1) ⌝ }
+    requires { ⌜ (length (now text) ≤ limit) × (used ≤ length (now history)) × (length (now history) ≤ limit)
+        × (mine ≤ 1) ⌝ }
     ensures { λ r. ⌜ r ≡ fittedOf b (now (text .entry)) used mine (take used (now (history .entry))) ⌝ }
 {
     if !text_fits(b, text) {
@@ -200,4 +203,32 @@ pub fn bench_fitted(b: Bench, text: &[u32], history: &[u32], used: usize, mine: 
         return Passed::Broken;
     }
     Passed::Through(p)
+}
+
+// On buffers within the limit: whether both benches are sound, and where the pass of one of them stands.
+pub fn survey(b: Benches, text0: &[u32], text1: &[u32], history: &[u32], mine: usize) -> Passed
+    requires { ⌜ (length (now text0) ≤ limit) × (length (now text1) ≤ limit) × (length (now history) ≤ limit)
+        × (mine ≤ 1) ⌝ }
+    ensures { λ r. ⌜ r ≡ judgedAt (stateOf b (now (text0 .entry)) (now (text1 .entry)) (now (history .entry))) mine
+        (records (stateOf b (now (text0 .entry)) (now (text1 .entry)) (now (history .entry)))) ⌝ }
+{
+    let used = b.used;
+    if history.len() < used {
+        return Passed::Broken;
+    }
+    if !records::zero_from(history, used) {
+        return Passed::Broken;
+    }
+    let first = bench_fitted(b.bench0, text0, history, used, 0);
+    let Passed::Through(p) = first else {
+        return Passed::Broken;
+    };
+    let second = bench_fitted(b.bench1, text1, history, used, 1);
+    let Passed::Through(q) = second else {
+        return Passed::Broken;
+    };
+    if mine == 0 {
+        return Passed::Through(p);
+    }
+    Passed::Through(q)
 }
