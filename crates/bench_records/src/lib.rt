@@ -119,7 +119,7 @@ fn pass_one(room: usize, standing: usize, mine: usize, at: usize, p: Pass, h: He
 }
 
 // A bench's own records among all words used, from its opening length on; no length may exceed the room.
-pub fn pass_over(
+fn pass_over(
     history: &[u32],
     used: usize,
     mine: usize,
@@ -187,7 +187,7 @@ fn leads_as(b: Bench, p: Pass) -> bool
 }
 
 // A bench by its own records and text: where its pass stands at the end, if it is sound.
-pub fn bench_fitted(b: Bench, text: &[u32], history: &[u32], used: usize, mine: usize) -> Passed
+fn bench_fitted(b: Bench, text: &[u32], history: &[u32], used: usize, mine: usize) -> Passed
     requires { ⌜ (length (now text) ≤ limit) × (used ≤ length (now history)) × (length (now history) ≤ limit)
         × (mine ≤ 1) ⌝ }
     ensures { λ r. ⌜ r ≡ fittedOf b (now (text .entry)) used mine (take used (now (history .entry))) ⌝ }
@@ -205,7 +205,8 @@ pub fn bench_fitted(b: Bench, text: &[u32], history: &[u32], used: usize, mine: 
     Passed::Through(p)
 }
 
-// On buffers within the limit: whether both benches are sound, and where the pass of one of them stands.
+// On buffers within the limit: whether both benches are sound, and where the pass of one of them stands. 16 and 20
+// come before it.
 pub fn survey(b: Benches, text0: &[u32], text1: &[u32], history: &[u32], mine: usize) -> Passed
     requires { ⌜ (length (now text0) ≤ limit) × (length (now text1) ≤ limit) × (length (now history) ≤ limit)
         × (mine ≤ 1) ⌝ }
