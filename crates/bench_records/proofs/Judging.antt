@@ -1,16 +1,14 @@
 -- What is found of both benches is order 13's judgement. Assumes nothing.
 use Prim.Native.Nat.{ℕ, zero, suc, _≤_, _<_}
 use mathlib.Core.Path.{_≡_, refl, sym, ap, _∙_, subst}
-use mathlib.Core.Bool.{Bool, true, false, cond, _&&_, false≢true}
+use mathlib.Core.Bool.{Bool, true, false, cond, _&&_}
 use mathlib.Core.List.{List}
 use mathlib.Core.Option.{Option, none, some}
 use native.Mathlib.Omega.{arith}
 use lib.ListN.{length, take, drop}
 use lib.Seq.{length-take-le}
-use lib.Dec.{leb}
 use borrow.Author.Tests.{le-leb, lt-leb}
 use Rattle.ledger.specs.Words.{zeros}
-use Rattle.ledger.proofs.Marks.{by-test}
 use Rattle.benches.specs.declared.Bench.{Bench}
 use Rattle.benches.specs.Words.{Side, first, second, at, Record, recordsIn, own}
 use Rattle.benches.specs.Benches.{State, benchSound, soundAt, judged, records}
@@ -18,7 +16,7 @@ use Rattle.bench_records.specs.declared.Pass.{Pass}
 use Rattle.bench_records.specs.declared.Passed.{Passed}
 use Rattle.bench_records.specs.declared.Passed.the-variants.{Broken, Through}
 use Rattle.bench_records.specs.Passing.{passed, begun, leads, passSound}
-use Rattle.bench_records.specs.Turning.{sideAt, passOf, passIn}
+use Rattle.bench_records.specs.Turning.{sideAt}
 use Rattle.bench_records.specs.Judging.{textFits, fittedBy, fittedOf, passAt, judgedAt}
 use Rattle.bench_records.proofs.Passes.{pass-sound}
 

@@ -1,7 +1,7 @@
 -- One pass over all records judges a bench as order 13 has it, and finds the words where its last standing and its
 -- first undone record begin, and how many words the undone ones are. Assumes nothing.
 use Prim.Native.Nat.{ℕ, zero, suc, _+_, _-_, _≤_, _<_}
-use mathlib.Core.Path.{_≡_, refl, sym, ap, _∙_}
+use mathlib.Core.Path.{_≡_, refl, _∙_}
 use mathlib.Core.Bool.{Bool, true, false, cond, _&&_}
 use mathlib.Core.List.{List, [], _∷_}
 use native.Mathlib.Omega.{arith}
@@ -19,9 +19,8 @@ use Rattle.benches.specs.Words.{Side, same, Record, sizeOf, sizes, own}
 use Rattle.benches.specs.Benches.{benchSound}
 use Rattle.benches.proofs.Words.{by-bench}
 use Rattle.bench_records.specs.declared.Pass.{Pass}
-use Rattle.bench_records.specs.declared.Passed.{Passed}
 use Rattle.bench_records.specs.declared.Passed.the-variants.{Broken, Through}
-use Rattle.bench_records.specs.Passing.{onward, owned, passed, begun, leads, passSound, begins}
+use Rattle.bench_records.specs.Passing.{owned, passed, begun, leads, passSound, begins}
 
 cond-and : {A : Type 0} (a b : Bool) (x y : A) → cond a (cond b x y) y ≡ cond (a && b) x y
 cond-and true b x y = refl

@@ -9,10 +9,10 @@ use native.Mathlib.Numerals.{add-one}
 use lib.ListN.{length, getD, take, drop, length-drop, drop-of-length-le}
 use lib.Seq.{slice, slice-cons, length-slice, drop-drop, length-take-le}
 use lib.Dec.{leb, ltb, eqb}
-use borrow.Author.Tests.{le-leb, lt-leb, lt-ltb, le-ltb, eq-eqb, ne-eqb, ltb-true, ltb-false, eqb-true, eqb-false}
+use borrow.Author.Tests.{le-leb, lt-leb, lt-ltb, le-ltb, eq-eqb, ne-eqb, ltb-true, ltb-false}
 use Rattle.answer.proofs.Below.{cond-case}
 use Rattle.editor.specs.Records.{Entry, lengthAfter}
-use Rattle.benches.specs.Words.{Side, first, second, sideOf, same, Record, sizeOf, onto, recordsIn}
+use Rattle.benches.specs.Words.{Side, sideOf, same, Record, sizeOf, onto, recordsIn}
 use Rattle.bench_records.specs.declared.Head.{Head}
 use Rattle.bench_records.specs.declared.Pass.{Pass}
 use Rattle.bench_records.specs.declared.Passed.{Passed}

@@ -1,7 +1,7 @@
 -- Each bench is a layout: two editors lie in one state, each is found there, and what a call makes of the caller's lies
 -- in the state that the call leaves, the other beside it as it was. Assumes nothing.
 use Prim.Native.Nat.{ℕ, _+_, _≤_, _<_}
-use mathlib.Core.Path.{_≡_, refl, sym, ap, _∙_, subst}
+use mathlib.Core.Path.{_≡_, refl, sym, ap, _∙_}
 use mathlib.Core.Bool.{true, false, false≢true}
 use mathlib.Core.List.{List, [], _∷_, _++_, map, reverseAux, reverse, reverse-cons, reverse-reverse, append-nil}
 use mathlib.Core.List.{reverseAux-eq}
@@ -27,7 +27,7 @@ use Rattle.ledger.specs.Parts.{markWithin}
 use Rattle.ledger.proofs.Words.{length-pad, take-pad, zeros-pad}
 use Rattle.ledger.proofs.Marks.{by-test}
 use Rattle.benches.specs.declared.Bench.{Bench}
-use Rattle.benches.specs.Words.{Side, first, second, at, put, Record, words, sizeOf, own, kept, inSteps}
+use Rattle.benches.specs.Words.{Side, first, second, at, Record, words, sizeOf, own, kept, inSteps}
 use Rattle.benches.specs.Benches.{State, benchSound, soundAt, judged, records}
 use Rattle.benches.specs.Layout.{editorOf, long, left, markedAs, bench, spaceIn, recordsAfter}
 use Rattle.benches.proofs.Words.{other, by-side, at-put, at-other, records-words, words-append, own-append}

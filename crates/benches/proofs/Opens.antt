@@ -2,7 +2,7 @@
 -- Assumes nothing.
 use Prim.Native.Nat.{ℕ}
 use mathlib.Core.Path.{_≡_, refl, sym, ap, _∙_}
-use mathlib.Core.Bool.{true, false, cond, false≢true}
+use mathlib.Core.Bool.{true, false, false≢true}
 use mathlib.Core.List.{List, []}
 use native.Mathlib.Omega.{arith}
 use native.Mathlib.Nat.{sub-zero}
@@ -19,7 +19,7 @@ use Rattle.ledger.specs.Page as page
 use Rattle.ledger.specs.Calls as pages
 use Rattle.ledger.proofs.Opens as opening
 use Rattle.benches.specs.Words.{Side, first, second, Both, at, own, inSteps}
-use Rattle.benches.specs.Benches.{State, Outcome}
+use Rattle.benches.specs.Benches.{Outcome}
 use Rattle.benches.specs.Calls.{benchOpened, notOpened, openedBoth, openOf}
 use Rattle.benches.specs.Demand.{OpenRefused}
 use Rattle.benches.proofs.Words.{other}

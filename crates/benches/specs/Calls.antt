@@ -1,11 +1,11 @@
 -- Document 02, order 13: the calls of two benches, each refusal in the fixed order, and everything they leave.
 use Prim.Native.Nat.{ℕ, _+_}
-use mathlib.Core.Bool.{Bool, false, cond, _||_}
+use mathlib.Core.Bool.{false, cond, _||_}
 use mathlib.Core.List.{List, []}
 use mathlib.Core.Option.{Option, none, some}
-use Rattle.answer.specs.Answer.{Verdict, numbered, tooLong}
+use Rattle.answer.specs.Answer.{numbered, tooLong}
 use Rattle.codec.specs.declared.Kind.{Kind}
-use Rattle.editor.specs.declared.Mark.the-variants.{None, At}
+use Rattle.editor.specs.declared.Mark.the-variants.{None}
 use Rattle.editor.specs.Ledger as editor
 use Rattle.editor.specs.Editor.{overlong, outputOf}
 use Rattle.editor.specs.Layout.{refusing, taken, Reply}

@@ -10,7 +10,7 @@ use Rattle.editor.specs.Editor.{Editor, Space, over}
 use Rattle.editor.specs.Layout.{Layout}
 use Rattle.ledger.specs.Words.{pad}
 use Rattle.benches.specs.declared.Bench.{Bench}
-use Rattle.benches.specs.Words.{Side, Both, at, put, Record, sizeOf, sizes, words, own, kept, inSteps}
+use Rattle.benches.specs.Words.{Side, at, put, Record, sizeOf, sizes, words, own, kept, inSteps}
 use Rattle.benches.specs.Benches.{State, textIn, records}
 
 -- what the calls see of a bench with this text buffer and these records

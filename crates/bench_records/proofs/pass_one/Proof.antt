@@ -1,7 +1,6 @@
 use native.Mathlib.Omega.{arith}
 use mathlib.Core.Path.{sym, ap, _∙_}
 use borrow.Author.Needs.{needs}
-use borrow.Author.Tests.{lt-ltb, le-ltb, eq-eqb, ne-eqb}
 use Rattle.answer.proofs.Once.{limit-small}
 use Rattle.bench_records.specs.declared.Passed.the-variants.{Through}
 use Rattle.bench_records.proofs.Turns.{other-bench, not-mine, beyond, too-long, one-more}

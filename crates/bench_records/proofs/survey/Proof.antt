@@ -1,8 +1,8 @@
 use native.Mathlib.Omega.{arith}
-use mathlib.Core.Path.{_≡_, sym, _∙_}
+use mathlib.Core.Path.{sym, _∙_}
 use borrow.Author.Needs.{needs}
 use borrow.Author.Tests.{not-true, not-false}
-use Rattle.benches.specs.Benches.{State, stateOf}
+use Rattle.benches.specs.Benches.{stateOf}
 use Rattle.bench_records.proofs.Judging.{used-beyond, not-blank, first-off, second-off, fits-first, fits-second}
 use Rattle.bench_records.proofs.survey.Statement.{statement}
 use Rattle.bench_records.proofs.survey.Tie as tie
