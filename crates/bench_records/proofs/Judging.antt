@@ -8,16 +8,23 @@ use native.Mathlib.Omega.{arith}
 use lib.ListN.{length, take, drop}
 use lib.Seq.{length-take-le}
 use borrow.Author.Tests.{le-leb, lt-leb}
+use Rattle.answer.specs.Answer.{limit, inNumbers, tooLong}
+use Rattle.answer.specs.declared.Answer.{Answer}
+use Rattle.answer.specs.declared.Answer.the-variants.{Refused}
+use Rattle.answer.specs.declared.Refusal.the-variants.{OverLimit, NoSuchBench}
+use Rattle.answer.proofs.Once.{numbers-once}
+use Rattle.editor.specs.Editor.{over}
 use Rattle.ledger.specs.Words.{zeros}
 use Rattle.benches.specs.declared.Bench.{Bench}
-use Rattle.benches.specs.Words.{Side, first, second, at, Record, recordsIn, own}
+use Rattle.benches.specs.Words.{Side, first, second, sideOf, at, Record, recordsIn, own}
 use Rattle.benches.specs.Benches.{State, benchSound, soundAt, judged, records}
 use Rattle.bench_records.specs.declared.Pass.{Pass}
 use Rattle.bench_records.specs.declared.Passed.{Passed}
 use Rattle.bench_records.specs.declared.Passed.the-variants.{Broken, Through}
+use Rattle.bench_records.specs.declared.Judged.the-variants.{Unfit}
 use Rattle.bench_records.specs.Passing.{passed, begun, leads, passSound}
 use Rattle.bench_records.specs.Turning.{sideAt}
-use Rattle.bench_records.specs.Judging.{textFits, fittedBy, fittedOf, passAt, judgedAt}
+use Rattle.bench_records.specs.Judging.{textFits, fittedBy, fittedOf, passAt, judgedAt, soundBy, namedBy, judgeOf}
 use Rattle.bench_records.proofs.Passes.{pass-sound}
 
 -- a bench that is not sound, or that is and where its pass stands
@@ -153,3 +160,45 @@ module _ (t : State) (mine : ℕ) where
             one : (k : ℕ) → k ≤ 1 → (k ≡ 0 → ⊥) → sideAt k ≡ second
             one zero m n = absurd (n refl)
             one (suc k) m n = refl
+
+-- 16, then 20, then 14
+module _ (t : State) (n : ℕ) where
+  module _ (a : Answer) (e : inNumbers a ≡ tooLong) where
+    answered : Unfit a ≡ Unfit (Refused OverLimit limit)
+    answered = rw (numbers-once a (Refused OverLimit limit) e)
+
+    pub long-first : over (t .texts .bench0) ≡ true → Unfit a ≡ judgeOf t n
+    unfolding judgeOf
+    long-first q = answered ∙ rw q
+
+    pub long-second : over (t .texts .bench0) ≡ false → over (t .texts .bench1) ≡ true → Unfit a ≡ judgeOf t n
+    unfolding judgeOf
+    long-second q r = answered ∙ rw (q, r)
+
+    pub long-history :
+        over (t .texts .bench0) ≡ false → over (t .texts .bench1) ≡ false → over (t .history) ≡ true →
+        Unfit a ≡ judgeOf t n
+    unfolding judgeOf
+    long-history q r h = answered ∙ rw (q, r, h)
+
+  module _
+      (q : over (t .texts .bench0) ≡ false)
+      (r : over (t .texts .bench1) ≡ false)
+      (h : over (t .history) ≡ false) where
+    pub nobody : 1 < n → Unfit (Refused NoSuchBench 0) ≡ judgeOf t n
+    unfolding judgeOf
+    nobody m = rw (q, r, h) (by n m)
+      where
+        by : (k : ℕ) → 1 < k → Unfit (Refused NoSuchBench 0) ≡ namedBy t (sideOf k)
+        by zero m = absurd (omega arith)
+        by (suc zero) m = absurd (omega arith)
+        by (suc (suc k)) m = refl
+
+    pub named : n ≤ 1 → soundBy (judgedAt t n (records t)) ≡ judgeOf t n
+    unfolding judgeOf
+    named m = rw (q, r, h) (by n m)
+      where
+        by : (k : ℕ) → k ≤ 1 → soundBy (judgedAt t k (records t)) ≡ namedBy t (sideOf k)
+        by zero m = refl
+        by (suc zero) m = refl
+        by (suc (suc k)) m = absurd (omega arith)

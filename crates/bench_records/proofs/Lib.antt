@@ -3,3 +3,5 @@ pub mod Places
 pub mod Turns
 pub mod Fitting
 pub mod Judging
+pub mod Found
+pub mod Ended

@@ -5,14 +5,20 @@ use mathlib.Core.List.{List}
 use mathlib.Core.Option.{Option, none, some}
 use lib.ListN.{length, drop}
 use lib.Dec.{leb, eqb}
+use Rattle.answer.specs.Answer.{limit}
+use Rattle.answer.specs.declared.Answer.the-variants.{Refused}
+use Rattle.answer.specs.declared.Refusal.the-variants.{Unsound, OverLimit, NoSuchBench}
 use Rattle.ledger.specs.Words.{zeros}
 use Rattle.ledger.specs.Parts.{markWithin}
 use Rattle.benches.specs.declared.Bench.{Bench}
-use Rattle.benches.specs.Words.{Side, at, Record}
-use Rattle.benches.specs.Benches.{State}
+use Rattle.benches.specs.Words.{Side, numberOf, sideOf, at, Record}
+use Rattle.benches.specs.Benches.{State, records}
+use Rattle.benches.specs.Layout.{long}
 use Rattle.bench_records.specs.declared.Pass.{Pass}
 use Rattle.bench_records.specs.declared.Passed.{Passed}
 use Rattle.bench_records.specs.declared.Passed.the-variants.{Broken, Through}
+use Rattle.bench_records.specs.declared.Judged.{Judged}
+use Rattle.bench_records.specs.declared.Judged.the-variants.{Unfit, Sound}
 use Rattle.bench_records.specs.Passing.{passed, begun}
 use Rattle.bench_records.specs.Turning.{sideAt, passIn}
 
@@ -43,3 +49,17 @@ passAt t rs s =
 abbrev pub judgedAt : State → ℕ → Option (List Record) → Passed
 judgedAt t mine none = Broken
 judgedAt t mine (some rs) = passAt t rs (sideAt mine)
+
+-- 14, or where the pass stands
+abbrev pub soundBy : Passed → Judged
+soundBy Broken = Unfit (Refused Unsound 0)
+soundBy (Through p) = Sound p
+
+-- 20, then 14
+abbrev pub namedBy : State → Option Side → Judged
+namedBy t none = Unfit (Refused NoSuchBench 0)
+namedBy t (some s) = soundBy (judgedAt t (numberOf s) (records t))
+
+-- 16 comes first
+unfoldable pub judgeOf : State → ℕ → Judged
+judgeOf t n = cond (long t) (Unfit (Refused OverLimit limit)) (namedBy t (sideOf n))

@@ -1,4 +1,6 @@
 // Whether two benches are sound: what every call asks first. One pass for each bench over all records.
+use answer::Answer;
+use answer::Refusal;
 use benches::Bench;
 use benches::Benches;
 ghost use mathlib.Core.Path.{_≡_};
@@ -7,7 +9,7 @@ ghost use lib.ListN.{length, take};
 ghost use Rattle.answer.specs.Answer.{limit};
 ghost use Rattle.bench_records.specs.Passing.{onward, begun};
 ghost use Rattle.benches.specs.Benches.{stateOf, records};
-ghost use Rattle.bench_records.specs.Judging.{textFits, leadsAs, fittedOf, judgedAt};
+ghost use Rattle.bench_records.specs.Judging.{textFits, leadsAs, fittedOf, judgedAt, soundBy, judgeOf};
 ghost use Rattle.bench_records.specs.Turning.{headAt, sizeAt, Bounded, turned, passIn};
 
 // The first four words of a record.
@@ -34,6 +36,12 @@ pub struct Pass {
 pub enum Passed {
     Broken,
     Through(Pass),
+}
+
+// What is found of both benches and their buffers: the refusal 16, 20 or 14, or where the caller's pass stands.
+pub enum Judged {
+    Unfit(Answer),
+    Sound(Pass),
 }
 
 fn head_at(history: &[u32], at: usize) -> Head
@@ -207,7 +215,7 @@ fn bench_fitted(b: Bench, text: &[u32], history: &[u32], used: usize, mine: usiz
 
 // On buffers within the limit: whether both benches are sound, and where the pass of one of them stands. 16 and 20
 // come before it.
-pub fn survey(b: Benches, text0: &[u32], text1: &[u32], history: &[u32], mine: usize) -> Passed
+fn survey(b: Benches, text0: &[u32], text1: &[u32], history: &[u32], mine: usize) -> Passed
     requires { ⌜ (length (now text0) ≤ limit) × (length (now text1) ≤ limit) × (length (now history) ≤ limit)
         × (mine ≤ 1) ⌝ }
     ensures { λ r. ⌜ r ≡ judgedAt (stateOf b (now (text0 .entry)) (now (text1 .entry)) (now (history .entry))) mine
@@ -232,4 +240,34 @@ pub fn survey(b: Benches, text0: &[u32], text1: &[u32], history: &[u32], mine: u
         return Passed::Through(p);
     }
     Passed::Through(q)
+}
+
+// 14, or where the pass stands.
+fn sound_by(found: Passed) -> Judged
+    ensures { λ r. ⌜ r ≡ soundBy found ⌝ }
+{
+    let Passed::Through(p) = found else {
+        return Judged::Unfit(Answer::Refused(Refusal::Unsound, 0));
+    };
+    Judged::Sound(p)
+}
+
+// For the calls of the bench of a number: 16, 20, 14, or where that bench's pass stands.
+pub fn judge(b: Benches, bench: usize, text0: &[u32], text1: &[u32], history: &[u32]) -> Judged
+    ensures { λ r. ⌜ r ≡ judgeOf (stateOf b (now (text0 .entry)) (now (text1 .entry)) (now (history .entry))) bench ⌝ }
+{
+    if answer::over_limit(text0.len()) {
+        return Judged::Unfit(answer::too_long());
+    }
+    if answer::over_limit(text1.len()) {
+        return Judged::Unfit(answer::too_long());
+    }
+    if answer::over_limit(history.len()) {
+        return Judged::Unfit(answer::too_long());
+    }
+    if 1 < bench {
+        return Judged::Unfit(Answer::Refused(Refusal::NoSuchBench, 0));
+    }
+    let found = survey(b, text0, text1, history, bench);
+    sound_by(found)
 }

@@ -34,12 +34,12 @@ struct Span {
 }
 
 // Cells of the history, from a word to another, to be put for `count` cells at a place of the text; and the words done after it.
-struct Change {
-    place: usize,
-    count: usize,
-    from: usize,
-    to: usize,
-    done: usize,
+pub struct Change {
+    pub place: usize,
+    pub count: usize,
+    pub from: usize,
+    pub to: usize,
+    pub done: usize,
 }
 
 // A refusal changes nothing.
@@ -97,7 +97,7 @@ fn words_over(page: Page, forward: bool, last: usize) -> Span
 }
 
 // The record at a word, forward as it was done, or back.
-fn change_at(history: &[u32], at: usize, forward: bool) -> Change
+pub fn change_at(history: &[u32], at: usize, forward: bool) -> Change
     requires { ⌜ at + (3 + getD (now history) (at + 1) 0 + getD (now history) (at + 2) 0) ≤ length (now history) ⌝ }
     ensures { λ r. ⌜ r ≡ changeIn forward (now (history .entry)) at ⌝ }
 {
@@ -201,7 +201,7 @@ fn put_record(
 }
 
 // The mark after a replace made while so many words were done.
-fn mark_left(mark: Mark, done: usize) -> Mark
+pub fn mark_left(mark: Mark, done: usize) -> Mark
     ensures { λ r. ⌜ r ≡ replacedMark done mark ⌝ }
 {
     let Mark::At(n) = mark else {
@@ -392,7 +392,7 @@ fn set_mark(page: Page, answer: Answer) -> Edited
 }
 
 // On a sound page: the bytes, and the mark.
-fn save_sound(page: Page, cells: &[u32], arrived: &[u8], out: &mut [u8]) -> Edited
+pub fn save_sound(page: Page, cells: &[u32], arrived: &[u8], out: &mut [u8]) -> Edited
     ensures { λ r. ⌜ (r .page ≡ savedPage page (r .answer))
         × (output.leaves (r .answer) (now (out .exit)) ≡ savedIn page (now (cells .entry)) (now (arrived .entry)) (now (out .entry))) ⌝ }
 {
@@ -426,7 +426,7 @@ fn is_marked(mark: Mark, done: usize) -> bool
     n == done
 }
 
-fn told(page: Page) -> Asked
+pub fn told(page: Page) -> Asked
     ensures { λ r. ⌜ r ≡ record { answer = Accepted 0; unchanged = unchangedAt (page .done) (page .saved) } ⌝ }
 {
     let saved = page.saved;
