@@ -1,0 +1,48 @@
+use Rattle.bench_open.proofs.Openings.{lengths-small, both-opened}
+use borrow.Author.Needs.{needs}
+use Rattle.bench_open.proofs.open_both.Statement.{statement}
+use Rattle.bench_open.proofs.open_both.Tie as tie
+
+open-requires : tie.Need-open-requires
+open-requires c κs = search needs
+
+open-requires-2 : tie.Need-open-requires-2
+open-requires-2 c κs = search needs
+
+opened-requires : tie.Need-opened-requires
+opened-requires c κs =
+    let a = c .before .before .before .before .before .before .before .before .before .before .before .before .before .before .before .before .before .before .before .before .before .args in
+    let p = c .before .before .before .before .before .before .before .before .before .before .before .before .before .«open» in
+    let q = c .before .before .before .before .before .before .open2 in
+    lengths-small (a .kind0) (a .kind1) (a .arrived0 .now) (a .arrived1 .now) (a .text0 .now) (a .text1 .now)
+    (a .history .now) (c .before .before .before .before .before .before .before .before .before .before .before .before .before .before .before .before .before .before .before .before .before .pre .0) (c .before .before .before .before .before .before .before .before .before .before .before .before .before .before .before .before .before .before .before .before .before .pre .1) (p .result) (q .result) _ _ _ _ (p .ensures) (q .ensures)
+
+same-length : tie.Need-same-length
+same-length c = search needs
+
+same-length-2 : tie.Need-same-length-2
+same-length-2 c = search needs
+
+same-length-3 : tie.Need-same-length-3
+same-length-3 c = search needs
+
+returns : tie.Need-returns
+returns c =
+    let a = c .before .before .before .before .before .before .before .before .before .before .before .before .before .before .before .before .before .before .before .before .before .before .args in
+    let p = c .before .before .before .before .before .before .before .before .before .before .before .before .before .before .«open» in
+    let q = c .before .before .before .before .before .before .before .open2 in
+    rw (c .opened .ensures)
+    (both-opened (a .kind0) (a .kind1) (a .arrived0 .now) (a .arrived1 .now) (a .text0 .now) (a .text1 .now)
+    (a .history .now) (c .before .before .before .before .before .before .before .before .before .before .before .before .before .before .before .before .before .before .before .before .before .before .pre .0) (c .before .before .before .before .before .before .before .before .before .before .before .before .before .before .before .before .before .before .before .before .before .before .pre .1) (p .result) (q .result) _ _ _ _ (p .ensures) (q .ensures))
+
+pub open-both-spec : {M : Type 1} → statement M
+open-both-spec =
+    tie.close
+    (tie.spec
+    open-requires
+    open-requires-2
+    opened-requires
+    same-length
+    same-length-2
+    same-length-3
+    returns)
