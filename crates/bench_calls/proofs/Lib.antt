@@ -1,2 +1,5 @@
 pub mod Turns
 pub mod Savings
+pub mod Closing
+pub mod Recording
+pub mod Replacings

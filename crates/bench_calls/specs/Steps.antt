@@ -5,9 +5,6 @@ use mathlib.Core.List.{List}
 use lib.ListN.{length, getD, take, drop}
 use lib.Dec.{eqb, leb}
 use Rattle.answer.specs.Answer.{numbered}
-use Rattle.answer.specs.declared.Answer.{Answer}
-use Rattle.answer.specs.declared.Answer.the-variants.{Refused}
-use Rattle.answer.specs.declared.Refusal.the-variants.{NothingLeft}
 use Rattle.splice.specs.Splice.{spliced, Filled}
 use Rattle.page.specs.declared.Change.{Change}
 use Rattle.page.specs.Steps.{changeIn}
@@ -43,10 +40,6 @@ abbrev pub movedOn : Bool → Bench → ℕ → ℕ → ℕ → List ℕ → Lis
 movedOn forward b used at standing text history =
     editedTo b (length text) (changed (changeIn forward history at) history (take (b .length) text)) used standing
     (b .saved) history
-
--- 13
-abbrev pub nothingLeft : Answer
-nothingLeft = Refused NothingLeft 0
 
 -- the step to be moved over, if there is one: the last that stands, or the first undone one
 abbrev pub Steppable : Bool → Bench → Pass → List ℕ → List ℕ → Type 0

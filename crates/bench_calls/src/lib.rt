@@ -1,4 +1,6 @@
 // The calls of two benches that share one history. Each is judged whole before anything is changed.
+mod gap;
+
 use answer::Answer;
 use answer::Refusal;
 use bench_records::Judged;
@@ -14,7 +16,9 @@ ghost use mathlib.Core.Bool.{true, false};
 ghost use mathlib.Core.List.{[]};
 ghost use Prim.Native.Nat.{_+_, _-_, _≤_, _<_};
 ghost use lib.ListN.{length, take};
+ghost use Rattle.answer.specs.Answer.{limit};
 ghost use Rattle.answer.specs.Output as output;
+ghost use Rattle.editor.specs.Records.{entryAt};
 ghost use Rattle.ledger.specs.Words.{pad};
 ghost use Rattle.ledger.specs.Page.{replies};
 ghost use Rattle.benches.specs.Benches.{stateOf, leaves};
@@ -24,7 +28,8 @@ ghost use Rattle.bench_records.specs.Judging.{judgeOf};
 ghost use Rattle.splice.specs.Splice.{spliced, Filled};
 ghost use Rattle.page.specs.Outcomes.{savedIn};
 ghost use Rattle.bench_calls.specs.Leaving.{leavesOf, editedAs, benchAt, turnedAt};
-ghost use Rattle.bench_calls.specs.Steps.{Ready, movedOn, nothingLeft, Steppable, steppedOn, steppedOf};
+ghost use Rattle.bench_calls.specs.Steps.{Ready, movedOn, Steppable, steppedOn, steppedOf};
+ghost use Rattle.bench_calls.specs.Replaces.{Shared, fittingOn, replacedOn};
 ghost use Rattle.bench_calls.specs.Saves.{pageOf, savedBench, cellsAt};
 // What a call gives back of the caller's bench, and the words then used.
 struct Turned {
@@ -38,6 +43,17 @@ fn refused(b: Benches, answer: Answer) -> Edited
     ensures { λ r. ⌜ r ≡ record { answer = answer; benches = b } ⌝ }
 {
     Edited { answer, benches: b }
+}
+
+// Nor does one of the caller's bench.
+fn stays(b: Bench, used: usize, answer: Answer) -> Turned
+    ensures { λ r. ⌜ r ≡ record { answer = answer; bench = b; used = used } ⌝ }
+{
+    Turned {
+        answer,
+        bench: b,
+        used,
+    }
 }
 
 // The caller's bench beside the other one.
@@ -143,16 +159,6 @@ fn move_at(
     )
 }
 
-fn nothing_left(b: Bench, used: usize) -> Turned
-    ensures { λ r. ⌜ r ≡ record { answer = nothingLeft; bench = b; used = used } ⌝ }
-{
-    Turned {
-        answer: Answer::Refused(Refusal::NothingLeft, 0),
-        bench: b,
-        used,
-    }
-}
-
 // On sound benches: 13, or the caller's last standing step taken back.
 fn undo_last(b: Bench, used: usize, p: Pass, text: &mut [u32], history: &[u32]) -> Turned
     requires { ⌜ Steppable false b p (now text) (now history) ⌝ }
@@ -160,7 +166,7 @@ fn undo_last(b: Bench, used: usize, p: Pass, text: &mut [u32], history: &[u32]) 
         ≡ steppedOn false b used p (now (text .entry)) (now (history .entry)) ⌝ }
 {
     if b.standing == 0 {
-        return nothing_left(b, used);
+        return stays(b, used, Answer::Refused(Refusal::NothingLeft, 0));
     }
     let at = p.last + 1;
     move_at(b, used, false, at, b.standing - 1, &mut *text, history)
@@ -173,7 +179,7 @@ fn redo_next(b: Bench, used: usize, p: Pass, text: &mut [u32], history: &[u32]) 
         ≡ steppedOn true b used p (now (text .entry)) (now (history .entry)) ⌝ }
 {
     if p.seen <= b.standing {
-        return nothing_left(b, used);
+        return stays(b, used, Answer::Refused(Refusal::NothingLeft, 0));
     }
     let at = p.next + 1;
     move_at(b, used, true, at, b.standing + 1, &mut *text, history)
@@ -266,6 +272,88 @@ pub fn redo(
         ≡ redoOf (stateOf b (now (text0 .entry)) (now (text1 .entry)) (now (history .entry))) bench ⌝ }
 {
     step_over(b, bench, true, &mut *text0, &mut *text1, history)
+}
+
+// 9, then 12; else the step is recorded and done.
+fn replace_fitting(
+    b: Bench,
+    mine: usize,
+    used: usize,
+    p: Pass,
+    place: usize,
+    count: usize,
+    cells: &[u32],
+    text: &mut [u32],
+    history: &mut [u32],
+) -> Turned
+    requires { ⌜ (place + count ≤ b .length) × Shared b mine used p (now text) (now history)
+        × (length (now cells) ≤ limit) ⌝ }
+    ensures { λ r. ⌜ leavesOf r (now (text .exit)) (now (history .exit))
+        ≡ fittingOn b mine used p (entryAt (take (b .length) (now (text .entry))) place count (now (cells .entry)))
+        (now (text .entry)) (now (history .entry)) ⌝ }
+{
+    let length = b.length - count + cells.len();
+    if text.len() < length {
+        return stays(b, used, Answer::Refused(Refusal::NoRoom, length));
+    }
+    let need = used - p.spare + (4 + count + cells.len());
+    if history.len() < need {
+        return stays(b, used, Answer::Refused(Refusal::HistoryFull, need));
+    }
+    let end = place + count;
+    gap::record_step(
+        &mut *history,
+        used,
+        mine,
+        p.next,
+        place,
+        &text[place..end],
+        cells,
+    );
+    let old = b.saved;
+    let saved = page::mark_left(old, b.standing);
+    accept(b, place, count, cells, need, b.standing + 1, saved, &mut *text)
+}
+
+// On sound benches: 11, then 10.
+fn replace_on(
+    b: Bench,
+    mine: usize,
+    used: usize,
+    p: Pass,
+    place: usize,
+    count: usize,
+    cells: &[u32],
+    text: &mut [u32],
+    history: &mut [u32],
+) -> Turned
+    requires { ⌜ Shared b mine used p (now text) (now history) × (length (now cells) ≤ limit) ⌝ }
+    ensures { λ r. ⌜ leavesOf r (now (text .exit)) (now (history .exit))
+        ≡ replacedOn b mine used p place count (now (cells .entry)) (now (text .entry)) (now (history .entry)) ⌝ }
+{
+    let length = b.length;
+    if length < count {
+        return stays(b, used, Answer::Refused(Refusal::BeyondLength, length));
+    }
+    if length - count < place {
+        return stays(b, used, Answer::Refused(Refusal::BeyondLength, length));
+    }
+    let kind = b.kind;
+    let first = codec::first_unwritable(kind, cells);
+    if first < cells.len() {
+        return stays(b, used, Answer::Refused(Refusal::Unwritable, first));
+    }
+    replace_fitting(
+        b,
+        mine,
+        used,
+        p,
+        place,
+        count,
+        cells,
+        &mut *text,
+        &mut *history,
+    )
 }
 
 // The bench of a number that is 0 or 1.

@@ -8,7 +8,7 @@ ghost use Rattle.ledger.specs.Words.{pad};
 ghost use Rattle.splice.specs.Splice.{spliced, cleared, fitting, usedAfter, splicedIn};
 
 // Moves n elements to a place that is not after theirs.
-fn move_left(s: &mut [u32], from: usize, to: usize, n: usize)
+pub fn move_left(s: &mut [u32], from: usize, to: usize, n: usize)
     requires { ⌜ (to ≤ from) × (from + n ≤ length (now s)) ⌝ }
     ensures { λ _. ⌜ now (s .exit) ≡ paste (now (s .entry)) to (drop from (now (s .entry))) n ⌝ }
 {

@@ -1,0 +1,41 @@
+use mathlib.Core.Path.{refl, sym, _∙_}
+use borrow.Author.Needs.{needs}
+use Rattle.bench_calls.proofs.gap.keep_other.Statement.{statement}
+use Rattle.bench_calls.proofs.gap.keep_other.Tie as tie
+
+mul-wide : tie.Need-mul-wide
+mul-wide c = search needs
+
+slice-read-wide : tie.Need-slice-read-wide
+slice-read-wide c = search needs
+
+wide-requires : tie.Need-wide-requires
+wide-requires c κs = search needs
+
+returns : tie.Need-returns
+returns c = ((λ _. (refl, refl)), (λ n. absurd (n (sym (c .before .wide .ensures .0) ∙ c .if1 .taken))))
+
+move-left-requires : tie.Need-move-left-requires
+move-left-requires c κs = search needs
+
+add-result : tie.Need-add-result
+add-result c = search needs
+
+same-length : tie.Need-same-length
+same-length c = search needs
+
+returns-2 : tie.Need-returns-2
+returns-2 c = ((λ e. absurd (c .before .before .before .before .if1 .left (c .before .before .before .before .before .wide .ensures .0 ∙ e))), (λ _. (refl, c .before .before .move-left .ensures)))
+
+pub keep-other-spec : {M : Type 1} → statement M
+keep-other-spec =
+    tie.close
+    (tie.spec
+    mul-wide
+    slice-read-wide
+    wide-requires
+    returns
+    move-left-requires
+    add-result
+    same-length
+    returns-2)
