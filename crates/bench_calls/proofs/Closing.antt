@@ -16,7 +16,7 @@ use Rattle.benches.proofs.Words.{records-words}
 use Rattle.bench_records.specs.Turning.{sideAt}
 use Rattle.bench_calls.specs.Gap.{Tiles, othersIn, closed, Closes}
 
-length-record : (r : Record) → length (wordsOf r) ≡ sizeOf (r .entry)
+pub length-record : (r : Record) → length (wordsOf r) ≡ sizeOf (r .entry)
 length-record r = simp length-append (omega arith)
 
 -- the words of the other bench's among the words of records
@@ -57,12 +57,19 @@ module _ (mine from used : ℕ) (h₀ : List ℕ) (fits : used ≤ length h₀) 
       let l = ap length e in
       omega (arith, length-drop used h₀, length-drop at h₀)
 
-  pub begin : from ≤ used → Tiles from used h₀ → Going mine from used h₀ h₀ from from
-  begin w t =
+  -- what is to be left
+  pub closed-words :
+      from ≤ used → (t : Tiles from used h₀) →
+      take from h₀ ++ words (kept (sideAt mine) 0 (t .rs)) ≡ closed mine from used h₀
+  closed-words w t =
       let n : length (words (t .rs)) ≡ used - from = omega (arith, span from (t .rs) w (t .is)) in
       let part : slice from used h₀ ≡ words (t .rs) =
       drop-take from used h₀ ∙ ap (take (used - from)) (sym (t .is))
       ∙ take-at (words (t .rs)) (drop used h₀) (used - from) n in
+      rw (part, others-words mine (t .rs))
+
+  pub begin : from ≤ used → Tiles from used h₀ → Going mine from used h₀ h₀ from from
+  begin w t =
       record {
         behind = omega arith;
         within = w;
@@ -70,7 +77,7 @@ module _ (mine from used : ℕ) (h₀ : List ℕ) (fits : used ≤ length h₀) 
         rest = refl;
         rs = t .rs;
         tiles = t .is;
-        is = rw (part, others-words mine (t .rs));
+        is = closed-words w t;
       }
 
   module _ (one : mine ≤ 1) {h : List ℕ} {at to : ℕ} (g : Going mine from used h₀ h at to) where

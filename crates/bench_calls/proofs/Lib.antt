@@ -3,3 +3,5 @@ pub mod Savings
 pub mod Closing
 pub mod Recording
 pub mod Replacings
+pub mod Sharing
+pub mod Replaced

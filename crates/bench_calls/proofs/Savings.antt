@@ -188,11 +188,11 @@ module _ (b : Benches) (n : ℕ) (text0 text1 arrived out out' : List ℕ) (x : 
       let w : x ≡ b .bench0 = rw y at is in
       rw y (
         (λ i.
-        record {
-          bench0 = (marked ∙ ap (λ (v : Bench). savedBench v (r .answer)) w) i;
-          bench1 = b .bench1;
-          used = same i;
-        }),
+            record {
+              bench0 = (marked ∙ ap (λ (v : Bench). savedBench v (r .answer)) w) i;
+              bench1 = b .bench1;
+              used = same i;
+            }),
         o ∙ ap (λ (v : Bench). savedIn (pageOf v) (take (v .length) text0) arrived out) w,
       )
 
@@ -208,11 +208,11 @@ module _ (b : Benches) (n : ℕ) (text0 text1 arrived out out' : List ℕ) (x : 
       let w : x ≡ b .bench1 = rw y at is in
       rw y (
         (λ i.
-        record {
-          bench0 = b .bench0;
-          bench1 = (marked ∙ ap (λ (v : Bench). savedBench v (r .answer)) w) i;
-          used = same i;
-        }),
+            record {
+              bench0 = b .bench0;
+              bench1 = (marked ∙ ap (λ (v : Bench). savedBench v (r .answer)) w) i;
+              used = same i;
+            }),
         o ∙ ap (λ (v : Bench). savedIn (pageOf v) (take (v .length) text1) arrived out) w,
       )
 

@@ -174,7 +174,7 @@ module _ (b : Bench) (text : List ℕ) (es : List Entry) (g : Fitting b text es)
         rw (a .place, a .removed, a .added, k, a .put)
 
 -- a refusal, placed, leaves everything
-same-placed :
+pub same-placed :
     (t : State) (s : Side) (v : Verdict) →
     placed t s (refusedWith v (at (t .benches) s) (t .used) (at (t .texts) s) (t .history)) ≡ refusing t [] v
 same-placed t first v = refl

@@ -19,10 +19,11 @@ ghost use lib.ListN.{length, take};
 ghost use Rattle.answer.specs.Answer.{limit};
 ghost use Rattle.answer.specs.Output as output;
 ghost use Rattle.editor.specs.Records.{entryAt};
+ghost use Rattle.editor.specs.Editor.{over};
 ghost use Rattle.ledger.specs.Words.{pad};
 ghost use Rattle.ledger.specs.Page.{replies};
 ghost use Rattle.benches.specs.Benches.{stateOf, leaves};
-ghost use Rattle.benches.specs.Calls.{undoOf, redoOf, saveOf, unchangedOf};
+ghost use Rattle.benches.specs.Calls.{replaceOf, undoOf, redoOf, saveOf, unchangedOf};
 ghost use Rattle.bench_records.specs.declared.Judged.the-variants.{Sound};
 ghost use Rattle.bench_records.specs.Judging.{judgeOf};
 ghost use Rattle.splice.specs.Splice.{spliced, Filled};
@@ -312,7 +313,16 @@ fn replace_fitting(
     );
     let old = b.saved;
     let saved = page::mark_left(old, b.standing);
-    accept(b, place, count, cells, need, b.standing + 1, saved, &mut *text)
+    accept(
+        b,
+        place,
+        count,
+        cells,
+        need,
+        b.standing + 1,
+        saved,
+        &mut *text,
+    )
 }
 
 // On sound benches: 11, then 10.
@@ -354,6 +364,89 @@ fn replace_on(
         &mut *text,
         &mut *history,
     )
+}
+
+// The caller is bench 0, or else bench 1.
+fn replace_sound(
+    b: Benches,
+    bench: usize,
+    p: Pass,
+    place: usize,
+    count: usize,
+    cells: &[u32],
+    text0: &mut [u32],
+    text1: &mut [u32],
+    history: &mut [u32],
+) -> Edited
+    requires { ⌜ (judgeOf (stateOf b (now text0) (now text1) (now history)) bench ≡ Sound p)
+        × (over (now cells) ≡ false) ⌝ }
+    ensures { λ r. ⌜ leaves r (now (text0 .exit)) (now (text1 .exit)) (now (history .exit)) []
+        ≡ replaceOf (stateOf b (now (text0 .entry)) (now (text1 .entry)) (now (history .entry))) bench place count
+        (now (cells .entry)) ⌝ }
+{
+    if bench == 0 {
+        let bench0 = b.bench0;
+        let t = replace_on(
+            bench0,
+            0,
+            b.used,
+            p,
+            place,
+            count,
+            cells,
+            &mut *text0,
+            &mut *history,
+        );
+        return first_back(b, t);
+    }
+    let bench1 = b.bench1;
+    let t = replace_on(
+        bench1,
+        1,
+        b.used,
+        p,
+        place,
+        count,
+        cells,
+        &mut *text1,
+        &mut *history,
+    );
+    second_back(b, t)
+}
+
+// Puts cells for `count` cells at a place of a bench's text, and records the step.
+pub fn replace(
+    b: Benches,
+    bench: usize,
+    place: usize,
+    count: usize,
+    cells: &[u32],
+    text0: &mut [u32],
+    text1: &mut [u32],
+    history: &mut [u32],
+) -> Edited
+    ensures { λ r. ⌜ leaves r (now (text0 .exit)) (now (text1 .exit)) (now (history .exit)) []
+        ≡ replaceOf (stateOf b (now (text0 .entry)) (now (text1 .entry)) (now (history .entry))) bench place count
+        (now (cells .entry)) ⌝ }
+{
+    if answer::over_limit(cells.len()) {
+        return refused(b, answer::too_long());
+    }
+    let found = bench_records::judge(b, bench, &*text0, &*text1, &*history);
+    match found {
+        Judged::Unfit(answer) => refused(b, answer),
+        Judged::Sound(p) => replace_sound(
+            b,
+            bench,
+            p,
+            place,
+            count,
+            cells,
+            &mut *text0,
+            &mut *text1,
+            &mut *history,
+        ),
+    }
 }
 
 // The bench of a number that is 0 or 1.

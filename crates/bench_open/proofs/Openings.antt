@@ -145,8 +145,7 @@ module _
   pub lengths-small : (p .page .length ≤ limit) × (q .page .length ≤ limit)
   lengths-small =
       let m : p .page .length ≡ length cells0 = ap (λ (o : page.Outcome). o .state .page .length) first-is in
-      let n : q .page .length ≡ length cells1 = ap (λ (o : page.Outcome). o .state .page .length) second-is in
-      (
+      let n : q .page .length ≡ length cells1 = ap (λ (o : page.Outcome). o .state .page .length) second-is in (
         omega (arith, one .fits, one .small-text),
         omega (arith, two .fits, two .small-text),
       )

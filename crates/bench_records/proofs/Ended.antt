@@ -19,7 +19,7 @@ use Rattle.benches.specs.Benches.{State, benchSound}
 use Rattle.bench_records.specs.declared.Pass.{Pass}
 use Rattle.bench_records.specs.declared.Passed.the-variants.{Broken, Through}
 use Rattle.bench_records.specs.Passing.{begun, begins}
-use Rattle.bench_records.proofs.Passes.{endOf, passed-is, ends-seen, ends-spare, ends-last, ends-next}
+use Rattle.bench_records.proofs.Passes.{endOf, passed-is, ends-seen, ends-spare, ends-last, ends-next, ends-none}
 use Rattle.bench_records.proofs.Places.{placed, placed-at}
 use Rattle.bench_records.proofs.Found.{Fit}
 
@@ -107,6 +107,9 @@ module _ {t : State} {s : Side} {p : Pass} (f : Fit t s p) where
   pass-next q =
       rw (← ended)
       (omega (arith, ends-next (length text) (b .standing) s (f .rs) 0 start .1 (b .standing) (omega arith) q))
+
+  pub pass-none : length es ≤ b .standing → p .next ≡ t .used
+  pass-none q = rw (← ended) (ends-none (length text) (b .standing) s (f .rs) 0 start (omega arith))
 
   pub history-is : words (f .rs) ++ drop (t .used) (t .history) ≡ t .history
   history-is = rw (f .tiled .tiles) (take-append-drop (t .used) (t .history))

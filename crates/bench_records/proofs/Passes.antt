@@ -222,6 +222,24 @@ module _ (room standing : ℕ) (s : Side) where
   unfolding own
   ends-next = ends-by Next (λ at p. ((λ _. refl), (λ k z few. absurd (omega arith)))) next-mine next-others
 
+  none-mine :
+      (r : Record) (rs : List Record) (at : ℕ) (p q : Pass) → same s (r .bench) ≡ true →
+      (owned room standing s at p (r .entry) .seen + length (own s rs) ≤ standing →
+      q .next ≡ owned room standing s at p (r .entry) .next) →
+      p .seen + length (own s (r ∷ rs)) ≤ standing → q .next ≡ p .next
+  unfolding own
+  none-mine r rs at p q e h few =
+      let few' : p .seen + suc (length (own s rs)) ≤ standing = rw e at few in
+      (rw (stands at p (r .entry) (omega arith)) at h) (omega arith)
+
+  -- where none is undone, it is as before
+  pub ends-none :
+      (rs : List Record) (at : ℕ) (p : Pass) → p .seen + length (own s rs) ≤ standing → endOf at p rs .next ≡ p .next
+  unfolding own
+  ends-none =
+      ends-by (λ p at rs q. p .seen + length (own s rs) ≤ standing → q .next ≡ p .next) (λ at p few. refl) none-mine
+      (λ r rs at p q e h few. h (rw e at few))
+
   stood-mine :
       (r : Record) (rs : List Record) (at : ℕ) (p q : Pass) → same s (r .bench) ≡ true →
       Stood (owned room standing s at p (r .entry)) (at + sizeOf (r .entry)) rs q → Stood p at (r ∷ rs) q

@@ -15,11 +15,10 @@ returns c =
     let a = c .before .before .before .before .before .before .args in
     let p = c .before .before .before .before .before .before .pre in
     let e = c .before .before .splice-in .ensures in
-    let n = e .0 ∙ used-after (a .text .now) (a .cells .now) (a .b .length) (a .place) (a .count) (p .0) (p .1 .fits) (p .2) in
-    (
+    let n = e .0 ∙ used-after (a .text .now) (a .cells .now) (a .b .length) (a .place) (a .count) (p .0) (p .1 .fits) (p .2) in (
       rw n,
       e .1
-      ∙ filled-after (a .text .now) (a .cells .now) (a .b .length) (a .place) (a .count) (p .0) (p .1 .fits) (p .2) (p .1),
+          ∙ filled-after (a .text .now) (a .cells .now) (a .b .length) (a .place) (a .count) (p .0) (p .1 .fits) (p .2) (p .1),
     )
 
 pub accept-spec : {M : Type 1} → statement M

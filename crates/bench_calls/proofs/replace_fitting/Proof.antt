@@ -73,8 +73,7 @@ record-step-requires c κs =
     let s = p .1 in
     let k = c .before .before .before .if2 .left in
     let n = length-part (a .b) (a .mine) (a .used) (a .p) (a .place) (a .count) (a .cells .now) (a .text .now)
-    (a .history .now) (s .text-filled .fits) (p .0) in
-    (
+    (a .history .now) (s .text-filled .fits) (p .0) in (
       s .from,
       s .filled,
       s .small,

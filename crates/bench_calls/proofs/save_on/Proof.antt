@@ -16,8 +16,7 @@ same-length c = search needs
 returns : tie.Need-returns
 returns c =
     let a = c .before .before .before .before .before .before .before .before .before .args in
-    let s = c .before .before .before .save-sound in
-    (
+    let s = c .before .before .before .save-sound in (
       rw (s .ensures .0, c .before .before .before .before .before .page-of .ensures) (saved-bench (a .b) (s .result .answer)),
       refl,
       rw (c .before .before .before .before .before .page-of .ensures) at (s .ensures .1),

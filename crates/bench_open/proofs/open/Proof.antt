@@ -66,12 +66,11 @@ open-both-requires : tie.Need-open-both-requires
 open-both-requires c κs =
     let a = c .before .before .before .before .before .before .before .before .before .before .before .before .before .before .before .before .before .before .args in
     let f = c .before .before .before .before .before .before .before .before .before .before .would-open in
-    let g = c .before .before .before .before .before .would-open2 in
-    (
+    let g = c .before .before .before .before .before .would-open2 in (
       told-taken (a .kind0) (a .arrived0 .now) (a .text0 .now) (a .history .now) (f .result) _ (f .ensures)
-      (c .before .before .before .before .before .before .before .before .enum-told .given .1),
+          (c .before .before .before .before .before .before .before .before .enum-told .given .1),
       told-taken (a .kind1) (a .arrived1 .now) (a .text1 .now) (a .history .now) (g .result) _ (g .ensures)
-      (c .before .before .before .enum-told3 .given .1),
+          (c .before .before .before .enum-told3 .given .1),
     )
 
 same-length-6 : tie.Need-same-length-6

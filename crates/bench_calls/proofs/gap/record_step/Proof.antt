@@ -13,8 +13,7 @@ close-gap-requires c κs = (c .before .before .before .before .pre .0, c .before
 put-record-requires : tie.Need-put-record-requires
 put-record-requires c κs =
     let p = c .before .before .before .before .before .before .before .before .pre in
-    let e = c .before .before .before .close-gap .ensures in
-    (
+    let e = c .before .before .before .close-gap .ensures in (
       record {
         fits = omega (arith, p .1 .fits, e .long);
         blank = ap zeros (e .rest) ∙ p .1 .blank;
