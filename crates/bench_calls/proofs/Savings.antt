@@ -223,6 +223,6 @@ pub first-fits :
 first-fits b n x text is z h = rw (is, eq-eqb n 0 z) h
 
 pub second-fits :
-    (b : Benches) (n : ℕ) (x : Bench) (text : List ℕ) → x ≡ benchAt b n → (n ≡ 0 → ⊥) → b .bench1 .length ≤ length text →
-    x .length ≤ length text
+    (b : Benches) (n : ℕ) (x : Bench) (text : List ℕ) → x ≡ benchAt b n → (n ≡ 0 → ⊥) →
+    b .bench1 .length ≤ length text → x .length ≤ length text
 second-fits b n x text is z h = rw (is, ne-eqb n 0 z) h

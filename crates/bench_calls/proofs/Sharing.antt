@@ -12,7 +12,7 @@ use Rattle.answer.specs.Answer.{limit}
 use Rattle.editor.specs.Records.{Entry}
 use Rattle.splice.specs.Splice.{Filled}
 use Rattle.benches.specs.declared.Bench.{Bench}
-use Rattle.benches.specs.Words.{Side, first, second, numberOf, same, at, Record, wordsOf, words, sizeOf, sizes, own, kept}
+use Rattle.benches.specs.Words.{Side, first, second, numberOf, same, at, Record, wordsOf, words, sizeOf, own, kept}
 use Rattle.benches.specs.Benches.{State}
 use Rattle.benches.proofs.Words.{by-bench, words-append, words-kept}
 use Rattle.bench_records.specs.declared.Pass.{Pass}
@@ -122,7 +122,8 @@ module _ {t : State} {s : Side} {p : Pass} (f : Fit t s p) where
       by true q =
           let h : length es ≤ b .standing = leb-true (length es) (b .standing) q in
           let n : p .next ≡ t .used = pass-none f h in
-          let w : f .rs ≡ cut .front = cut .is ∙ ap (λ (l : List Record). cut .front ++ l) (cut .none' h) ∙ append-nil (cut .front) in
+          let w : f .rs ≡ cut .front =
+          cut .is ∙ ap (λ (l : List Record). cut .front ++ l) (cut .none' h) ∙ append-nil (cut .front) in
           ap (λ (l : List Record). length (words l)) (sym w) ∙ all ∙ sym n
       by false q =
           let h : b .standing < length es = leb-false (length es) (b .standing) q in

@@ -212,8 +212,8 @@ module _ {t : State} {s : Side} {p : Pass} (f : Fit t s p) where
       by zero q h = absurd (omega arith)
       by (suc k) q h =
           let c : Picked k es = picked k es (omega (arith, fitting f .few)) in
-          ready-back b text es (fitting f) c (t .history) (p .last + 1) (last-at f k (c .entry) (c .rest) q (drop-picked c))
-          q
+          ready-back b text es (fitting f) c (t .history) (p .last + 1)
+          (last-at f k (c .entry) (c .rest) q (drop-picked c)) q
   steppable true = by
     where
       by : b .standing < p .seen → Ready true b (p .next + 1) text (t .history)

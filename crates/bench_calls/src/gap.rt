@@ -1,4 +1,5 @@
-// The words of the shared history after a replace: the caller's undone records are dropped and the gap closed in one pass to the left, then the new record is put last.
+// The shared history after a replace: the caller's undone records are dropped, the gap is closed in one pass to the
+// left, and the new record is put last.
 ghost use mathlib.Core.Path.{_≡_};
 ghost use mathlib.Core.List.{_∷_, _++_};
 ghost use Prim.Native.Nat.{_+_, _≤_, _<_, _^_};
@@ -88,10 +89,12 @@ pub fn record_step(
 )
     requires { ⌜ (from ≤ used) × Filled used (now history) × (length (now history) ≤ limit) × (mine ≤ 1)
         × Tiles from used (now history)
-        × (length (closed mine from used (now history)) + (4 + length (now removed) + length (now added)) ≤ length (now history))
+        × (length (closed mine from used (now history)) + (4 + length (now removed) + length (now added))
+        ≤ length (now history))
         × (place < 2 ^ 32) × (length (now removed) < 2 ^ 32) × (length (now added) < 2 ^ 32) ⌝ }
-    ensures { λ _. ⌜ now (history .exit) ≡ pad (length (now (history .entry))) (closed mine from used (now (history .entry))
-        ++ mine ∷ wordsOf (record { place = place; removed = now (removed .entry); added = now (added .entry) })) ⌝ }
+    ensures { λ _. ⌜ now (history .exit) ≡ pad (length (now (history .entry)))
+        (closed mine from used (now (history .entry)) ++ mine
+        ∷ wordsOf (record { place = place; removed = now (removed .entry); added = now (added .entry) })) ⌝ }
 {
     let end = close_gap(&mut *history, used, mine, from);
     put_record(&mut *history, used, end, mine, place, removed, added);

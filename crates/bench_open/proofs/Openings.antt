@@ -91,7 +91,8 @@ module _ (kind : Kind) (arrived text history : List ℕ) where
   unfolding openOf openRead
   taken-by h q =
       rw q
-      (by (over arrived || (over text || over history)) (readingIn kind arrived .ending) (readingIn kind arrived .cells))
+      (by (over arrived || (over text || over history)) (readingIn kind arrived .ending)
+      (readingIn kind arrived .cells))
     where
       either :
           (t : Bool) (n : ℕ) (o p : page.Outcome) → taken o ≡ taken p →

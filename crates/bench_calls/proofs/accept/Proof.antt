@@ -12,9 +12,10 @@ same-length c = search needs
 
 returns : tie.Need-returns
 returns c =
+    let splice-in' = c .before .before .splice-in in
     let a = c .before .before .before .before .before .before .args in
     let p = c .before .before .before .before .before .before .pre in
-    let e = c .before .before .splice-in .ensures in
+    let e = splice-in' .ensures in
     let n = e .0 ∙ used-after (a .text .now) (a .cells .now) (a .b .length) (a .place) (a .count) (p .0) (p .1 .fits) (p .2) in (
       rw n,
       e .1

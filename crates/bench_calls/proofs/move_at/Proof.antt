@@ -42,9 +42,10 @@ part-accept-end c =
 
 accept-requires : tie.Need-accept-requires
 accept-requires c κs =
+    let change-at' = c .before .before .change-at in
     let a = c .before .before .before .before .before .args in
-    let q = c .before .before .change-at .result in
-    let m : Fits (a .b) q (a .text .now) (a .history .now) = rw (c .before .before .change-at .ensures) (c .before .before .before .before .before .pre .fits) in
+    let q = change-at' .result in
+    let m : Fits (a .b) q (a .text .now) (a .history .now) = rw (change-at' .ensures) (c .before .before .before .before .before .pre .fits) in
     let part = length-take (q .to - q .from) (drop (q .from) (a .history .now)) in
     let rest = length-drop (q .from) (a .history .now) in
     (m .place, m .filled, omega (arith, m .room, m .part, m .whole))

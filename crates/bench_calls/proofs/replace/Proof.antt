@@ -18,11 +18,13 @@ refused-requires c κs = search needs
 
 returns : tie.Need-returns
 returns c =
+    let over-limit' = c .before .before .before .over-limit in
+    let if1' = c .before .before .if1 in
     let a = c .before .before .before .before .before .before .before .before .args in
     let t : State = stateOf (a .b) (a .text0 .now) (a .text1 .now) (a .history .now) in
     rw (c .refused .ensures, c .before .too-long .ensures)
     (sym
-    (replace-long t (a .bench) (a .place) (a .count) (a .cells .now) (sym (c .before .before .before .over-limit .ensures) ∙ c .before .before .if1 .taken)))
+    (replace-long t (a .bench) (a .place) (a .count) (a .cells .now) (sym (over-limit' .ensures) ∙ if1' .taken)))
 
 judge-requires : tie.Need-judge-requires
 judge-requires c κs = search needs
@@ -37,7 +39,14 @@ enum-known-found-2 : tie.Need-enum-known-found-2
 enum-known-found-2 c = search needs
 
 replace-sound-requires : tie.Need-replace-sound-requires
-replace-sound-requires c κs = (sym (c .before .before .before .before .before .before .judge .ensures) ∙ c .before .before .before .before .found2 .given .1, sym (c .before .before .before .before .before .before .before .before .before .before .before .over-limit .ensures) ∙ c .before .before .before .before .before .before .before .before .before .before .if1 .left)
+replace-sound-requires c κs =
+    let c10 = c .before .before .before .before .before .before .before .before .before .before in
+    let c11 = c10 .before in
+    let over-limit' = c11 .over-limit in
+    let if1' = c10 .if1 in
+    let judge' = c .before .before .before .before .before .before .judge in
+    let found2' = c .before .before .before .before .found2 in
+    (sym (judge' .ensures) ∙ found2' .given .1, sym (over-limit' .ensures) ∙ if1' .left)
 
 same-length : tie.Need-same-length
 same-length c = search needs
@@ -50,12 +59,18 @@ same-length-3 c = search needs
 
 returns-2 : tie.Need-returns-2
 returns-2 c =
-    let a = c .before .before .before .before .before .before .before .before .before .before .before .before .before .before .args in
+    let c9 = c .before .before .before .before .before .before .before .before .before in
+    let c14 = c9 .before .before .before .before .before in
+    let over-limit' = c9 .over-limit in
+    let if1' = c .before .before .before .before .before .before .before .before .if1 in
+    let judge' = c .before .before .before .before .judge in
+    let found' = c .before .before .found in
+    let a = c14 .args in
     let t : State = stateOf (a .b) (a .text0 .now) (a .text1 .now) (a .history .now) in
     rw (c .refused2 .ensures)
     (sym
-    (call-unfit t (replace (a .place) (a .count) (a .cells .now)) (a .bench) (sym (c .before .before .before .before .before .before .before .before .before .over-limit .ensures) ∙ c .before .before .before .before .before .before .before .before .if1 .left)
-    (c .before .before .before .before .judge .ensures) (c .before .before .found .given .1)))
+    (call-unfit t (replace (a .place) (a .count) (a .cells .now)) (a .bench) (sym (over-limit' .ensures) ∙ if1' .left)
+    (judge' .ensures) (found' .given .1)))
 
 same-length-4 : tie.Need-same-length-4
 same-length-4 c = search needs

@@ -45,11 +45,12 @@ stays-requires-2 c κs = search needs
 
 returns-2 : tie.Need-returns-2
 returns-2 c =
+    let if1' = c .before .before .before .if1 in
     let a = c .before .before .before .before .before .before .before .before .args in
     let p = c .before .before .before .before .before .before .before .before .pre in
     rw (c .stays2 .ensures)
     (no-words (a .b) (a .mine) (a .used) (a .p) (a .place) (a .count) (a .cells .now) (a .text .now) (a .history .now)
-    (p .1 .text-filled .fits) (p .0) (omega (arith, c .before .before .before .if1 .left)) (omega (arith, c .before .if2 .taken)))
+    (p .1 .text-filled .fits) (p .0) (omega (arith, if1' .left)) (omega (arith, c .before .if2 .taken)))
 
 add-end : tie.Need-add-end
 add-end c = search needs
@@ -89,12 +90,19 @@ mark-left-requires : tie.Need-mark-left-requires
 mark-left-requires c κs = search needs
 
 add-accept : tie.Need-add-accept
-add-accept c = omega (arith, c .before .before .before .before .before .before .before .before .before .before .before .before .before .before .before .pre .1 .few, limit-small)
+add-accept c =
+    let c10 = c .before .before .before .before .before .before .before .before .before .before in
+    let c15 = c10 .before .before .before .before .before in
+    omega (arith, c15 .pre .1 .few, limit-small)
 
 accept-requires : tie.Need-accept-requires
 accept-requires c κs =
-    let p = c .before .before .before .before .before .before .before .before .before .before .before .before .before .before .before .before .pre in
-    (p .0, p .1 .text-filled, omega (arith, c .before .before .before .before .before .before .before .before .before .before .before .if1 .left))
+    let c10 = c .before .before .before .before .before .before .before .before .before .before in
+    let c11 = c10 .before in
+    let c16 = c11 .before .before .before .before .before in
+    let if1' = c11 .if1 in
+    let p = c16 .pre in
+    (p .0, p .1 .text-filled, omega (arith, if1' .left))
 
 same-length : tie.Need-same-length
 same-length c = search needs
@@ -104,13 +112,22 @@ same-length-2 c = search needs
 
 returns-3 : tie.Need-returns-3
 returns-3 c =
-    let a = c .before .before .before .before .before .before .before .before .before .before .before .before .before .before .before .before .before .before .before .args in
-    let p = c .before .before .before .before .before .before .before .before .before .before .before .before .before .before .before .before .before .before .before .pre in
-    let e = c .before .before .accept in
-    let h = c .before .before .before .before .before .before .before .before .record-step in
+    let c10 = c .before .before .before .before .before .before .before .before .before .before in
+    let c12 = c10 .before .before in
+    let c14 = c12 .before .before in
+    let c19 = c14 .before .before .before .before .before in
+    let if1' = c14 .if1 in
+    let if2' = c12 .if2 in
+    let record-step' = c .before .before .before .before .before .before .before .before .record-step in
+    let mark-left' = c .before .before .before .before .before .mark-left in
+    let accept' = c .before .before .accept in
+    let a = c19 .args in
+    let p = c19 .pre in
+    let e = accept' in
+    let h = record-step' in
     replaced-is (a .b) (a .mine) (a .used) (a .p) (a .place) (a .count) (a .cells .now) (a .text .now) (a .history .now)
-    (p .1 .text-filled .fits) (p .0) (e .result) _ _ (omega (arith, c .before .before .before .before .before .before .before .before .before .before .before .before .before .before .if1 .left)) (omega (arith, c .before .before .before .before .before .before .before .before .before .before .before .before .if2 .left)) _
-    (c .before .before .before .before .before .mark-left .ensures) (e .ensures .0) (e .ensures .1) (h .ensures)
+    (p .1 .text-filled .fits) (p .0) (e .result) _ _ (omega (arith, if1' .left)) (omega (arith, if2' .left)) _
+    (mark-left' .ensures) (e .ensures .0) (e .ensures .1) (h .ensures)
 
 pub replace-fitting-spec : {M : Type 1} → statement M
 replace-fitting-spec =

@@ -20,10 +20,11 @@ stays-requires-2 c κs = search needs
 
 returns-2 : tie.Need-returns-2
 returns-2 c =
+    let if1' = c .before .before .if1 in
     let a = c .before .before .before .before .before .before .args in
     rw (c .stays2 .ensures)
     (beyond (a .b) (a .mine) (a .used) (a .p) (a .place) (a .count) (a .cells .now) (a .text .now) (a .history .now)
-    (c .before .before .before .before .before .before .pre .0 .text-filled .fits) (omega (arith, c .before .before .if1 .left, c .before .if2 .taken)))
+    (c .before .before .before .before .before .before .pre .0 .text-filled .fits) (omega (arith, if1' .left, c .before .if2 .taken)))
 
 first-unwritable-requires : tie.Need-first-unwritable-requires
 first-unwritable-requires c κs = search needs
@@ -33,15 +34,22 @@ stays-requires-3 c κs = search needs
 
 returns-3 : tie.Need-returns-3
 returns-3 c =
+    let if1' = c .before .before .before .before .if1 in
+    let if2' = c .before .before .before .if2 in
+    let first-unwritable' = c .before .before .first-unwritable in
     let a = c .before .before .before .before .before .before .before .before .args in
-    let f = c .before .before .first-unwritable in
+    let f = first-unwritable' in
     rw (c .stays3 .ensures)
     (unwritable (a .b) (a .mine) (a .used) (a .p) (a .place) (a .count) (a .cells .now) (a .text .now) (a .history .now)
-    (c .before .before .before .before .before .before .before .before .pre .0 .text-filled .fits) (omega (arith, c .before .before .before .before .if1 .left, c .before .before .before .if2 .left)) (f .result) (f .ensures)
+    (c .before .before .before .before .before .before .before .before .pre .0 .text-filled .fits) (omega (arith, if1' .left, if2' .left)) (f .result) (f .ensures)
     (omega (arith, c .before .if3 .taken)))
 
 replace-fitting-requires : tie.Need-replace-fitting-requires
-replace-fitting-requires c κs = (omega (arith, c .before .before .before .before .before .if1 .left, c .before .before .before .before .if2 .left), c .before .before .before .before .before .before .before .before .before .pre .0, c .before .before .before .before .before .before .before .before .before .pre .1)
+replace-fitting-requires c κs =
+    let c9 = c .before .before .before .before .before .before .before .before .before in
+    let if1' = c .before .before .before .before .before .if1 in
+    let if2' = c .before .before .before .before .if2 in
+    (omega (arith, if1' .left, if2' .left), c9 .pre .0, c9 .pre .1)
 
 same-length : tie.Need-same-length
 same-length c = search needs
@@ -51,12 +59,20 @@ same-length-2 c = search needs
 
 returns-4 : tie.Need-returns-4
 returns-4 c =
-    let a = c .before .before .before .before .before .before .before .before .before .before .before .before .before .before .args in
-    let f = c .before .before .before .before .before .before .before .before .first-unwritable in
-    c .before .before .before .before .replace-fitting .ensures
+    let c9 = c .before .before .before .before .before .before .before .before .before in
+    let c10 = c9 .before in
+    let c14 = c10 .before .before .before .before in
+    let if1' = c10 .if1 in
+    let if2' = c9 .if2 in
+    let first-unwritable' = c .before .before .before .before .before .before .before .before .first-unwritable in
+    let if3' = c .before .before .before .before .before .before .before .if3 in
+    let replace-fitting' = c .before .before .before .before .replace-fitting in
+    let a = c14 .args in
+    let f = first-unwritable' in
+    replace-fitting' .ensures
     ∙ writable (a .b) (a .mine) (a .used) (a .p) (a .place) (a .count) (a .cells .now) (a .text .now) (a .history .now)
-    (c .before .before .before .before .before .before .before .before .before .before .before .before .before .before .pre .0 .text-filled .fits) (omega (arith, c .before .before .before .before .before .before .before .before .before .before .if1 .left, c .before .before .before .before .before .before .before .before .before .if2 .left)) (f .result) (f .ensures)
-    (omega (arith, c .before .before .before .before .before .before .before .if3 .left))
+    (c14 .pre .0 .text-filled .fits) (omega (arith, if1' .left, if2' .left)) (f .result) (f .ensures)
+    (omega (arith, if3' .left))
 
 pub replace-on-spec : {M : Type 1} → statement M
 replace-on-spec =

@@ -38,27 +38,43 @@ enum-told c = search needs
 
 save-sound-requires : tie.Need-save-sound-requires
 save-sound-requires c κs =
-    let a = c .before .before .before .before .before .before .before .before .before .before .before .args in
-    texts-fit (a .b) (a .text0 .now) (a .text1 .now) (a .history .now) (a .bench) (c .before .before .before .judge .ensures) (c .before .enum-told .given .1)
+    let c10 = c .before .before .before .before .before .before .before .before .before .before in
+    let c11 = c10 .before in
+    let judge' = c .before .before .before .judge in
+    let a = c11 .args in
+    texts-fit (a .b) (a .text0 .now) (a .text1 .now) (a .history .now) (a .bench) (judge' .ensures) (c .before .enum-told .given .1)
 
 returns-2 : tie.Need-returns-2
 returns-2 c =
-    let a = c .before .before .before .before .before .before .before .before .before .before .before .before .args in
+    let c10 = c .before .before .before .before .before .before .before .before .before .before in
+    let c12 = c10 .before .before in
+    let over-limit' = c .before .before .before .before .before .before .over-limit in
+    let if1' = c .before .before .before .before .before .if1 in
+    let judge' = c .before .before .before .before .judge in
+    let found' = c .before .before .found in
+    let a = c12 .args in
     let t : State = stateOf (a .b) (a .text0 .now) (a .text1 .now) (a .history .now) in
     rw (c .refused2 .ensures)
     (sym
-    (call-unfit t (save (a .arrived .now) (a .out .now)) (a .bench) (sym (c .before .before .before .before .before .before .over-limit .ensures) ∙ c .before .before .before .before .before .if1 .left)
-    (c .before .before .before .before .judge .ensures) (c .before .before .found .given .1)))
+    (call-unfit t (save (a .arrived .now) (a .out .now)) (a .bench) (sym (over-limit' .ensures) ∙ if1' .left)
+    (judge' .ensures) (found' .given .1)))
 
 same-length : tie.Need-same-length
 same-length c = search needs
 
 returns-3 : tie.Need-returns-3
 returns-3 c =
-    let a = c .before .before .before .before .before .before .before .before .before .before .before .before .before .before .args in
-    let s = c .before .before .save-sound in
-    saved-given (a .b) (a .text0 .now) (a .text1 .now) (a .history .now) (a .bench) (c .before .before .before .before .before .before .judge .ensures) (c .before .before .before .before .enum-told .given .1)
-    (a .arrived .now) (a .out .now) _ (s .result) (sym (c .before .before .before .before .before .before .before .before .over-limit .ensures) ∙ c .before .before .before .before .before .before .before .if1 .left) (s .ensures .0) (s .ensures .1)
+    let c10 = c .before .before .before .before .before .before .before .before .before .before in
+    let c14 = c10 .before .before .before .before in
+    let over-limit' = c .before .before .before .before .before .before .before .before .over-limit in
+    let if1' = c .before .before .before .before .before .before .before .if1 in
+    let judge' = c .before .before .before .before .before .before .judge in
+    let enum-told' = c .before .before .before .before .enum-told in
+    let save-sound' = c .before .before .save-sound in
+    let a = c14 .args in
+    let s = save-sound' in
+    saved-given (a .b) (a .text0 .now) (a .text1 .now) (a .history .now) (a .bench) (judge' .ensures) (enum-told' .given .1)
+    (a .arrived .now) (a .out .now) _ (s .result) (sym (over-limit' .ensures) ∙ if1' .left) (s .ensures .0) (s .ensures .1)
 
 pub save-spec : {M : Type 1} → statement M
 save-spec =

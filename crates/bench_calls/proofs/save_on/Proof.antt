@@ -15,11 +15,14 @@ same-length c = search needs
 
 returns : tie.Need-returns
 returns c =
-    let a = c .before .before .before .before .before .before .before .before .before .args in
-    let s = c .before .before .before .save-sound in (
-      rw (s .ensures .0, c .before .before .before .before .before .page-of .ensures) (saved-bench (a .b) (s .result .answer)),
+    let c9 = c .before .before .before .before .before .before .before .before .before in
+    let page-of' = c .before .before .before .before .before .page-of in
+    let save-sound' = c .before .before .before .save-sound in
+    let a = c9 .args in
+    let s = save-sound' in (
+      rw (s .ensures .0, page-of' .ensures) (saved-bench (a .b) (s .result .answer)),
       refl,
-      rw (c .before .before .before .before .before .page-of .ensures) at (s .ensures .1),
+      rw (page-of' .ensures) at (s .ensures .1),
     )
 
 pub save-on-spec : {M : Type 1} → statement M

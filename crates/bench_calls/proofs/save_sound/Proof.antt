@@ -10,8 +10,9 @@ bench-at-requires c κs = search needs
 
 slice-aggregate-save-on : tie.Need-slice-aggregate-save-on
 slice-aggregate-save-on c =
+    let bench-at' = c .before .before .bench-at in
     let a = c .before .before .before .before .before .before .before .args in
-    let x = c .before .before .bench-at in
+    let x = bench-at' in
     sym
     (length-take-le (x .result .length) (a .text0 .now)
     (first-fits (a .b) (a .bench) (x .result) (a .text0 .now) (x .ensures) (c .before .if1 .taken) (c .before .before .before .before .before .before .before .pre .0)))
@@ -27,17 +28,23 @@ same-length c = search needs
 
 returns : tie.Need-returns
 returns c =
-    let a = c .before .before .before .before .before .before .before .before .before .before .before .before .args in
-    let x = c .before .before .before .before .before .before .before .bench-at in
-    let s = c .before .before .before .save-on in
+    let c10 = c .before .before .before .before .before .before .before .before .before .before in
+    let c12 = c10 .before .before in
+    let bench-at' = c .before .before .before .before .before .before .before .bench-at in
+    let if1' = c .before .before .before .before .before .before .if1 in
+    let save-on' = c .before .before .before .save-on in
+    let a = c12 .args in
+    let x = bench-at' in
+    let s = save-on' in
     rw (c .first-back .ensures)
     (first-saved (a .b) (a .bench) (a .text0 .now) (a .text1 .now) (a .arrived .now) (a .out .now) _ (x .result) (s .result)
-    (x .ensures) (s .ensures .0) (s .ensures .1) (c .before .before .before .before .before .before .if1 .taken) (s .ensures .2))
+    (x .ensures) (s .ensures .0) (s .ensures .1) (if1' .taken) (s .ensures .2))
 
 slice-aggregate-save-on-2 : tie.Need-slice-aggregate-save-on-2
 slice-aggregate-save-on-2 c =
+    let bench-at' = c .before .before .bench-at in
     let a = c .before .before .before .before .before .before .before .args in
-    let x = c .before .before .bench-at in
+    let x = bench-at' in
     sym
     (length-take-le (x .result .length) (a .text1 .now)
     (second-fits (a .b) (a .bench) (x .result) (a .text1 .now) (x .ensures) (c .before .if1 .left) (c .before .before .before .before .before .before .before .pre .1)))
@@ -53,12 +60,17 @@ same-length-2 c = search needs
 
 returns-2 : tie.Need-returns-2
 returns-2 c =
-    let a = c .before .before .before .before .before .before .before .before .before .before .before .before .args in
-    let x = c .before .before .before .before .before .before .before .bench-at in
-    let s = c .before .before .before .save-on2 in
+    let c10 = c .before .before .before .before .before .before .before .before .before .before in
+    let c12 = c10 .before .before in
+    let bench-at' = c .before .before .before .before .before .before .before .bench-at in
+    let if1' = c .before .before .before .before .before .before .if1 in
+    let save-on2' = c .before .before .before .save-on2 in
+    let a = c12 .args in
+    let x = bench-at' in
+    let s = save-on2' in
     rw (c .second-back .ensures)
     (second-saved (a .b) (a .bench) (a .text0 .now) (a .text1 .now) (a .arrived .now) (a .out .now) _ (x .result) (s .result)
-    (x .ensures) (s .ensures .0) (s .ensures .1) (c .before .before .before .before .before .before .if1 .left) (s .ensures .2))
+    (x .ensures) (s .ensures .0) (s .ensures .1) (if1' .left) (s .ensures .2))
 
 pub save-sound-spec : {M : Type 1} → statement M
 save-sound-spec =

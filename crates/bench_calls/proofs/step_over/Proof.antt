@@ -18,7 +18,10 @@ enum-known-found-2 : tie.Need-enum-known-found-2
 enum-known-found-2 c = search needs
 
 step-sound-requires : tie.Need-step-sound-requires
-step-sound-requires c κs = sym (c .before .before .before .before .before .judge .ensures) ∙ c .before .before .before .found2 .given .1
+step-sound-requires c κs =
+    let judge' = c .before .before .before .before .before .judge in
+    let found2' = c .before .before .before .found2 in
+    sym (judge' .ensures) ∙ found2' .given .1
 
 same-length : tie.Need-same-length
 same-length c = search needs
@@ -28,9 +31,12 @@ same-length-2 c = search needs
 
 returns : tie.Need-returns
 returns c =
-    let a = c .before .before .before .before .before .before .before .before .before .before .args in
+    let c10 = c .before .before .before .before .before .before .before .before .before .before in
+    let judge' = c .before .before .before .before .judge in
+    let found' = c .before .before .found in
+    let a = c10 .args in
     let t : State = stateOf (a .b) (a .text0 .now) (a .text1 .now) (a .history .now) in
-    rw (c .refused .ensures) (sym (step-unfit t (a .bench) (a .forward) (c .before .before .before .before .judge .ensures) (c .before .before .found .given .1)))
+    rw (c .refused .ensures) (sym (step-unfit t (a .bench) (a .forward) (judge' .ensures) (found' .given .1)))
 
 same-length-3 : tie.Need-same-length-3
 same-length-3 c = search needs

@@ -9,9 +9,10 @@ use Rattle.bench_calls.proofs.step_sound.Tie as tie
 
 step-on-requires : tie.Need-step-on-requires
 step-on-requires c κs =
+    let if1' = c .before .before .if1 in
     let a = c .before .before .before .before .before .before .args in
     let t : State = stateOf (a .b) (a .text0 .now) (a .text1 .now) (a .history .now) in
-    first-steppable t (a .bench) (a .p) (c .before .before .before .before .before .before .pre) (a .forward) (c .before .before .if1 .taken)
+    first-steppable t (a .bench) (a .p) (c .before .before .before .before .before .before .pre) (a .forward) (if1' .taken)
 
 first-back-requires : tie.Need-first-back-requires
 first-back-requires c κs = search needs
@@ -21,17 +22,21 @@ same-length c = search needs
 
 returns : tie.Need-returns
 returns c =
-    let a = c .before .before .before .before .before .before .before .before .before .before .args in
+    let c10 = c .before .before .before .before .before .before .before .before .before .before in
+    let if1' = c .before .before .before .before .before .before .if1 in
+    let step-on' = c .before .before .before .step-on in
+    let a = c10 .args in
     let t : State = stateOf (a .b) (a .text0 .now) (a .text1 .now) (a .history .now) in
     rw (c .first-back .ensures)
-    (ap (placed t first) (c .before .before .before .step-on .ensures)
-    ∙ sym (first-stepped t (a .bench) (a .p) (c .before .before .before .before .before .before .before .before .before .before .pre) (a .forward) (c .before .before .before .before .before .before .if1 .taken)))
+    (ap (placed t first) (step-on' .ensures)
+    ∙ sym (first-stepped t (a .bench) (a .p) (c10 .pre) (a .forward) (if1' .taken)))
 
 step-on-requires-2 : tie.Need-step-on-requires-2
 step-on-requires-2 c κs =
+    let if1' = c .before .before .if1 in
     let a = c .before .before .before .before .before .before .args in
     let t : State = stateOf (a .b) (a .text0 .now) (a .text1 .now) (a .history .now) in
-    second-steppable t (a .bench) (a .p) (c .before .before .before .before .before .before .pre) (a .forward) (c .before .before .if1 .left)
+    second-steppable t (a .bench) (a .p) (c .before .before .before .before .before .before .pre) (a .forward) (if1' .left)
 
 second-back-requires : tie.Need-second-back-requires
 second-back-requires c κs = search needs
@@ -41,11 +46,14 @@ same-length-2 c = search needs
 
 returns-2 : tie.Need-returns-2
 returns-2 c =
-    let a = c .before .before .before .before .before .before .before .before .before .before .args in
+    let c10 = c .before .before .before .before .before .before .before .before .before .before in
+    let if1' = c .before .before .before .before .before .before .if1 in
+    let step-on2' = c .before .before .before .step-on2 in
+    let a = c10 .args in
     let t : State = stateOf (a .b) (a .text0 .now) (a .text1 .now) (a .history .now) in
     rw (c .second-back .ensures)
-    (ap (placed t second) (c .before .before .before .step-on2 .ensures)
-    ∙ sym (second-stepped t (a .bench) (a .p) (c .before .before .before .before .before .before .before .before .before .before .pre) (a .forward) (c .before .before .before .before .before .before .if1 .left)))
+    (ap (placed t second) (step-on2' .ensures)
+    ∙ sym (second-stepped t (a .bench) (a .p) (c10 .pre) (a .forward) (if1' .left)))
 
 pub step-sound-spec : {M : Type 1} → statement M
 step-sound-spec =

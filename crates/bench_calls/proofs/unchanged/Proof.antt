@@ -32,11 +32,15 @@ returns c =
 
 returns-2 : tie.Need-returns-2
 returns-2 c =
-    let a = c .before .before .before .before .before .before .before .before .before .args in
-    rw (c .told .ensures, c .before .page-of .ensures, c .before .before .bench-at .ensures)
+    let c9 = c .before .before .before .before .before .before .before .before .before in
+    let judge' = c .before .before .before .before .before .judge in
+    let enum-told' = c .before .before .before .enum-told in
+    let bench-at' = c .before .before .bench-at in
+    let a = c9 .args in
+    rw (c .told .ensures, c .before .page-of .ensures, bench-at' .ensures)
     (sym
-    (asked-given (a .b) (a .text0 .now) (a .text1 .now) (a .history .now) (a .bench) (c .before .before .before .before .before .judge .ensures)
-    (c .before .before .before .enum-told .given .1)))
+    (asked-given (a .b) (a .text0 .now) (a .text1 .now) (a .history .now) (a .bench) (judge' .ensures)
+    (enum-told' .given .1)))
 
 pub unchanged-spec : {M : Type 1} → statement M
 unchanged-spec =

@@ -20,15 +20,20 @@ sub-move-at : tie.Need-sub-move-at
 sub-move-at c = search needs
 
 move-at-requires : tie.Need-move-at-requires
-move-at-requires c κs = c .before .before .before .before .before .before .before .pre (omega (arith, c .before .before .before .if1 .left))
+move-at-requires c κs =
+    let if1' = c .before .before .before .if1 in
+    c .before .before .before .before .before .before .before .pre (omega (arith, if1' .left))
 
 same-length : tie.Need-same-length
 same-length c = search needs
 
 returns-2 : tie.Need-returns-2
 returns-2 c =
-    let a = c .before .before .before .before .before .before .before .before .before .before .args in
-    c .before .before .move-at .ensures ∙ undo-some (a .b) (a .used) (a .p) (a .text .now) (a .history .now) (c .before .before .before .before .before .before .if1 .left)
+    let c10 = c .before .before .before .before .before .before .before .before .before .before in
+    let if1' = c .before .before .before .before .before .before .if1 in
+    let move-at' = c .before .before .move-at in
+    let a = c10 .args in
+    move-at' .ensures ∙ undo-some (a .b) (a .used) (a .p) (a .text .now) (a .history .now) (if1' .left)
 
 pub undo-last-spec : {M : Type 1} → statement M
 undo-last-spec =

@@ -19,19 +19,24 @@ place-requires c κs = search needs
 
 returns-2 : tie.Need-returns-2
 returns-2 c =
+    let number' = c .before .before .before .number in
+    let if1' = c .before .before .if1 in
     let a = c .before .before .before .before .args in
     rw (
-      eq-eqb (inNumbers (a .answer) .number) 9 (sym (c .before .before .before .number .ensures) ∙ c .before .before .if1 .left),
+      eq-eqb (inNumbers (a .answer) .number) 9 (sym (number' .ensures) ∙ if1' .left),
       lt-ltb (a .room) (inNumbers (a .answer) .place) (omega (arith, c .before .place .ensures, c .if2 .taken)),
     )
 
 returns-3 : tie.Need-returns-3
 returns-3 c =
+    let number' = c .before .before .before .number in
+    let if1' = c .before .before .if1 in
+    let place' = c .before .place in
     let a = c .before .before .before .before .args in
     rw (
-      eq-eqb (inNumbers (a .answer) .number) 9 (sym (c .before .before .before .number .ensures) ∙ c .before .before .if1 .left),
-      le-ltb (a .room) (inNumbers (a .answer) .place) (omega (arith, c .before .place .ensures, c .if2 .left)),
-      c .before .place .ensures,
+      eq-eqb (inNumbers (a .answer) .number) 9 (sym (number' .ensures) ∙ if1' .left),
+      le-ltb (a .room) (inNumbers (a .answer) .place) (omega (arith, place' .ensures, c .if2 .left)),
+      place' .ensures,
     )
 
 pub in-room-spec : {M : Type 1} → statement M

@@ -52,25 +52,36 @@ same-length-5 c = search needs
 
 returns-2 : tie.Need-returns-2
 returns-2 c =
-    let a = c .before .before .before .before .before .before .before .before .before .before .before .before .before .before .before .before .args in
-    let f = c .before .before .before .before .before .before .before .before .would-open in
-    let g = c .before .before .before .would-open2 in
+    let c10 = c .before .before .before .before .before .before .before .before .before .before in
+    let c16 = c10 .before .before .before .before .before .before in
+    let would-open' = c .before .before .before .before .before .before .before .before .would-open in
+    let enum-told' = c .before .before .before .before .before .before .enum-told in
+    let would-open2' = c .before .before .before .would-open2 in
+    let a = c16 .args in
+    let f = would-open' in
+    let g = would-open2' in
     rw (c .not-opened2 .ensures)
     (refused-second (a .kind0) (a .kind1) (a .arrived0 .now) (a .arrived1 .now) (a .text0 .now) (a .text1 .now)
     (a .history .now) (g .result) _ _
     (told-taken (a .kind0) (a .arrived0 .now) (a .text0 .now) (a .history .now) (f .result) _ (f .ensures)
-    (c .before .before .before .before .before .before .enum-told .given .1))
+    (enum-told' .given .1))
     (g .ensures) (c .before .enum-told4 .given .1))
 
 open-both-requires : tie.Need-open-both-requires
 open-both-requires c κs =
-    let a = c .before .before .before .before .before .before .before .before .before .before .before .before .before .before .before .before .before .before .args in
-    let f = c .before .before .before .before .before .before .before .before .before .before .would-open in
-    let g = c .before .before .before .before .before .would-open2 in (
+    let c10 = c .before .before .before .before .before .before .before .before .before .before in
+    let c18 = c10 .before .before .before .before .before .before .before .before in
+    let would-open' = c10 .would-open in
+    let enum-told' = c .before .before .before .before .before .before .before .before .enum-told in
+    let would-open2' = c .before .before .before .before .before .would-open2 in
+    let enum-told3' = c .before .before .before .enum-told3 in
+    let a = c18 .args in
+    let f = would-open' in
+    let g = would-open2' in (
       told-taken (a .kind0) (a .arrived0 .now) (a .text0 .now) (a .history .now) (f .result) _ (f .ensures)
-          (c .before .before .before .before .before .before .before .before .enum-told .given .1),
+          (enum-told' .given .1),
       told-taken (a .kind1) (a .arrived1 .now) (a .text1 .now) (a .history .now) (g .result) _ (g .ensures)
-          (c .before .before .before .enum-told3 .given .1),
+          (enum-told3' .given .1),
     )
 
 same-length-6 : tie.Need-same-length-6

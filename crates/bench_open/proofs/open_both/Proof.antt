@@ -11,11 +11,16 @@ open-requires-2 c κs = search needs
 
 opened-requires : tie.Need-opened-requires
 opened-requires c κs =
-    let a = c .before .before .before .before .before .before .before .before .before .before .before .before .before .before .before .before .before .before .before .before .before .args in
-    let p = c .before .before .before .before .before .before .before .before .before .before .before .before .before .«open» in
-    let q = c .before .before .before .before .before .before .open2 in
+    let c10 = c .before .before .before .before .before .before .before .before .before .before in
+    let c13 = c10 .before .before .before in
+    let c21 = c13 .before .before .before .before .before .before .before .before in
+    let open' = c13 .«open» in
+    let open2' = c .before .before .before .before .before .before .open2 in
+    let a = c21 .args in
+    let p = open' in
+    let q = open2' in
     lengths-small (a .kind0) (a .kind1) (a .arrived0 .now) (a .arrived1 .now) (a .text0 .now) (a .text1 .now)
-    (a .history .now) (c .before .before .before .before .before .before .before .before .before .before .before .before .before .before .before .before .before .before .before .before .before .pre .0) (c .before .before .before .before .before .before .before .before .before .before .before .before .before .before .before .before .before .before .before .before .before .pre .1) (p .result) (q .result) _ _ _ _ (p .ensures) (q .ensures)
+    (a .history .now) (c21 .pre .0) (c21 .pre .1) (p .result) (q .result) _ _ _ _ (p .ensures) (q .ensures)
 
 same-length : tie.Need-same-length
 same-length c = search needs
@@ -28,12 +33,17 @@ same-length-3 c = search needs
 
 returns : tie.Need-returns
 returns c =
-    let a = c .before .before .before .before .before .before .before .before .before .before .before .before .before .before .before .before .before .before .before .before .before .before .args in
-    let p = c .before .before .before .before .before .before .before .before .before .before .before .before .before .before .«open» in
-    let q = c .before .before .before .before .before .before .before .open2 in
+    let c10 = c .before .before .before .before .before .before .before .before .before .before in
+    let c14 = c10 .before .before .before .before in
+    let c22 = c14 .before .before .before .before .before .before .before .before in
+    let open' = c14 .«open» in
+    let open2' = c .before .before .before .before .before .before .before .open2 in
+    let a = c22 .args in
+    let p = open' in
+    let q = open2' in
     rw (c .opened .ensures)
     (both-opened (a .kind0) (a .kind1) (a .arrived0 .now) (a .arrived1 .now) (a .text0 .now) (a .text1 .now)
-    (a .history .now) (c .before .before .before .before .before .before .before .before .before .before .before .before .before .before .before .before .before .before .before .before .before .before .pre .0) (c .before .before .before .before .before .before .before .before .before .before .before .before .before .before .before .before .before .before .before .before .before .before .pre .1) (p .result) (q .result) _ _ _ _ (p .ensures) (q .ensures))
+    (a .history .now) (c22 .pre .0) (c22 .pre .1) (p .result) (q .result) _ _ _ _ (p .ensures) (q .ensures))
 
 pub open-both-spec : {M : Type 1} → statement M
 open-both-spec =

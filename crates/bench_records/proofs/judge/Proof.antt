@@ -19,9 +19,10 @@ too-long-requires c κs = search needs
 
 returns : tie.Need-returns
 returns c =
+    let over-limit' = c .before .before .over-limit in
     let a = c .before .before .before .before .before .before .args in
     let t : State = stateOf (a .b) (a .text0 .now) (a .text1 .now) (a .history .now) in
-    long-first t (a .bench) (c .too-long .result) (c .too-long .ensures) (sym (c .before .before .over-limit .ensures) ∙ c .before .if1 .taken)
+    long-first t (a .bench) (c .too-long .result) (c .too-long .ensures) (sym (over-limit' .ensures) ∙ c .before .if1 .taken)
 
 over-limit-requires-2 : tie.Need-over-limit-requires-2
 over-limit-requires-2 c κs = search needs
@@ -31,10 +32,13 @@ too-long-requires-2 c κs = search needs
 
 returns-2 : tie.Need-returns-2
 returns-2 c =
+    let over-limit' = c .before .before .before .before .over-limit in
+    let if1' = c .before .before .before .if1 in
+    let over-limit2' = c .before .before .over-limit2 in
     let a = c .before .before .before .before .before .before .before .before .args in
     let t : State = stateOf (a .b) (a .text0 .now) (a .text1 .now) (a .history .now) in
-    long-second t (a .bench) (c .too-long2 .result) (c .too-long2 .ensures) (sym (c .before .before .before .before .over-limit .ensures) ∙ c .before .before .before .if1 .left)
-    (sym (c .before .before .over-limit2 .ensures) ∙ c .before .if2 .taken)
+    long-second t (a .bench) (c .too-long2 .result) (c .too-long2 .ensures) (sym (over-limit' .ensures) ∙ if1' .left)
+    (sym (over-limit2' .ensures) ∙ c .before .if2 .taken)
 
 over-limit-requires-3 : tie.Need-over-limit-requires-3
 over-limit-requires-3 c κs = search needs
@@ -44,24 +48,42 @@ too-long-requires-3 c κs = search needs
 
 returns-3 : tie.Need-returns-3
 returns-3 c =
-    let a = c .before .before .before .before .before .before .before .before .before .before .args in
+    let c10 = c .before .before .before .before .before .before .before .before .before .before in
+    let over-limit' = c .before .before .before .before .before .before .over-limit in
+    let if1' = c .before .before .before .before .before .if1 in
+    let over-limit2' = c .before .before .before .before .over-limit2 in
+    let if2' = c .before .before .before .if2 in
+    let over-limit3' = c .before .before .over-limit3 in
+    let a = c10 .args in
     let t : State = stateOf (a .b) (a .text0 .now) (a .text1 .now) (a .history .now) in
-    long-history t (a .bench) (c .too-long3 .result) (c .too-long3 .ensures) (sym (c .before .before .before .before .before .before .over-limit .ensures) ∙ c .before .before .before .before .before .if1 .left)
-    (sym (c .before .before .before .before .over-limit2 .ensures) ∙ c .before .before .before .if2 .left) (sym (c .before .before .over-limit3 .ensures) ∙ c .before .if3 .taken)
+    long-history t (a .bench) (c .too-long3 .result) (c .too-long3 .ensures) (sym (over-limit' .ensures) ∙ if1' .left)
+    (sym (over-limit2' .ensures) ∙ if2' .left) (sym (over-limit3' .ensures) ∙ c .before .if3 .taken)
 
 returns-4 : tie.Need-returns-4
 returns-4 c =
-    let a = c .before .before .before .before .before .before .before .before .before .before .args in
+    let c10 = c .before .before .before .before .before .before .before .before .before .before in
+    let over-limit' = c .before .before .before .before .before .before .over-limit in
+    let if1' = c .before .before .before .before .before .if1 in
+    let over-limit2' = c .before .before .before .before .over-limit2 in
+    let if2' = c .before .before .before .if2 in
+    let over-limit3' = c .before .before .over-limit3 in
+    let a = c10 .args in
     let t : State = stateOf (a .b) (a .text0 .now) (a .text1 .now) (a .history .now) in
-    nobody t (a .bench) (sym (c .before .before .before .before .before .before .over-limit .ensures) ∙ c .before .before .before .before .before .if1 .left) (sym (c .before .before .before .before .over-limit2 .ensures) ∙ c .before .before .before .if2 .left)
-    (sym (c .before .before .over-limit3 .ensures) ∙ c .before .if3 .left) (c .if4 .taken)
+    nobody t (a .bench) (sym (over-limit' .ensures) ∙ if1' .left) (sym (over-limit2' .ensures) ∙ if2' .left)
+    (sym (over-limit3' .ensures) ∙ c .before .if3 .left) (c .if4 .taken)
 
 survey-requires : tie.Need-survey-requires
 survey-requires c κs =
-    let a = c .before .before .before .before .before .before .before .before .before .before .args in (
-      ltb-false limit (length (a .text0 .now)) (sym (c .before .before .before .before .before .before .over-limit .ensures) ∙ c .before .before .before .before .before .if1 .left),
-      ltb-false limit (length (a .text1 .now)) (sym (c .before .before .before .before .over-limit2 .ensures) ∙ c .before .before .before .if2 .left),
-      ltb-false limit (length (a .history .now)) (sym (c .before .before .over-limit3 .ensures) ∙ c .before .if3 .left),
+    let c10 = c .before .before .before .before .before .before .before .before .before .before in
+    let over-limit' = c .before .before .before .before .before .before .over-limit in
+    let if1' = c .before .before .before .before .before .if1 in
+    let over-limit2' = c .before .before .before .before .over-limit2 in
+    let if2' = c .before .before .before .if2 in
+    let over-limit3' = c .before .before .over-limit3 in
+    let a = c10 .args in (
+      ltb-false limit (length (a .text0 .now)) (sym (over-limit' .ensures) ∙ if1' .left),
+      ltb-false limit (length (a .text1 .now)) (sym (over-limit2' .ensures) ∙ if2' .left),
+      ltb-false limit (length (a .history .now)) (sym (over-limit3' .ensures) ∙ c .before .if3 .left),
       omega (arith, c .if4 .left),
     )
 
@@ -70,11 +92,20 @@ sound-by-requires c κs = search needs
 
 returns-5 : tie.Need-returns-5
 returns-5 c =
-    let a = c .before .before .before .before .before .before .before .before .before .before .before .before .args in
+    let c10 = c .before .before .before .before .before .before .before .before .before .before in
+    let c12 = c10 .before .before in
+    let over-limit' = c .before .before .before .before .before .before .before .before .over-limit in
+    let if1' = c .before .before .before .before .before .before .before .if1 in
+    let over-limit2' = c .before .before .before .before .before .before .over-limit2 in
+    let if2' = c .before .before .before .before .before .if2 in
+    let over-limit3' = c .before .before .before .before .over-limit3 in
+    let if3' = c .before .before .before .if3 in
+    let if4' = c .before .before .if4 in
+    let a = c12 .args in
     let t : State = stateOf (a .b) (a .text0 .now) (a .text1 .now) (a .history .now) in
     c .sound-by .ensures ∙ ap soundBy (c .before .survey .ensures)
-    ∙ named t (a .bench) (sym (c .before .before .before .before .before .before .before .before .over-limit .ensures) ∙ c .before .before .before .before .before .before .before .if1 .left) (sym (c .before .before .before .before .before .before .over-limit2 .ensures) ∙ c .before .before .before .before .before .if2 .left)
-    (sym (c .before .before .before .before .over-limit3 .ensures) ∙ c .before .before .before .if3 .left) (omega (arith, c .before .before .if4 .left))
+    ∙ named t (a .bench) (sym (over-limit' .ensures) ∙ if1' .left) (sym (over-limit2' .ensures) ∙ if2' .left)
+    (sym (over-limit3' .ensures) ∙ if3' .left) (omega (arith, if4' .left))
 
 pub judge-spec : {M : Type 1} → statement M
 judge-spec =

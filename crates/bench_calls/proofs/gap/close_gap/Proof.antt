@@ -20,41 +20,54 @@ loop-holds c =
 
 size-at-requires : tie.Need-size-at-requires Inv-loop μ-loop
 size-at-requires c κs =
+    let loop' = c .before .before .loop in
     let a = c .before .before .before .before .args in
-    let l = c .before .before .loop in
+    let l = loop' in
     let f = turn-fits (a .mine) (a .from) (a .used) (a .history .now) (c .before .before .before .before .pre .1) (c .before .before .before .before .pre .3) (l .inv) (omega arith) _ refl in
     omega (arith, f, l .inv .long, c .before .before .before .before .pre .1)
 
 keep-other-requires : tie.Need-keep-other-requires Inv-loop μ-loop
 keep-other-requires c κs =
+    let loop' = c .before .before .before .before .loop in
+    let size-at' = c .before .size-at in
     let a = c .before .before .before .before .before .before .args in
-    let l = c .before .before .before .before .loop in
+    let l = loop' in
     let f = turn-fits (a .mine) (a .from) (a .used) (a .history .now) (c .before .before .before .before .before .before .pre .1) (c .before .before .before .before .before .before .pre .3) (l .inv) (omega arith)
-    (c .before .size-at .result) (c .before .size-at .ensures) in
-    (l .inv .behind, omega (arith, f, l .inv .long, c .before .before .before .before .before .before .pre .1), omega (arith, c .before .size-at .ensures))
+    (size-at' .result) (size-at' .ensures) in
+    (l .inv .behind, omega (arith, f, l .inv .long, c .before .before .before .before .before .before .pre .1), omega (arith, size-at' .ensures))
 
 add-at : tie.Need-add-at Inv-loop μ-loop
 add-at c =
-    let a = c .before .before .before .before .before .before .before .before .before .args in
-    let l = c .before .before .before .before .before .before .before .loop in
-    let f = turn-fits (a .mine) (a .from) (a .used) (a .history .now) (c .before .before .before .before .before .before .before .before .before .pre .1) (c .before .before .before .before .before .before .before .before .before .pre .3) (l .inv) (omega arith)
-    (c .before .before .before .before .size-at .result) (c .before .before .before .before .size-at .ensures) in
-    omega (arith, f, c .before .before .before .before .before .before .before .before .before .pre .1, c .before .before .before .before .before .before .before .before .before .pre .2, limit-small)
+    let c9 = c .before .before .before .before .before .before .before .before .before in
+    let loop' = c .before .before .before .before .before .before .before .loop in
+    let size-at' = c .before .before .before .before .size-at in
+    let a = c9 .args in
+    let l = loop' in
+    let f = turn-fits (a .mine) (a .from) (a .used) (a .history .now) (c9 .pre .1) (c9 .pre .3) (l .inv) (omega arith)
+    (size-at' .result) (size-at' .ensures) in
+    omega (arith, f, c9 .pre .1, c9 .pre .2, limit-small)
 
 loop-less : tie.Need-loop-less Inv-loop μ-loop
 loop-less c =
-    let a = c .before .before .before .before .before .before .before .before .before .args in
-    let l = c .before .before .before .before .before .before .before .loop in
-    let f = turn-fits (a .mine) (a .from) (a .used) (a .history .now) (c .before .before .before .before .before .before .before .before .before .pre .1) (c .before .before .before .before .before .before .before .before .before .pre .3) (l .inv) (omega arith)
-    (c .before .before .before .before .size-at .result) (c .before .before .before .before .size-at .ensures) in
-    omega (arith, f, c .before .before .before .before .size-at .ensures)
+    let c9 = c .before .before .before .before .before .before .before .before .before in
+    let loop' = c .before .before .before .before .before .before .before .loop in
+    let size-at' = c .before .before .before .before .size-at in
+    let a = c9 .args in
+    let l = loop' in
+    let f = turn-fits (a .mine) (a .from) (a .used) (a .history .now) (c9 .pre .1) (c9 .pre .3) (l .inv) (omega arith)
+    (size-at' .result) (size-at' .ensures) in
+    omega (arith, f, size-at' .ensures)
 
 loop-again : tie.Need-loop-again Inv-loop μ-loop
 loop-again c =
-    let a = c .before .before .before .before .before .before .before .before .before .args in
-    let l = c .before .before .before .before .before .before .before .loop in
-    turn (a .mine) (a .from) (a .used) (a .history .now) (c .before .before .before .before .before .before .before .before .before .pre .1) (c .before .before .before .before .before .before .before .before .before .pre .3) (l .inv) (omega arith) (c .before .before .before .before .size-at .result)
-    (c .before .before .before .before .size-at .ensures) _ (c .before .before .keep-other .result) (c .before .before .keep-other .ensures .0) (c .before .before .keep-other .ensures .1)
+    let c9 = c .before .before .before .before .before .before .before .before .before in
+    let loop' = c .before .before .before .before .before .before .before .loop in
+    let size-at' = c .before .before .before .before .size-at in
+    let keep-other' = c .before .before .keep-other in
+    let a = c9 .args in
+    let l = loop' in
+    turn (a .mine) (a .from) (a .used) (a .history .now) (c9 .pre .1) (c9 .pre .3) (l .inv) (omega arith) (size-at' .result)
+    (size-at' .ensures) _ (keep-other' .result) (keep-other' .ensures .0) (keep-other' .ensures .1)
 
 same-length : tie.Need-same-length Inv-loop μ-loop
 same-length c = c .before .loop .inv .long

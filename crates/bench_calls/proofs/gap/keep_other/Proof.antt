@@ -25,7 +25,11 @@ same-length : tie.Need-same-length
 same-length c = search needs
 
 returns-2 : tie.Need-returns-2
-returns-2 c = ((λ e. absurd (c .before .before .before .before .if1 .left (c .before .before .before .before .before .wide .ensures .0 ∙ e))), (λ _. (refl, c .before .before .move-left .ensures)))
+returns-2 c =
+    let wide' = c .before .before .before .before .before .wide in
+    let if1' = c .before .before .before .before .if1 in
+    let move-left' = c .before .before .move-left in
+    ((λ e. absurd (if1' .left (wide' .ensures .0 ∙ e))), (λ _. (refl, move-left' .ensures)))
 
 pub keep-other-spec : {M : Type 1} → statement M
 keep-other-spec =

@@ -35,11 +35,16 @@ same-length c = search needs
 
 returns : tie.Need-returns
 returns c =
-    let a = c .before .before .before .before .before .before .before .before .before .before .before .before .before .before .before .before .args in
-    let p = c .before .before .before .before .before .before .before .before .before .before .before .before .before .before .before .before .pre in
-    let e₁ = c .before .before .before .before .before .before .before .before .before .before .splice-in in
-    let e₂ = c .before .before .before .before .before .before .splice-in2 in
-    let e₃ = c .before .before .splice-in3 in
+    let c10 = c .before .before .before .before .before .before .before .before .before .before in
+    let c16 = c10 .before .before .before .before .before .before in
+    let splice-in' = c10 .splice-in in
+    let splice-in2' = c .before .before .before .before .before .before .splice-in2 in
+    let splice-in3' = c .before .before .splice-in3 in
+    let a = c16 .args in
+    let p = c16 .pre in
+    let e₁ = splice-in' in
+    let e₂ = splice-in2' in
+    let e₃ = splice-in3' in
     record-put (a .history .now) (a .removed .now) (a .added .now) (a .used) (a .at) (a .mine) (a .place) (p .0) (p .1) (p .2)
     (e₁ .last .0) (e₂ .last .0) (e₃ .last .0) (e₁ .result) (e₂ .result) (e₁ .ensures) (e₂ .ensures) (e₃ .ensures .1)
 

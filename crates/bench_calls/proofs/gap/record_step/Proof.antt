@@ -8,7 +8,8 @@ use Rattle.bench_calls.proofs.gap.record_step.Statement.{statement}
 use Rattle.bench_calls.proofs.gap.record_step.Tie as tie
 
 close-gap-requires : tie.Need-close-gap-requires
-close-gap-requires c κs = (c .before .before .before .before .pre .0, c .before .before .before .before .pre .1 .fits, c .before .before .before .before .pre .2, c .before .before .before .before .pre .3, c .before .before .before .before .pre .4)
+close-gap-requires c κs =
+    (c .before .before .before .before .pre .0, c .before .before .before .before .pre .1 .fits, c .before .before .before .before .pre .2, c .before .before .before .before .pre .3, c .before .before .before .before .pre .4)
 
 put-record-requires : tie.Need-put-record-requires
 put-record-requires c κs =
