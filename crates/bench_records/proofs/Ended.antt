@@ -1,8 +1,8 @@
 -- What is known of the caller's bench, and of where its pass stands, when both were found sound. Assumes nothing.
-use Prim.Native.Nat.{ℕ, zero, suc, _+_, _≤_, _<_}
-use mathlib.Core.Path.{_≡_, refl, sym, ap, _∙_}
+use Prim.Native.Nat.{ℕ, suc, _+_, _≤_, _<_}
+use mathlib.Core.Path.{_≡_, sym, _∙_}
 use mathlib.Core.Bool.{Bool, true, false, cond, _&&_}
-use mathlib.Core.List.{List, [], _∷_, _++_}
+use mathlib.Core.List.{List, _∷_, _++_}
 use native.Mathlib.Omega.{arith}
 use native.Mathlib.Nat.{zero-add}
 use lib.ListN.{length, take, drop, take-append-drop}
@@ -14,7 +14,7 @@ use Rattle.ledger.specs.Words.{zeros}
 use Rattle.ledger.specs.Parts.{markWithin}
 use Rattle.ledger.proofs.Words.{At}
 use Rattle.benches.specs.declared.Bench.{Bench}
-use Rattle.benches.specs.Words.{Side, at, Record, words, sizes, own}
+use Rattle.benches.specs.Words.{Side, at, words, sizes, own}
 use Rattle.benches.specs.Benches.{State, benchSound}
 use Rattle.bench_records.specs.declared.Pass.{Pass}
 use Rattle.bench_records.specs.declared.Passed.the-variants.{Broken, Through}

@@ -1,5 +1,4 @@
-use mathlib.Core.Path.{_≡_, sym, ap, _∙_}
-use mathlib.Core.Bool.{false}
+use mathlib.Core.Path.{sym, ap, _∙_}
 use native.Mathlib.Omega.{arith}
 use lib.ListN.{length}
 use borrow.Author.Tests.{ltb-false}
@@ -22,7 +21,8 @@ returns c =
     let over-limit' = c .before .before .over-limit in
     let a = c .before .before .before .before .before .before .args in
     let t : State = stateOf (a .b) (a .text0 .now) (a .text1 .now) (a .history .now) in
-    long-first t (a .bench) (c .too-long .result) (c .too-long .ensures) (sym (over-limit' .ensures) ∙ c .before .if1 .taken)
+    long-first t (a .bench) (c .too-long .result) (c .too-long .ensures)
+    (sym (over-limit' .ensures) ∙ c .before .if1 .taken)
 
 over-limit-requires-2 : tie.Need-over-limit-requires-2
 over-limit-requires-2 c κs = search needs
