@@ -8,7 +8,7 @@ use native.Mathlib.Omega.{arith}
 use lib.ListN.{length, take, drop, length-append, length-reverse}
 use lib.Seq.{length-take-le}
 use lib.Dec.{ltb}
-use Rattle.answer.specs.Answer.{limit, numbered, inNumbers, tooLong}
+use Rattle.answer.specs.Answer.{limit, numbered, tooLong}
 use Rattle.codec.specs.Kinds.{firstUnwritable}
 use Rattle.editor.specs.Ledger.{replace}
 use Rattle.editor.specs.Marks.{replacedMark}
@@ -18,7 +18,7 @@ use Rattle.editor.specs.Layout.{refusing, laid, callOn}
 use Rattle.editor.specs.Layout as layout
 use Rattle.ledger.specs.Words as page
 use Rattle.benches.specs.declared.Bench.{Bench}
-use Rattle.benches.specs.Words.{Side, first, second, numberOf, sideOf, at, put, Record, words, sizeOf, sizes, own, kept}
+use Rattle.benches.specs.Words.{Side, first, second, numberOf, sideOf, at, Record, words, sizeOf, sizes, own, kept}
 use Rattle.benches.specs.Benches.{State, Outcome, records}
 use Rattle.benches.specs.Layout.{editorOf, editorFor, these, lyingIn, spaceIn, recordsAfter, bench}
 use Rattle.benches.specs.Calls.{outcomeAt, replaceOf}
@@ -28,7 +28,7 @@ use Rattle.bench_records.specs.declared.Judged.the-variants.{Sound}
 use Rattle.bench_records.specs.Judging.{judgeOf}
 use Rattle.bench_records.proofs.Found.{Fit, fit-first, second-named, fit-second}
 use Rattle.bench_records.proofs.Ended.{fitting, pass-spare}
-use Rattle.bench_calls.specs.Leaving.{Left, placed, benchWith, editedTo, refusedWith}
+use Rattle.bench_calls.specs.Leaving.{placed, editedTo}
 use Rattle.bench_calls.specs.Gap.{closed}
 use Rattle.bench_calls.specs.Replaces.{Shared, needOn, fittingOn, replacedOn}
 use Rattle.bench_calls.proofs.Turns.{same-placed}

@@ -1,8 +1,8 @@
 -- What save and the question of a bench give. Assumes nothing.
 use Prim.Native.Nat.{ℕ, zero, suc, _≤_}
 use mathlib.Core.Path.{_≡_, refl, sym, ap, _∙_}
-use mathlib.Core.Bool.{Bool, true, false, cond}
-use mathlib.Core.List.{List, [], _∷_, reverse}
+use mathlib.Core.Bool.{Bool, true, false}
+use mathlib.Core.List.{List, reverse}
 use mathlib.Core.Option.{Option, none, some}
 use native.Mathlib.Omega.{arith}
 use lib.ListN.{length, take}
@@ -13,12 +13,10 @@ use Rattle.answer.specs.declared.Answer.{Answer}
 use Rattle.answer.specs.declared.Answer.the-variants.{Accepted, Refused}
 use Rattle.answer.specs.Output as output
 use Rattle.answer.proofs.Once.{number-pos}
-use Rattle.codec.specs.Kinds.{readsAs, writeIn}
 use Rattle.editor.specs.Ledger.{save}
 use Rattle.editor.specs.Marks.{unchangedAt}
-use Rattle.editor.specs.Records.{Entry}
 use Rattle.editor.specs.Editor.{Editor, over, savedAs, saveStanding}
-use Rattle.editor.specs.Layout.{Reply, refusing, laid, callOn, askOn}
+use Rattle.editor.specs.Layout.{refusing, laid, callOn}
 use Rattle.editor.specs.Layout as layout
 use Rattle.page.specs.Outcomes.{savedIn, savedPage}
 use Rattle.benches.specs.declared.Bench.{Bench}
@@ -30,9 +28,9 @@ use Rattle.benches.specs.Layout.{editorOf, editorFor, spaceIn, markedAs, bench}
 use Rattle.benches.specs.Calls.{outcomeAt, saveOf, replyAt, unchangedOf}
 use Rattle.bench_records.specs.declared.Pass.{Pass}
 use Rattle.bench_records.specs.declared.Judged.{Judged}
-use Rattle.bench_records.specs.declared.Judged.the-variants.{Unfit, Sound}
+use Rattle.bench_records.specs.declared.Judged.the-variants.{Sound}
 use Rattle.bench_records.specs.Judging.{judgeOf}
-use Rattle.bench_records.proofs.Found.{Fit, fit-first, second-named, fit-second, call-unfit}
+use Rattle.bench_records.proofs.Found.{Fit, fit-first, second-named, fit-second}
 use Rattle.bench_records.proofs.Ended.{fitting, lengths-fit}
 use Rattle.bench_calls.specs.declared.Turned.{Turned}
 use Rattle.bench_calls.specs.Leaving.{benchAt, turnedAt}

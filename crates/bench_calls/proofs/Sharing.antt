@@ -1,16 +1,15 @@
 -- What closing the gap leaves of sound benches' words: those of the records that stay. Assumes nothing.
-use Prim.Native.Nat.{ℕ, zero, suc, _+_, _-_, _≤_, _<_}
+use Prim.Native.Nat.{ℕ, zero, suc, _+_, _≤_, _<_}
 use mathlib.Core.Path.{_≡_, refl, sym, ap, _∙_}
 use mathlib.Core.Bool.{Bool, true, false, cond}
 use mathlib.Core.List.{List, [], _∷_, _++_, append-assoc, append-nil}
 use native.Mathlib.Omega.{arith}
-use lib.ListN.{length, take, drop, length-append, length-take}
+use lib.ListN.{length, take, drop, length-append}
 use lib.Seq.{take-at, drop-at, length-take-le}
 use lib.Dec.{leb}
 use borrow.Author.Tests.{leb-true, leb-false}
 use Rattle.answer.specs.Answer.{limit}
 use Rattle.editor.specs.Records.{Entry}
-use Rattle.splice.specs.Splice.{Filled}
 use Rattle.benches.specs.declared.Bench.{Bench}
 use Rattle.benches.specs.Words.{Side, first, second, numberOf, same, at, Record, wordsOf, words, sizeOf, own, kept}
 use Rattle.benches.specs.Benches.{State}
@@ -20,7 +19,7 @@ use Rattle.bench_records.specs.Passing.{begins}
 use Rattle.bench_records.specs.Turning.{sideAt}
 use Rattle.bench_records.proofs.Found.{Fit}
 use Rattle.bench_records.proofs.Ended.{fitting, pass-spare, pass-next, pass-none, history-is}
-use Rattle.bench_calls.specs.Gap.{Tiles, othersIn, closed}
+use Rattle.bench_calls.specs.Gap.{Tiles, closed}
 use Rattle.bench_calls.specs.Replaces.{Shared}
 use Rattle.bench_calls.proofs.Closing.{closed-words, length-record}
 

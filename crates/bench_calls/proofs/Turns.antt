@@ -6,9 +6,9 @@ use mathlib.Core.List.{List, [], _∷_, _++_, reverse, reverse-append, append-as
 use mathlib.Core.Option.{some}
 use native.Mathlib.Omega.{arith}
 use lib.ListN.{length, take, drop, length-append, length-reverse, drop-of-length-le}
-use lib.Seq.{take-at, drop-at, take-append-seam, drop-append-seam}
+use lib.Seq.{take-at, drop-at}
 use lib.Dec.{leb, eqb}
-use borrow.Author.Tests.{leb-true, leb-false, eqb-true, eqb-false, le-leb, lt-leb, eq-eqb, ne-eqb}
+use borrow.Author.Tests.{leb-true, leb-false, le-leb, lt-leb, eq-eqb, ne-eqb}
 use Rattle.answer.specs.Answer.{Verdict, numbered, inNumbers}
 use Rattle.answer.specs.declared.Answer.{Answer}
 use Rattle.answer.proofs.Below.{both}
@@ -18,8 +18,7 @@ use Rattle.editor.specs.Editor.{Editor, undoLast, redoNext}
 use Rattle.editor.specs.Layout.{refusing, laid, callOn}
 use Rattle.editor.specs.Layout as layout
 use Rattle.ledger.proofs.Words.{At, lengths-append, reached-append, reached-fits}
-use Rattle.splice.specs.Splice.{spliced, Filled}
-use Rattle.page.specs.declared.Change.{Change}
+use Rattle.splice.specs.Splice.{Filled}
 use Rattle.page.specs.Steps.{changeOf, changeIn}
 use Rattle.benches.specs.declared.Bench.{Bench}
 use Rattle.benches.specs.Words.{Side, first, second, sideOf, at, own}
@@ -68,12 +67,6 @@ module _ {k : ℕ} {es : List Entry} (p : Picked k es) where
       let whole : es ≡ (p .front ++ p .entry ∷ []) ++ p .rest = p .is ∙ simp append-assoc in
       rw whole
       (take-at (p .front ++ p .entry ∷ []) (p .rest) (suc k) (simp length-append (omega (arith, p .long))))
-
-  drop-after : drop (suc k) es ≡ p .rest
-  drop-after =
-      let whole : es ≡ (p .front ++ p .entry ∷ []) ++ p .rest = p .is ∙ simp append-assoc in
-      rw whole
-      (drop-at (p .front ++ p .entry ∷ []) (p .rest) (suc k) (simp length-append (omega (arith, p .long))))
 
   pub back-picked : reverse (take (suc k) es) ≡ p .entry ∷ reverse (p .front)
   back-picked = rw take-picked (reverse-append (p .front) (p .entry ∷ []))

@@ -5,7 +5,6 @@ use mathlib.Core.List.{List, []}
 use lib.ListN.{length}
 use lib.Dec.{eqb}
 use Rattle.answer.specs.Answer.{Verdict, numbered, inNumbers}
-use Rattle.answer.specs.declared.Answer.{Answer}
 use Rattle.answer.specs.declared.Answer.the-variants.{Accepted}
 use Rattle.editor.specs.declared.Mark.{Mark}
 use Rattle.ledger.specs.Words.{pad}

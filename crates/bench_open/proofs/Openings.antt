@@ -1,19 +1,18 @@
 -- What an open would answer, by a reading into no room; and two opens, one after the other. Assumes nothing.
-use Prim.Native.Nat.{ℕ, _+_, _≤_}
+use Prim.Native.Nat.{ℕ, _≤_}
 use mathlib.Core.Path.{_≡_, refl, sym, ap, _∙_}
 use mathlib.Core.Bool.{Bool, true, false, cond, _||_, false≢true}
 use mathlib.Core.List.{List, []}
 use native.Mathlib.Omega.{arith}
 use lib.ListN.{length, replicate, length-replicate}
 use lib.Dec.{ltb, eqb}
-use borrow.Author.Tests.{ltb-true, ltb-false, le-ltb, ne-eqb, eqb-true}
-use Rattle.answer.specs.Answer.{Verdict, limit, numbered, inNumbers, numberOf, tooLong}
+use borrow.Author.Tests.{ltb-false, le-ltb, ne-eqb}
+use Rattle.answer.specs.Answer.{limit, numbered, inNumbers, numberOf, tooLong}
 use Rattle.answer.specs.declared.Answer.{Answer}
 use Rattle.answer.specs.declared.Answer.the-variants.{Accepted, Refused}
 use Rattle.answer.specs.declared.Refusal.{Refusal}
 use Rattle.answer.specs.Output as output
 use Rattle.answer.proofs.Once.{number-pos}
-use Rattle.answer.proofs.Below.{cond-case}
 use Rattle.reading.specs.Reading.{Ending, accepted, fault, onEnding}
 use Rattle.codec.specs.declared.Kind.{Kind}
 use Rattle.codec.specs.declared.Kind.the-variants.{Utf7Header, Utf7Body, Jp2}
@@ -25,12 +24,10 @@ use Rattle.codec.proofs.Faults.{KnownEnd, known}
 use Rattle.editor.specs.Editor.{over}
 use Rattle.editor.specs.Layout.{taken, refusing}
 use Rattle.ledger.specs.declared.Edited.{Edited}
-use Rattle.ledger.specs.declared.Page.{Page}
 use Rattle.ledger.specs.Words.{pad}
 use Rattle.ledger.specs.Page as page
 use Rattle.ledger.specs.Calls.{noPage, openedOn, openRead, openOf}
 use Rattle.ledger.proofs.Opens.{Opened, open-opened}
-use Rattle.benches.specs.Words.{Both}
 use Rattle.benches.specs.Benches.{Outcome, leaves}
 use Rattle.benches.specs.Calls as benches
 use Rattle.benches.proofs.Refusals.{first-refused, second-refused}

@@ -12,14 +12,17 @@ same-length c = search needs
 
 returns : tie.Need-returns
 returns c =
+    let pre' = c .before .before .before .before .before .before .pre in
     let splice-in' = c .before .before .splice-in in
     let a = c .before .before .before .before .before .before .args in
-    let p = c .before .before .before .before .before .before .pre in
+    let p = pre' in
     let e = splice-in' .ensures in
-    let n = e .0 ∙ used-after (a .text .now) (a .cells .now) (a .b .length) (a .place) (a .count) (p .0) (p .1 .fits) (p .2) in (
+    let n = e .0 ∙ used-after (a .text .now) (a .cells .now) (a .b .length) (a .place) (a .count) (p .0) (p .1 .fits)
+    (p .2) in (
       rw n,
       e .1
-          ∙ filled-after (a .text .now) (a .cells .now) (a .b .length) (a .place) (a .count) (p .0) (p .1 .fits) (p .2) (p .1),
+          ∙ filled-after (a .text .now) (a .cells .now) (a .b .length) (a .place) (a .count) (p .0) (p .1 .fits)
+          (p .2) (p .1),
     )
 
 pub accept-spec : {M : Type 1} → statement M

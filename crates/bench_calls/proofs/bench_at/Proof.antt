@@ -1,5 +1,4 @@
 use borrow.Author.Tests.{eq-eqb, ne-eqb}
-use borrow.Author.Needs.{needs}
 use Rattle.bench_calls.proofs.bench_at.Statement.{statement}
 use Rattle.bench_calls.proofs.bench_at.Tie as tie
 

@@ -14,38 +14,43 @@ change-at-requires c κs = c .before .before .pre .words
 
 mul-accept : tie.Need-mul-accept
 mul-accept c =
+    let pre' = c .before .before .before .pre in
     let a = c .before .before .before .args in
     let q = c .change-at .result in
-    let m : Fits (a .b) q (a .text .now) (a .history .now) = rw (c .change-at .ensures) (c .before .before .before .pre .fits) in
+    let m : Fits (a .b) q (a .text .now) (a .history .now) = rw (c .change-at .ensures) (pre' .fits) in
     omega (arith, m .part, m .whole)
 
 sub-accept : tie.Need-sub-accept
 sub-accept c =
+    let pre' = c .before .before .before .pre in
     let a = c .before .before .before .args in
     let q = c .change-at .result in
-    let m : Fits (a .b) q (a .text .now) (a .history .now) = rw (c .change-at .ensures) (c .before .before .before .pre .fits) in
+    let m : Fits (a .b) q (a .text .now) (a .history .now) = rw (c .change-at .ensures) (pre' .fits) in
     m .part
 
 part-accept-start : tie.Need-part-accept-start
 part-accept-start c =
+    let pre' = c .before .before .before .pre in
     let a = c .before .before .before .args in
     let q = c .change-at .result in
-    let m : Fits (a .b) q (a .text .now) (a .history .now) = rw (c .change-at .ensures) (c .before .before .before .pre .fits) in
+    let m : Fits (a .b) q (a .text .now) (a .history .now) = rw (c .change-at .ensures) (pre' .fits) in
     omega (arith, m .part, m .whole)
 
 part-accept-end : tie.Need-part-accept-end
 part-accept-end c =
+    let pre' = c .before .before .before .pre in
     let a = c .before .before .before .args in
     let q = c .change-at .result in
-    let m : Fits (a .b) q (a .text .now) (a .history .now) = rw (c .change-at .ensures) (c .before .before .before .pre .fits) in
+    let m : Fits (a .b) q (a .text .now) (a .history .now) = rw (c .change-at .ensures) (pre' .fits) in
     m .whole
 
 accept-requires : tie.Need-accept-requires
 accept-requires c κs =
+    let pre' = c .before .before .before .before .before .pre in
     let change-at' = c .before .before .change-at in
     let a = c .before .before .before .before .before .args in
     let q = change-at' .result in
-    let m : Fits (a .b) q (a .text .now) (a .history .now) = rw (change-at' .ensures) (c .before .before .before .before .before .pre .fits) in
+    let m : Fits (a .b) q (a .text .now) (a .history .now) = rw (change-at' .ensures) (pre' .fits) in
     let part = length-take (q .to - q .from) (drop (q .from) (a .history .now)) in
     let rest = length-drop (q .from) (a .history .now) in
     (m .place, m .filled, omega (arith, m .room, m .part, m .whole))

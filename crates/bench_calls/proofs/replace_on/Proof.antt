@@ -1,5 +1,5 @@
 use native.Mathlib.Omega.{arith}
-use mathlib.Core.Path.{sym, _∙_}
+use mathlib.Core.Path.{_∙_}
 use Rattle.bench_calls.proofs.Replacings.{beyond, unwritable, writable}
 use borrow.Author.Needs.{needs}
 use Rattle.bench_calls.proofs.replace_on.Statement.{statement}
@@ -20,11 +20,12 @@ stays-requires-2 c κs = search needs
 
 returns-2 : tie.Need-returns-2
 returns-2 c =
+    let pre' = c .before .before .before .before .before .before .pre in
     let if1' = c .before .before .if1 in
     let a = c .before .before .before .before .before .before .args in
     rw (c .stays2 .ensures)
     (beyond (a .b) (a .mine) (a .used) (a .p) (a .place) (a .count) (a .cells .now) (a .text .now) (a .history .now)
-    (c .before .before .before .before .before .before .pre .0 .text-filled .fits) (omega (arith, if1' .left, c .before .if2 .taken)))
+    (pre' .0 .text-filled .fits) (omega (arith, if1' .left, c .before .if2 .taken)))
 
 first-unwritable-requires : tie.Need-first-unwritable-requires
 first-unwritable-requires c κs = search needs
@@ -34,6 +35,7 @@ stays-requires-3 c κs = search needs
 
 returns-3 : tie.Need-returns-3
 returns-3 c =
+    let pre' = c .before .before .before .before .before .before .before .before .pre in
     let if1' = c .before .before .before .before .if1 in
     let if2' = c .before .before .before .if2 in
     let first-unwritable' = c .before .before .first-unwritable in
@@ -41,7 +43,7 @@ returns-3 c =
     let f = first-unwritable' in
     rw (c .stays3 .ensures)
     (unwritable (a .b) (a .mine) (a .used) (a .p) (a .place) (a .count) (a .cells .now) (a .text .now) (a .history .now)
-    (c .before .before .before .before .before .before .before .before .pre .0 .text-filled .fits) (omega (arith, if1' .left, if2' .left)) (f .result) (f .ensures)
+    (pre' .0 .text-filled .fits) (omega (arith, if1' .left, if2' .left)) (f .result) (f .ensures)
     (omega (arith, c .before .if3 .taken)))
 
 replace-fitting-requires : tie.Need-replace-fitting-requires

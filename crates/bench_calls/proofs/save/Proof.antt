@@ -38,11 +38,14 @@ enum-told c = search needs
 
 save-sound-requires : tie.Need-save-sound-requires
 save-sound-requires c κs =
-    let c10 = c .before .before .before .before .before .before .before .before .before .before in
+    let c9 = c .before .before .before .before .before .before .before .before .before in
+    let before' = c9 .before in
+    let c10 = before' in
     let c11 = c10 .before in
     let judge' = c .before .before .before .judge in
     let a = c11 .args in
-    texts-fit (a .b) (a .text0 .now) (a .text1 .now) (a .history .now) (a .bench) (judge' .ensures) (c .before .enum-told .given .1)
+    texts-fit (a .b) (a .text0 .now) (a .text1 .now) (a .history .now) (a .bench) (judge' .ensures)
+    (c .before .enum-told .given .1)
 
 returns-2 : tie.Need-returns-2
 returns-2 c =
@@ -64,7 +67,9 @@ same-length c = search needs
 
 returns-3 : tie.Need-returns-3
 returns-3 c =
-    let c10 = c .before .before .before .before .before .before .before .before .before .before in
+    let c9 = c .before .before .before .before .before .before .before .before .before in
+    let before' = c9 .before in
+    let c10 = before' in
     let c14 = c10 .before .before .before .before in
     let over-limit' = c .before .before .before .before .before .before .before .before .over-limit in
     let if1' = c .before .before .before .before .before .before .before .if1 in
@@ -73,8 +78,10 @@ returns-3 c =
     let save-sound' = c .before .before .save-sound in
     let a = c14 .args in
     let s = save-sound' in
-    saved-given (a .b) (a .text0 .now) (a .text1 .now) (a .history .now) (a .bench) (judge' .ensures) (enum-told' .given .1)
-    (a .arrived .now) (a .out .now) _ (s .result) (sym (over-limit' .ensures) ∙ if1' .left) (s .ensures .0) (s .ensures .1)
+    saved-given (a .b) (a .text0 .now) (a .text1 .now) (a .history .now) (a .bench) (judge' .ensures)
+    (enum-told' .given .1)
+    (a .arrived .now) (a .out .now) _ (s .result) (sym (over-limit' .ensures) ∙ if1' .left) (s .ensures .0)
+    (s .ensures .1)
 
 pub save-spec : {M : Type 1} → statement M
 save-spec =

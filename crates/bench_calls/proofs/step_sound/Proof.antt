@@ -9,10 +9,11 @@ use Rattle.bench_calls.proofs.step_sound.Tie as tie
 
 step-on-requires : tie.Need-step-on-requires
 step-on-requires c κs =
+    let pre' = c .before .before .before .before .before .before .pre in
     let if1' = c .before .before .if1 in
     let a = c .before .before .before .before .before .before .args in
     let t : State = stateOf (a .b) (a .text0 .now) (a .text1 .now) (a .history .now) in
-    first-steppable t (a .bench) (a .p) (c .before .before .before .before .before .before .pre) (a .forward) (if1' .taken)
+    first-steppable t (a .bench) (a .p) (pre') (a .forward) (if1' .taken)
 
 first-back-requires : tie.Need-first-back-requires
 first-back-requires c κs = search needs
@@ -33,10 +34,11 @@ returns c =
 
 step-on-requires-2 : tie.Need-step-on-requires-2
 step-on-requires-2 c κs =
+    let pre' = c .before .before .before .before .before .before .pre in
     let if1' = c .before .before .if1 in
     let a = c .before .before .before .before .before .before .args in
     let t : State = stateOf (a .b) (a .text0 .now) (a .text1 .now) (a .history .now) in
-    second-steppable t (a .bench) (a .p) (c .before .before .before .before .before .before .pre) (a .forward) (if1' .left)
+    second-steppable t (a .bench) (a .p) (pre') (a .forward) (if1' .left)
 
 second-back-requires : tie.Need-second-back-requires
 second-back-requires c κs = search needs

@@ -3,7 +3,6 @@ use mathlib.Core.Path.{refl}
 use Prim.Native.Nat.{_-_}
 use Rattle.answer.proofs.Once.{limit-small}
 use Rattle.bench_calls.proofs.Closing.{Going, begin, turn-fits, turn, ended}
-use borrow.Author.Needs.{needs}
 use Rattle.bench_calls.proofs.gap.close_gap.Statement.{statement}
 use Rattle.bench_calls.proofs.gap.close_gap.Tie as tie
 
@@ -20,21 +19,24 @@ loop-holds c =
 
 size-at-requires : tie.Need-size-at-requires Inv-loop μ-loop
 size-at-requires c κs =
+    let pre' = c .before .before .before .before .pre in
     let loop' = c .before .before .loop in
     let a = c .before .before .before .before .args in
     let l = loop' in
-    let f = turn-fits (a .mine) (a .from) (a .used) (a .history .now) (c .before .before .before .before .pre .1) (c .before .before .before .before .pre .3) (l .inv) (omega arith) _ refl in
-    omega (arith, f, l .inv .long, c .before .before .before .before .pre .1)
+    let f = turn-fits (a .mine) (a .from) (a .used) (a .history .now) (pre' .1) (pre' .3) (l .inv)
+    (omega arith) _ refl in
+    omega (arith, f, l .inv .long, pre' .1)
 
 keep-other-requires : tie.Need-keep-other-requires Inv-loop μ-loop
 keep-other-requires c κs =
+    let pre' = c .before .before .before .before .before .before .pre in
     let loop' = c .before .before .before .before .loop in
     let size-at' = c .before .size-at in
     let a = c .before .before .before .before .before .before .args in
     let l = loop' in
-    let f = turn-fits (a .mine) (a .from) (a .used) (a .history .now) (c .before .before .before .before .before .before .pre .1) (c .before .before .before .before .before .before .pre .3) (l .inv) (omega arith)
+    let f = turn-fits (a .mine) (a .from) (a .used) (a .history .now) (pre' .1) (pre' .3) (l .inv) (omega arith)
     (size-at' .result) (size-at' .ensures) in
-    (l .inv .behind, omega (arith, f, l .inv .long, c .before .before .before .before .before .before .pre .1), omega (arith, size-at' .ensures))
+    (l .inv .behind, omega (arith, f, l .inv .long, pre' .1), omega (arith, size-at' .ensures))
 
 add-at : tie.Need-add-at Inv-loop μ-loop
 add-at c =
@@ -60,13 +62,15 @@ loop-less c =
 
 loop-again : tie.Need-loop-again Inv-loop μ-loop
 loop-again c =
-    let c9 = c .before .before .before .before .before .before .before .before .before in
+    let before' = c .before .before .before .before .before .before .before .before .before in
+    let c9 = before' in
     let loop' = c .before .before .before .before .before .before .before .loop in
     let size-at' = c .before .before .before .before .size-at in
     let keep-other' = c .before .before .keep-other in
     let a = c9 .args in
     let l = loop' in
-    turn (a .mine) (a .from) (a .used) (a .history .now) (c9 .pre .1) (c9 .pre .3) (l .inv) (omega arith) (size-at' .result)
+    turn (a .mine) (a .from) (a .used) (a .history .now) (c9 .pre .1) (c9 .pre .3) (l .inv) (omega arith)
+    (size-at' .result)
     (size-at' .ensures) _ (keep-other' .result) (keep-other' .ensures .0) (keep-other' .ensures .1)
 
 same-length : tie.Need-same-length Inv-loop μ-loop
@@ -74,9 +78,10 @@ same-length c = c .before .loop .inv .long
 
 returns : tie.Need-returns Inv-loop μ-loop
 returns c =
+    let pre' = c .before .before .before .pre in
     let a = c .before .before .before .args in
     let l = c .before .loop in
-    ended (a .mine) (a .from) (a .used) (a .history .now) (c .before .before .before .pre .1) (c .before .before .before .pre .3) (l .inv) (omega arith)
+    ended (a .mine) (a .from) (a .used) (a .history .now) (pre' .1) (pre' .3) (l .inv) (omega arith)
 
 pub close-gap-spec : {M : Type 1} → statement M
 close-gap-spec =

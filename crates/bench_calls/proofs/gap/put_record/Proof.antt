@@ -35,7 +35,9 @@ same-length c = search needs
 
 returns : tie.Need-returns
 returns c =
-    let c10 = c .before .before .before .before .before .before .before .before .before .before in
+    let c9 = c .before .before .before .before .before .before .before .before .before in
+    let before' = c9 .before in
+    let c10 = before' in
     let c16 = c10 .before .before .before .before .before .before in
     let splice-in' = c10 .splice-in in
     let splice-in2' = c .before .before .before .before .before .before .splice-in2 in
@@ -45,7 +47,8 @@ returns c =
     let e₁ = splice-in' in
     let e₂ = splice-in2' in
     let e₃ = splice-in3' in
-    record-put (a .history .now) (a .removed .now) (a .added .now) (a .used) (a .at) (a .mine) (a .place) (p .0) (p .1) (p .2)
+    record-put (a .history .now) (a .removed .now) (a .added .now) (a .used) (a .at) (a .mine) (a .place) (p .0)
+    (p .1) (p .2)
     (e₁ .last .0) (e₂ .last .0) (e₃ .last .0) (e₁ .result) (e₂ .result) (e₁ .ensures) (e₂ .ensures) (e₃ .ensures .1)
 
 pub put-record-spec : {M : Type 1} → statement M

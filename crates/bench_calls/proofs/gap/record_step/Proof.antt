@@ -1,7 +1,6 @@
 use native.Mathlib.Omega.{arith}
 use mathlib.Core.Path.{ap, _∙_}
-use mathlib.Core.List.{List, _∷_, _++_}
-use Prim.Native.Nat.{ℕ}
+use mathlib.Core.List.{_∷_, _++_}
 use Rattle.ledger.specs.Words.{wordsOf, pad, zeros}
 use borrow.Author.Needs.{needs}
 use Rattle.bench_calls.proofs.gap.record_step.Statement.{statement}
@@ -9,7 +8,8 @@ use Rattle.bench_calls.proofs.gap.record_step.Tie as tie
 
 close-gap-requires : tie.Need-close-gap-requires
 close-gap-requires c κs =
-    (c .before .before .before .before .pre .0, c .before .before .before .before .pre .1 .fits, c .before .before .before .before .pre .2, c .before .before .before .before .pre .3, c .before .before .before .before .pre .4)
+    let pre' = c .before .before .before .before .pre in
+    (pre' .0, pre' .1 .fits, pre' .2, pre' .3, pre' .4)
 
 put-record-requires : tie.Need-put-record-requires
 put-record-requires c κs =
