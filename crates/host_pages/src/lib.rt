@@ -48,7 +48,7 @@ pub struct HostAsked {
     pub unchanged: u32,
 }
 
-fn kind_of(number: u32) -> Kind
+pub fn kind_of(number: u32) -> Kind
     ensures { λ r. ⌜ r ≡ kindOf number ⌝ }
 {
     if number == 0 {
@@ -60,7 +60,7 @@ fn kind_of(number: u32) -> Kind
     Kind::Jp2
 }
 
-fn kind_number(kind: Kind) -> u32
+pub fn kind_number(kind: Kind) -> u32
     ensures { λ r. ⌜ r ≡ kindNumber kind ⌝ }
 {
     match kind {
@@ -70,7 +70,7 @@ fn kind_number(kind: Kind) -> u32
     }
 }
 
-fn mark_in(number: usize) -> Mark
+pub fn mark_in(number: usize) -> Mark
     ensures { λ r. ⌜ r ≡ markIn number ⌝ }
 {
     if number == NEVER {
@@ -79,7 +79,7 @@ fn mark_in(number: usize) -> Mark
     Mark::At(number)
 }
 
-fn mark_number(mark: Mark) -> usize
+pub fn mark_number(mark: Mark) -> usize
     ensures { λ r. ⌜ r ≡ markNumber mark ⌝ }
 {
     match mark {
@@ -126,7 +126,7 @@ fn edited(e: Edited) -> HostEdited
     }
 }
 
-fn asked(a: Asked) -> HostAsked
+pub fn asked(a: Asked) -> HostAsked
     ensures { λ r. ⌜ hears r ≡ inReply (replies a) ⌝ }
 {
     let given = a.answer;
