@@ -8,9 +8,10 @@ use Rattle.editor.specs.Editor.{over}
 use Rattle.benches.specs.declared.Bench.{Bench}
 use Rattle.benches.specs.declared.Benches.{Benches}
 use Rattle.benches.specs.Benches.{State, stateOf, Outcome}
-use Rattle.benches.specs.Calls.{unchangedOf}
+use Rattle.benches.specs.Calls.{openOf, unchangedOf}
+use Rattle.bench_open.specs.Opens.{bothOf}
 use Rattle.host_numbers.specs.Numbers.{verdictIn}
-use Rattle.host_pages.specs.Pages.{kindOf, kindNumber, markIn, markNumber, HostReply, inReply}
+use Rattle.host_pages.specs.Pages.{never, kindOf, kindNumber, markIn, markNumber, HostReply, inReply}
 use Rattle.host_benches.specs.declared.HostBench.{HostBench}
 use Rattle.host_benches.specs.declared.HostBenches.{HostBenches}
 use Rattle.host_benches.specs.declared.HostBenchesEdited.{HostBenchesEdited}
@@ -90,6 +91,31 @@ onBenches b n text0 text1 history output list call =
       output = output;
     })
     (hosted (call (stateOf (benchesIn b) text0 text1 history)))
+
+-- "refused, it gives the kinds, zeros and no marks"
+abbrev pub noHostBench : ℕ → HostBench
+noHostBench kind = record { kind = kind; opening = 0; length = 0; standing = 0; saved = never }
+
+abbrev pub unopened : ℕ → ℕ → HostBenches
+unopened kind0 kind1 = record { bench0 = noHostBench kind0; bench1 = noHostBench kind1; used = 0 }
+
+-- an open whose kinds came from a host as numbers; where one is no kind, nothing is read or changed: 14, but 16 over the
+-- five lists comes first
+unfoldable pub openedOn : ℕ → ℕ → List ℕ → List ℕ → List ℕ → List ℕ → List ℕ → HostOutcome
+openedOn kind0 kind1 arrived0 arrived1 text0 text1 history =
+    cond (noKindIn (unopened kind0 kind1))
+    (record {
+      verdict =
+          cond (over arrived0 || (over arrived1 || (over text0 || (over text1 || over history)))) tooLong
+          (numbered 14 0);
+      benches = unopened kind0 kind1;
+      text0 = text0;
+      text1 = text1;
+      history = history;
+      output = [];
+    })
+    (hosted
+    (openOf (bothOf (kindOf kind0) (kindOf kind1)) (bothOf arrived0 arrived1) (bothOf text0 text1) history))
 
 -- what a host is given, and finds in its buffers
 abbrev pub finds : HostBenchesEdited → List ℕ → List ℕ → List ℕ → List ℕ → HostOutcome

@@ -4,7 +4,6 @@ use answer::Refusal;
 use benches::Bench;
 use benches::Benches;
 use benches::Edited;
-use codec::Kind;
 use host_numbers::Numbers;
 use host_numbers::in_numbers;
 use host_pages::HostAsked;
@@ -15,10 +14,9 @@ ghost use lib.Dec.{ltb};
 ghost use Rattle.answer.specs.Answer.{inNumbers, numbered, limit, tooLong};
 ghost use Rattle.host_numbers.specs.Numbers.{verdictIn};
 ghost use Rattle.host_pages.specs.Pages.{hears};
-ghost use Rattle.benches.specs.Calls.{openOf, replaceOf, undoOf, redoOf, saveOf};
-ghost use Rattle.bench_open.specs.Opens.{bothOf};
+ghost use Rattle.benches.specs.Calls.{replaceOf, undoOf, redoOf, saveOf};
 ghost use Rattle.host_benches.specs.Benches.{benchIn, benchesIn, hostBench, hostBenches, noKindIn};
-ghost use Rattle.host_benches.specs.Benches.{hosted, onBenches, finds, askedOn};
+ghost use Rattle.host_benches.specs.Benches.{noHostBench, unopened, openedOn, onBenches, finds, askedOn};
 
 // A bench: its kind (0 UTF-7 header, 1 UTF-7 body, 2 JP-2), its lengths, its standing steps, and its mark or NEVER.
 #[repr(C)]
@@ -143,9 +141,46 @@ fn unsound(bench: usize, a: usize, b: usize, c: usize, d: usize) -> Numbers
     in_numbers(Answer::Refused(Refusal::Unsound, 0))
 }
 
+fn no_host_bench(kind: u32) -> HostBench
+    ensures { λ r. ⌜ r ≡ noHostBench kind ⌝ }
+{
+    HostBench {
+        kind,
+        opening: 0,
+        length: 0,
+        standing: 0,
+        saved: host_pages::NEVER,
+    }
+}
+
+// "refused, it gives the kinds, zeros and no marks", whatever numbers the kinds are
+fn not_opened(kind0: u32, kind1: u32) -> HostBenches
+    ensures { λ r. ⌜ r ≡ unopened kind0 kind1 ⌝ }
+{
+    let bench0 = no_host_bench(kind0);
+    let bench1 = no_host_bench(kind1);
+    HostBenches {
+        bench0,
+        bench1,
+        used: 0,
+    }
+}
+
+// The answer to an open by a number that is no kind: 16 if one of the lists lent is too long, else 14.
+fn unread(a: usize, b: usize, c: usize, d: usize, e: usize) -> Numbers
+    ensures { λ r. ⌜ verdictIn r
+        ≡ cond (ltb limit a || (ltb limit b || (ltb limit c || (ltb limit d || ltb limit e)))) tooLong
+        (numbered 14 0) ⌝ }
+{
+    if answer::over_limit(a) {
+        return in_numbers(answer::too_long());
+    }
+    unsound(0, b, c, d, e)
+}
+
 pub fn open(
-    kind0: Kind,
-    kind1: Kind,
+    kind0: u32,
+    kind1: u32,
     arrived0: &[u8],
     arrived1: &[u8],
     text0: &mut [u32],
@@ -153,10 +188,26 @@ pub fn open(
     history: &mut [u32],
 ) -> HostBenchesEdited
     ensures { λ r. ⌜ finds r (now (text0 .exit)) (now (text1 .exit)) (now (history .exit)) []
-        ≡ hosted (openOf (bothOf kind0 kind1) (bothOf (now (arrived0 .entry)) (now (arrived1 .entry)))
-        (bothOf (now (text0 .entry)) (now (text1 .entry))) (now (history .entry))) ⌝ }
+        ≡ openedOn kind0 kind1 (now (arrived0 .entry)) (now (arrived1 .entry)) (now (text0 .entry))
+        (now (text1 .entry)) (now (history .entry)) ⌝ }
 {
-    edited(bench_open::open(kind0, kind1, arrived0, arrived1, text0, text1, history))
+    let none = not_opened(kind0, kind1);
+    if no_kind(none) {
+        let answer = unread(
+            arrived0.len(),
+            arrived1.len(),
+            text0.len(),
+            text1.len(),
+            history.len(),
+        );
+        return HostBenchesEdited {
+            answer,
+            benches: none,
+        };
+    }
+    let first = host_pages::kind_of(kind0);
+    let second = host_pages::kind_of(kind1);
+    edited(bench_open::open(first, second, arrived0, arrived1, text0, text1, history))
 }
 
 pub fn replace(
