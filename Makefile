@@ -21,11 +21,12 @@ all: library target/examples/where
 
 library: $(archive) $(shared)
 
-# Two objects: the comparers are one of their own (crates/qalithonda_compare/src/lib.rt says why).
+# Three objects: the comparers and the benches are one each (crates/qalithonda_compare/src/lib.rt says why).
+parts = qalithonda_compare qalithonda_benches
 $(archive): $(sources)
-	rt staticlib qalithonda_compare
+	for part in $(parts); do rt staticlib $$part || exit 1; done
 	rt staticlib qalithonda
-	cd $(@D) && ar x libqalithonda_compare.a && ar q $(@F) qalithonda_compare.o && rm qalithonda_compare.o
+	cd $(@D) && for part in $(parts); do ar x lib$$part.a && ar q $(@F) $$part.o && rm $$part.o || exit 1; done
 
 # The archive shows no other names than qalithonda_.., so neither does this.
 $(shared): $(archive)
@@ -43,7 +44,7 @@ target/examples/%_cxx: examples/%.c $(header) $(archive)
 	$(CXX) -std=c++11 $(strict) -x c++ $< -x none $(archive) -o $@
 
 # The examples in C99, and in C++ where there is a compiler for it: what they print is examples/*.txt.
-examples = target/examples/worked_page target/examples/where
+examples = target/examples/worked_page target/examples/two_benches target/examples/where
 test-c: $(examples) $(if $(shell command -v $(CXX) 2>/dev/null),$(examples:=_cxx))
 	for built in $^; do \
 	    name=$$(basename $${built%_cxx}); \

@@ -3,8 +3,8 @@
  *
  * It reads and writes UTF-7 (RFC 2152), ISO-2022-JP-2 (RFC 1554, "JP-2") and mailbox names of IMAP
  * (RFC 3501, section 5.1.3), steps through a text cell by cell, compares two texts, and has an
- * editable page with undo and redo, which a file can keep. Link with libqalithonda.a or
- * libqalithonda.so.
+ * editable page with undo and redo, which a file can keep, and two benches that edit two letters
+ * over one history. Link with libqalithonda.a or libqalithonda.so.
  *
  * Cells. A text is read to cells, which are 32-bit numbers. A cell of UTF-7 or of a mailbox name is
  * a UTF-16 unit, 0 to 65535; half a surrogate pair is a unit like any other. A JP-2 cell is its
@@ -26,7 +26,8 @@
  *   - The buffers lent to one call do not overlap.
  *   - A page and its two buffers belong together: hand the page that the last call gave back, and
  *     both buffers as that call left them, to the next call. Another page is still safe to hand in:
- *     it is refused with 14, or it is a sound page and is taken for what it says.
+ *     it is refused with 14, or it is a sound page and is taken for what it says. So do two benches
+ *     and their three buffers.
  *
  * The library allocates nothing, keeps no pointer and has no state of its own: threads may call it
  * at the same time, each with its own buffers.
@@ -68,7 +69,7 @@ enum qalithonda_number {
                                        to squeeze under 2 or more than stand: 0 */
     QALITHONDA_HISTORY_FULL = 12,   /* record does not fit the history: the words needed in all */
     QALITHONDA_NOTHING_LEFT = 13,   /* nothing to undo or redo: 0 */
-    QALITHONDA_UNSOUND = 14,        /* page not sound: 0 */
+    QALITHONDA_UNSOUND = 14,        /* page, or one of two benches, not sound: 0 */
     QALITHONDA_NOT_THE_TEXT = 15,   /* arrived bytes do not read as the text, or in a page file as
                                        so many cells as the page was opened with: 0 */
     QALITHONDA_OVER_LIMIT = 16,     /* more than QALITHONDA_LIMIT elements lent: that limit. More than
@@ -79,10 +80,13 @@ enum qalithonda_number {
                                        the '-' that closes the run */
     QALITHONDA_BAD_PAGE_FILE = 18,  /* bad page file: the first byte that no page file can have
                                        there, or the length if it ends early */
-    QALITHONDA_NO_GAIN = 19         /* squeezed, the history would not become shorter: 0 */
+    QALITHONDA_NO_GAIN = 19,        /* squeezed, the history would not become shorter: 0 */
+    QALITHONDA_NO_SUCH_BENCH = 20,  /* no such bench: 0 */
+    QALITHONDA_BAD_WORD = 21        /* bad word in a subject line: the first byte that no line of such
+                                       words can have there, or the length if it ends early */
 };
 
-/* The kinds of page. */
+/* The kinds of page, and of bench. */
 enum qalithonda_kind {
     QALITHONDA_UTF7_HEADER = 0,
     QALITHONDA_UTF7_BODY = 1,
@@ -521,6 +525,121 @@ qalithonda_edited qalithonda_page_read(const uint8_t *file, size_t file_len,
                                        uint8_t *arrived, size_t arrived_len,
                                        uint32_t *text, size_t text_len,
                                        uint32_t *history, size_t history_len);
+
+
+/* ---- Two benches ----
+ *
+ * Two benches, 0 and 1, edit two letters and share one history. Each has its own kind, text, steps
+ * and mark; what one does, undoes or saves changes nothing of the other. What they share is room: a
+ * step takes 4 words of history, the first of which is the bench's number, and one for each cell
+ * that it removes or adds.
+ *
+ * Both texts and the history are lent to every call, and a call names its bench. Its buffers are as
+ * those of a page: after an accepted open, replace, undo or redo each bench's text is the first
+ * `length` cells of its text buffer, and the text buffers past that and the history past `used` are
+ * 0. The steps of both lie in the history in the order in which they were accepted. A replace drops
+ * the steps that its own bench could redo, and closes the gap.
+ *
+ * A mark is a count of the bench's own steps. Squeezing and page files are for single pages.
+ */
+
+/* A bench's numbers. There is a step to undo if standing > 0. */
+typedef struct {
+    uint32_t kind;    /* enum qalithonda_kind */
+    size_t opening;   /* how many cells it was opened with */
+    size_t length;    /* how many cells it has */
+    size_t standing;  /* how many of its steps stand; its others can be redone */
+    size_t saved;     /* its mark: `standing` at the last save; or QALITHONDA_NEVER_SAVED, no mark */
+} qalithonda_bench;
+
+/* Both benches. */
+typedef struct {
+    qalithonda_bench bench0;
+    qalithonda_bench bench1;
+    size_t used;  /* words of history that hold steps, of either bench */
+} qalithonda_benches;
+
+/* What open, replace, undo, redo and save give back. Refused, an open gives the kinds that were
+   handed in, with zeros and no marks (QALITHONDA_NEVER_SAVED), which are no benches to go on with;
+   the others give the benches that were handed in. */
+typedef struct {
+    qalithonda_numbers answer;
+    qalithonda_benches benches;
+} qalithonda_benches_edited;
+
+/*
+ * Opens both benches, bench 0 on the bytes of `arrived0` and bench 1 on those of `arrived1`. Keep
+ * these bytes for `save`. The kinds are those of enum qalithonda_kind. Opening UTF-7 needs some
+ * 22 KiB of stack, opening JP-2 some 50 KiB.
+ * Accepted: the counts of cells of both texts, added.
+ * Refused: as opening a page of each is (16; the faults of reading; 9), all of bench 0's refusals
+ * before bench 1's, and nothing of bench 0 is changed if bench 1 is refused. With a number that is
+ * no kind, of either: 16 (arrived0, arrived1, text0, text1, history); 14.
+ */
+qalithonda_benches_edited qalithonda_benches_open(uint32_t kind0, uint32_t kind1,
+                                                  const uint8_t *arrived0, size_t arrived0_len,
+                                                  const uint8_t *arrived1, size_t arrived1_len,
+                                                  uint32_t *text0, size_t text0_len,
+                                                  uint32_t *text1, size_t text1_len,
+                                                  uint32_t *history, size_t history_len);
+
+/*
+ * Puts `cells` in the place of the `count` cells from `place` on in the text of bench `bench`. Steps
+ * that this bench could redo are dropped, and its mark with them if it is among them.
+ * Accepted: the bench's new length.
+ * Refused: 16 (cells, text0, text1, history); 20; 14; 11; 10 (the index is in `cells`); 9 (the
+ * bench's text: the new length); 12 (the words used, less those of the bench's own undone steps,
+ * plus 4 + count + cells_len).
+ */
+qalithonda_benches_edited qalithonda_benches_replace(qalithonda_benches benches, size_t bench,
+                                                     size_t place, size_t count,
+                                                     const uint32_t *cells, size_t cells_len,
+                                                     uint32_t *text0, size_t text0_len,
+                                                     uint32_t *text1, size_t text1_len,
+                                                     uint32_t *history, size_t history_len);
+
+/*
+ * Undo takes the last standing step of bench `bench` back; redo does its next undone step again.
+ * Accepted: the bench's new length.
+ * Refused: 16 (text0, text1, history); 20; 14; 13.
+ */
+qalithonda_benches_edited qalithonda_benches_undo(qalithonda_benches benches, size_t bench,
+                                                  uint32_t *text0, size_t text0_len,
+                                                  uint32_t *text1, size_t text1_len,
+                                                  const uint32_t *history, size_t history_len);
+qalithonda_benches_edited qalithonda_benches_redo(qalithonda_benches benches, size_t bench,
+                                                  uint32_t *text0, size_t text0_len,
+                                                  uint32_t *text1, size_t text1_len,
+                                                  const uint32_t *history, size_t history_len);
+
+/*
+ * Gives the bytes of the letter of bench `bench`, as `qalithonda_save` does: if none of its steps
+ * stands, those of `arrived` as they are; otherwise its text written in its kind. `arrived` are the
+ * bytes that this bench was opened on. What room is enough is said there.
+ *
+ * The benches that it gives have this bench's mark at `standing`; nothing else of them is changed.
+ * Write the bytes to where they belong, and only then go on with those benches.
+ * Accepted: the count of bytes, which are in `out`.
+ * Refused: 16 (text0, text1, history, arrived); 20; 14; 15 (only if no step stands), 10 (only if one
+ * does: the index is in the text); 9 (out).
+ */
+qalithonda_benches_edited qalithonda_benches_save(qalithonda_benches benches, size_t bench,
+                                                  const uint32_t *text0, size_t text0_len,
+                                                  const uint32_t *text1, size_t text1_len,
+                                                  const uint32_t *history, size_t history_len,
+                                                  const uint8_t *arrived, size_t arrived_len,
+                                                  uint8_t *out, size_t out_len);
+
+/*
+ * Asks whether bench `bench` is as it was saved last, or opened: whether its mark is at `standing`.
+ * `unchanged` is 1 if it is; 0 if it is not, or refused.
+ * Accepted: 0.
+ * Refused: 16 (text0, text1, history); 20; 14.
+ */
+qalithonda_asked qalithonda_benches_unchanged(qalithonda_benches benches, size_t bench,
+                                              const uint32_t *text0, size_t text0_len,
+                                              const uint32_t *text1, size_t text1_len,
+                                              const uint32_t *history, size_t history_len);
 
 #ifdef __cplusplus
 }

@@ -14,13 +14,15 @@ use header::item::{self, Item};
 use header::{c, layout, rattle};
 
 const HEADER: &str = "include/qalithonda.h";
-const SOURCES: [&str; 6] = [
+const SOURCES: [&str; 8] = [
     "crates/qalithonda/src",
     "crates/qalithonda_compare/src",
+    "crates/qalithonda_benches/src",
     "crates/host_numbers/src",
     "crates/host_steps/src",
     "crates/host_compare/src",
     "crates/host_pages/src",
+    "crates/host_benches/src",
 ];
 const ANSWER: &str = "crates/answer/src/lib.rt";
 

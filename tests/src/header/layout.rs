@@ -44,6 +44,9 @@ structs! {
     qalithonda_page { kind: u32, opening: usize, length: usize, used: usize, done: usize, saved: usize }
     qalithonda_edited { answer: qalithonda_numbers, page: qalithonda_page }
     qalithonda_asked { answer: qalithonda_numbers, unchanged: u32 }
+    qalithonda_bench { kind: u32, opening: usize, length: usize, standing: usize, saved: usize }
+    qalithonda_benches { bench0: qalithonda_bench, bench1: qalithonda_bench, used: usize }
+    qalithonda_benches_edited { answer: qalithonda_numbers, benches: qalithonda_benches }
     qalithonda_compared {
         answer: qalithonda_numbers, text: u32, same: u32, index: usize, first: usize, second: usize
     }

@@ -4,11 +4,14 @@ use super::item::{Item, What};
 use super::tokens::{cut, split, start, tokens};
 
 /// The structs that cross, as C names them. (A step is `stepped` in C: `step` is the function that makes it.)
-const STRUCTS: [(&str, &str); 11] = [
+const STRUCTS: [(&str, &str); 14] = [
     ("Numbers", "qalithonda_numbers"),
     ("HostPage", "qalithonda_page"),
     ("HostEdited", "qalithonda_edited"),
     ("HostAsked", "qalithonda_asked"),
+    ("HostBench", "qalithonda_bench"),
+    ("HostBenches", "qalithonda_benches"),
+    ("HostBenchesEdited", "qalithonda_benches_edited"),
     ("HostCompared", "qalithonda_compared"),
     ("HostUtf7Cursor", "qalithonda_utf7_cursor"),
     ("HostUtf7Step", "qalithonda_utf7_stepped"),
@@ -21,8 +24,8 @@ const STRUCTS: [(&str, &str); 11] = [
 /// The numbers that cross, as C names them.
 const NUMBERS: [(&str, &str); 4] = [("u8", "uint8_t"), ("u16", "uint16_t"), ("u32", "uint32_t"), ("usize", "size_t")];
 
-/// Parameters that C names otherwise. (`page` is a crate in the source.)
-const RENAMED: [(&str, &str); 1] = [("p", "page")];
+/// Parameters that C names otherwise. (`page` and `benches` are crates in the source.)
+const RENAMED: [(&str, &str); 2] = [("p", "page"), ("b", "benches")];
 
 /// The exported functions, the structs that cross, and the numbers of refusals, kinds, the limit and no mark, in one
 /// file.
