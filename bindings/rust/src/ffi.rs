@@ -2,7 +2,7 @@
 //!
 //! What its functions need, and why a safe caller always has it: pointers that are valid for their lengths, aligned and
 //! not null, as those of slices are, empty ones too; and buffers that do not overlap, because what a call writes to is
-//! borrowed by `&mut` or owned by its page. Any number is taken, in a page or a cursor as well.
+//! borrowed by `&mut` or owned by its page or benches. Any number is taken, in a page, benches or a cursor as well.
 
 use crate::{Refusal, Refused};
 
@@ -43,6 +43,30 @@ pub const NEVER_SAVED: usize = usize::MAX;
 pub struct Edited {
     pub answer: Numbers,
     pub page: Page,
+}
+
+#[derive(Clone, Copy, Debug)]
+#[repr(C)]
+pub struct Bench {
+    pub kind: u32,
+    pub opening: usize,
+    pub length: usize,
+    pub standing: usize,
+    pub saved: usize,
+}
+
+#[derive(Clone, Copy, Debug)]
+#[repr(C)]
+pub struct Benches {
+    pub bench0: Bench,
+    pub bench1: Bench,
+    pub used: usize,
+}
+
+#[repr(C)]
+pub struct BenchesEdited {
+    pub answer: Numbers,
+    pub benches: Benches,
 }
 
 #[repr(C)]
@@ -254,6 +278,79 @@ extern "C" {
         history: *mut u32,
         history_len: usize,
     ) -> Edited;
+
+    pub fn qalithonda_benches_open(
+        kind0: u32,
+        kind1: u32,
+        arrived0: *const u8,
+        arrived0_len: usize,
+        arrived1: *const u8,
+        arrived1_len: usize,
+        text0: *mut u32,
+        text0_len: usize,
+        text1: *mut u32,
+        text1_len: usize,
+        history: *mut u32,
+        history_len: usize,
+    ) -> BenchesEdited;
+    pub fn qalithonda_benches_replace(
+        benches: Benches,
+        bench: usize,
+        place: usize,
+        count: usize,
+        cells: *const u32,
+        cells_len: usize,
+        text0: *mut u32,
+        text0_len: usize,
+        text1: *mut u32,
+        text1_len: usize,
+        history: *mut u32,
+        history_len: usize,
+    ) -> BenchesEdited;
+    pub fn qalithonda_benches_undo(
+        benches: Benches,
+        bench: usize,
+        text0: *mut u32,
+        text0_len: usize,
+        text1: *mut u32,
+        text1_len: usize,
+        history: *const u32,
+        history_len: usize,
+    ) -> BenchesEdited;
+    pub fn qalithonda_benches_redo(
+        benches: Benches,
+        bench: usize,
+        text0: *mut u32,
+        text0_len: usize,
+        text1: *mut u32,
+        text1_len: usize,
+        history: *const u32,
+        history_len: usize,
+    ) -> BenchesEdited;
+    pub fn qalithonda_benches_save(
+        benches: Benches,
+        bench: usize,
+        text0: *const u32,
+        text0_len: usize,
+        text1: *const u32,
+        text1_len: usize,
+        history: *const u32,
+        history_len: usize,
+        arrived: *const u8,
+        arrived_len: usize,
+        out: *mut u8,
+        out_len: usize,
+    ) -> BenchesEdited;
+    pub fn qalithonda_benches_unchanged(
+        benches: Benches,
+        bench: usize,
+        text0: *const u32,
+        text0_len: usize,
+        text1: *const u32,
+        text1_len: usize,
+        history: *const u32,
+        history_len: usize,
+    ) -> Asked;
 }
 
 #[cfg(test)]
@@ -268,6 +365,9 @@ mod tests {
         assert_eq!(size_of::<Page>(), 48);
         assert_eq!(size_of::<Edited>(), 64);
         assert_eq!(size_of::<Asked>(), 24);
+        assert_eq!(size_of::<Bench>(), 40);
+        assert_eq!(size_of::<Benches>(), 88);
+        assert_eq!(size_of::<BenchesEdited>(), 104);
         assert_eq!(size_of::<Utf7Cursor>(), 32);
         assert_eq!(size_of::<Utf7Stepped>(), 72);
         assert_eq!(size_of::<Jp2Cursor>(), 24);

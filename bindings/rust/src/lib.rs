@@ -1,6 +1,7 @@
 #![doc = include_str!("../README.md")]
 #![warn(missing_docs)]
 
+mod benches;
 mod compare;
 mod ffi;
 pub mod jp2;
@@ -11,6 +12,7 @@ mod room;
 mod steps;
 pub mod utf7;
 
+pub use benches::{Bench, Benches, Letter};
 pub use compare::{Comparison, RefusedText, Text};
 pub use page::{Kind, Page};
 pub use refused::{Refusal, Refused};

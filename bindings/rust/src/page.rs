@@ -1,4 +1,5 @@
-use crate::{ffi, room, Refused, LIMIT};
+use crate::room::{self, buffer};
+use crate::{ffi, Refused, LIMIT};
 
 /// What a page is read and written as.
 #[derive(Clone, Copy, Debug, PartialEq, Eq, Hash)]
@@ -9,6 +10,13 @@ pub enum Kind {
     Utf7Body,
     /// JP-2.
     Jp2,
+}
+
+impl Kind {
+    /// Its number in C.
+    pub(crate) fn number(self) -> u32 {
+        self as u32
+    }
 }
 
 /// A letter that can be edited, undone, redone and saved, and kept in a file to go on with another day.
@@ -374,9 +382,4 @@ impl Page {
         self.numbers = edited.page;
         edited.answer.answer()
     }
-}
-
-/// One element over the limit is enough to be refused, so no more than that is allocated.
-fn buffer(room: usize) -> Vec<u32> {
-    vec![0; room.min(LIMIT + 1)]
 }

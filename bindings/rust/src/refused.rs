@@ -36,7 +36,7 @@ pub enum Refusal {
     /// Nothing to undo or redo. The place is 0.
     NothingLeft = 13,
     /// The page of a page file is not sound, or does not fit the room for text. The place is 0. (A
-    /// [`Page`](crate::Page) is always sound.)
+    /// [`Page`](crate::Page) is always sound, and so are [`Benches`](crate::Benches).)
     Unsound = 14,
     /// The arrived bytes of a page file do not read as the text, or as so many cells as the page was opened with. The
     /// place is 0. (Those of a [`Page`](crate::Page) that was opened always do.)
@@ -52,10 +52,15 @@ pub enum Refusal {
     BadPageFile = 18,
     /// Squeezed, the history would not become shorter. The place is 0.
     NoGain = 19,
+    /// There is no such bench: they are 0 and 1. The place is 0.
+    NoSuchBench = 20,
+    /// A bad word in a subject line. The place is the first byte that no line of such words can have there, or the length
+    /// if it ends early.
+    BadWord = 21,
 }
 
 impl Refusal {
-    const ALL: [Refusal; 19] = [
+    const ALL: [Refusal; 21] = [
         Refusal::HighByte,
         Refusal::LoneSign,
         Refusal::StrayByte,
@@ -75,9 +80,11 @@ impl Refusal {
         Refusal::NeedlessShift,
         Refusal::BadPageFile,
         Refusal::NoGain,
+        Refusal::NoSuchBench,
+        Refusal::BadWord,
     ];
 
-    /// Its number, 1 to 19.
+    /// Its number, 1 to 21.
     pub fn number(self) -> u32 {
         self as u32
     }
@@ -134,6 +141,8 @@ impl Display for Refused {
             Refusal::NeedlessShift => write!(f, "there is a needless shift, noticed at {place}"),
             Refusal::BadPageFile => write!(f, "it is no page file, as is seen at {place}"),
             Refusal::NoGain => write!(f, "squeezed, the history would not become shorter"),
+            Refusal::NoSuchBench => write!(f, "there is no such bench"),
+            Refusal::BadWord => write!(f, "no line of such words has the byte at {place} there, or ends there"),
         }
     }
 }
@@ -146,14 +155,20 @@ mod tests {
 
     #[test]
     fn each_number_has_its_refusal() {
-        let numbers: Vec<u32> = (0..=20).filter_map(Refusal::of).map(Refusal::number).collect();
-        assert_eq!(numbers, (1..=19).collect::<Vec<_>>());
+        let numbers: Vec<u32> = (0..=22).filter_map(Refusal::of).map(Refusal::number).collect();
+        assert_eq!(numbers, (1..=21).collect::<Vec<_>>());
     }
 
     #[test]
     fn messages_say_number_and_place() {
         let message = |refusal| Refused { refusal, place: 12 }.to_string();
-        let without_place = [Refusal::NothingLeft, Refusal::Unsound, Refusal::NotTheText, Refusal::NoGain];
+        let without_place = [
+            Refusal::NothingLeft,
+            Refusal::Unsound,
+            Refusal::NotTheText,
+            Refusal::NoGain,
+            Refusal::NoSuchBench,
+        ];
         for refusal in Refusal::ALL {
             assert!(message(refusal).starts_with(&format!("refused with {}: ", refusal.number())));
             let place_said = message(refusal).split(": ").nth(1).is_some_and(|why| why.contains("12"));
