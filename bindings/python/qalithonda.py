@@ -1,5 +1,5 @@
 """UTF-7 (RFC 2152), ISO-2022-JP-2 (RFC 1554) and mailbox names of IMAP (RFC 3501, section 5.1.3), read, written and
-stepped through, and letters of the first two edited, over libqalithonda.so.
+stepped through, and letters of the first two edited, one at a time or two over one history, over libqalithonda.so.
 
 >>> from qalithonda import utf7, jp2, mailbox
 >>> utf7.read(b"A+ImIDkQ.") == [0x41, 0x2262, 0x391, 0x2E]
@@ -19,11 +19,14 @@ import operator
 import os
 from array import array
 from pathlib import Path
-from typing import Callable, Iterable, List, NamedTuple, Optional, TypeVar, Union
+from typing import Callable, Iterable, List, NamedTuple, Optional, Tuple, TypeVar, Union
 
 __all__ = [
     "LIMIT",
+    "Bench",
+    "Benches",
     "Kind",
+    "Letter",
     "Page",
     "Part",
     "Refusal",
@@ -61,7 +64,9 @@ class Refusal(enum.IntEnum):
     BEYOND_LENGTH = 11
     HISTORY_FULL = 12  #: the step does not fit the history: the words needed in all
     NOTHING_LEFT = 13  #: nothing to undo or redo: 0
-    UNSOUND = 14  #: the page of a page file is not sound, or does not fit the room for text: 0 (a Page is always sound)
+    #: the page of a page file is not sound, or does not fit the room for text: 0 (a Page is always sound, and so are
+    #: Benches)
+    UNSOUND = 14
     #: the arrived bytes of a page file do not read as the text, or as so many cells as the page was opened with: 0
     #: (those of a Page that was opened always do)
     NOT_THE_TEXT = 15
@@ -71,6 +76,9 @@ class Refusal(enum.IntEnum):
     NEEDLESS_SHIFT = 17
     BAD_PAGE_FILE = 18  #: a bad page file: the first byte that no page file can have there, or its length
     NO_GAIN = 19  #: squeezed, the history would not become shorter: 0
+    NO_SUCH_BENCH = 20  #: no such bench, they are 0 and 1: 0
+    #: a bad word in a subject line: the first byte that no line of such words can have there, or its length
+    BAD_WORD = 21
 
 
 _MESSAGES = {
@@ -93,6 +101,8 @@ _MESSAGES = {
     Refusal.NEEDLESS_SHIFT: "there is a needless shift, noticed at {}",
     Refusal.BAD_PAGE_FILE: "it is no page file, as is seen at {}",
     Refusal.NO_GAIN: "squeezed, the history would not become shorter",
+    Refusal.NO_SUCH_BENCH: "there is no such bench",
+    Refusal.BAD_WORD: "no line of such words has the byte at {} there, or ends there",
 }
 
 
@@ -171,6 +181,18 @@ _NEVER_SAVED = _Size(-1).value
 
 class _Edited(ctypes.Structure):
     _fields_ = [("answer", _Numbers), ("page", _Page)]
+
+
+class _Bench(ctypes.Structure):
+    _fields_ = [("kind", _Word), ("opening", _Size), ("length", _Size), ("standing", _Size), ("saved", _Size)]
+
+
+class _Benches(ctypes.Structure):
+    _fields_ = [("bench0", _Bench), ("bench1", _Bench), ("used", _Size)]
+
+
+class _BenchesEdited(ctypes.Structure):
+    _fields_ = [("answer", _Numbers), ("benches", _Benches)]
 
 
 class _Asked(ctypes.Structure):
@@ -295,6 +317,13 @@ _squeeze = _function("squeeze", _Edited, _Page, _Size, *_WORDS, *_WORDS, *_WORDS
 _unchanged = _function("unchanged", _Asked, _Page, *_WORDS, *_WORDS)
 _page_keep = _function("page_keep", _Numbers, _Page, *_WORDS, *_WORDS, *_BYTES, *_OUT)
 _page_read = _function("page_read", _Edited, *_BYTES, *_OUT, *_WORDS, *_WORDS)
+_BUFFERS = (*_WORDS, *_WORDS, *_WORDS)
+_benches_open = _function("benches_open", _BenchesEdited, _Word, _Word, *_BYTES, *_BYTES, *_BUFFERS)
+_benches_replace = _function("benches_replace", _BenchesEdited, _Benches, _Size, _Size, _Size, *_WORDS, *_BUFFERS)
+_benches_undo = _function("benches_undo", _BenchesEdited, _Benches, _Size, *_BUFFERS)
+_benches_redo = _function("benches_redo", _BenchesEdited, _Benches, _Size, *_BUFFERS)
+_benches_save = _function("benches_save", _BenchesEdited, _Benches, _Size, *_BUFFERS, *_BYTES, *_OUT)
+_benches_unchanged = _function("benches_unchanged", _Asked, _Benches, _Size, *_BUFFERS)
 
 
 # From Python to C and back. ctypes would cut a number that is too large down without a word, so none gets there.
@@ -312,7 +341,7 @@ def _words(cells: Iterable[int]):
 def _size(number: int) -> int:
     number = operator.index(number)
     if not 0 <= number <= _Size(-1).value:
-        raise OverflowError("{} is not a place, count or room".format(number))
+        raise OverflowError("{} is not a place, count, room or bench".format(number))
     return number
 
 
@@ -329,6 +358,28 @@ def _filled(element, call):
     output = (element * needed)()
     _accepted(call(output, needed))
     return output
+
+
+def _saved(call, put):
+    """What put gives for the bytes of a save, and what the save gives besides."""
+    edited = None
+
+    def told(out, room):
+        nonlocal edited
+        edited = call(out, room)
+        return edited.answer
+
+    given = put(bytes(_filled(_Byte, told)))
+    return given, edited
+
+
+def _buffer(room: int):
+    # One element over the limit is enough to be refused, so no more than that is allocated.
+    return (_Word * min(_size(room), LIMIT + 1))()
+
+
+def _mark(saved: int) -> Optional[int]:
+    return None if saved == _NEVER_SAVED else saved
 
 
 def _read(function, text) -> List[int]:
@@ -659,14 +710,7 @@ class Page:
         """
         numbers = self._numbers
         lent = (numbers, *self._buffers(), self._arrived, len(self._arrived))
-        edited = _Edited()
-
-        def call(out, room):
-            nonlocal edited
-            edited = _save(*lent, out, room)
-            return edited.answer
-
-        given = put(bytes(_filled(_Byte, call)))
+        given, edited = _saved(lambda out, room: _save(*lent, out, room), put)
         # If put has changed the page after all, the bytes are not those of the page any more.
         if self._numbers is numbers:
             self._numbers = edited.page
@@ -766,12 +810,10 @@ class Page:
         """The mark: `done` when it was saved last, or 0 if it was only opened, moved along when steps before it are
         squeezed; None if a replacement dropped the steps that led there, or a squeeze folded them together with later
         ones. It is unchanged if this is what is done."""
-        return None if self._numbers.saved == _NEVER_SAVED else self._numbers.saved
+        return _mark(self._numbers.saved)
 
     def _lend(self, text_room: int, history_room: int) -> None:
-        # One element over the limit is enough to be refused, so no more than that is allocated.
-        self._text = (_Word * min(_size(text_room), LIMIT + 1))()
-        self._history = (_Word * min(_size(history_room), LIMIT + 1))()
+        self._text, self._history = _buffer(text_room), _buffer(history_room)
         self._numbers = _Page()
 
     def _buffers(self):
@@ -780,4 +822,127 @@ class Page:
     def _take(self, edited: _Edited) -> int:
         """A refused call gives the page back as it was."""
         self._numbers = edited.page
+        return _accepted(edited.answer)
+
+
+class Letter(NamedTuple):
+    """A letter that a bench is opened on: what it is read and written as, its bytes as they arrived, and the most cells
+    that its text can grow to."""
+
+    kind: Kind
+    arrived: bytes
+    text_room: int
+
+
+class Bench(NamedTuple):
+    """One of two benches, as it stands."""
+
+    kind: Kind  #: what its letter is read and written as
+    arrived: bytes  #: the bytes that it was opened on
+    text: List[int]  #: its cells
+    opening: int  #: how many cells it was opened with
+    standing: int  #: how many of its steps stand; there is one to undo if this is not 0
+    #: the mark: `standing` when it was saved last, or 0 if it was only opened; None if a replacement dropped the steps
+    #: that led there
+    saved: Optional[int]
+
+
+class Benches:
+    """Two letters that are edited, undone, redone and saved each on its own bench, 0 or 1, with one history between
+    them. What one bench does changes nothing of the other; only room is shared. They are for one thread at a time.
+
+    A bench that is neither 0 nor 1 is refused with 20.
+
+    >>> master, apprentice = Letter(Kind.UTF7_BODY, b"A+ImIDkQ.", 100), Letter(Kind.JP2, b"Hi", 100)
+    >>> benches = Benches.open(master, apprentice, 100)
+    >>> benches.replace(0, 1, 1, [0x3D]), benches.replace(1, 2, 0, [0x060021])
+    (4, 3)
+    >>> benches.undo(0), benches.replace(1, 3, 0, [0x060021])
+    (4, 4)
+    >>> benches.save(0), benches.save(1)
+    (b'A+ImIDkQ.', b'Hi!!')
+    """
+
+    def __init__(self, first: Letter, second: Letter, history_room: int) -> None:
+        kinds, arrived, rooms = zip(first, second)
+        self._arrived = tuple(map(_bytes, arrived))
+        self._texts, self._history = tuple(map(_buffer, rooms)), _buffer(history_room)
+        lent = [lent for letter in self._arrived for lent in (letter, len(letter))]
+        self._take(_benches_open(*map(Kind, kinds), *lent, *self._buffers()))
+
+    @classmethod
+    def open(cls, first: Letter, second: Letter, history_room: int) -> "Benches":
+        """Opens both benches, the first letter on bench 0 and the second on bench 1.
+
+        history_room are the words for steps of both: a step takes 4, and one for each cell that it removes or adds.
+
+        Refused as Page.open of each is, the first letter's refusals before the second's.
+        """
+        return cls(first, second, history_room)
+
+    def replace(self, bench: int, place: int, count: int, cells: Iterable[int]) -> int:
+        """Puts cells in the place of the count cells from place on in the text of this bench, and gives its new length.
+        Steps that this bench could redo are dropped, and its mark with them if it is among them; the other's stay.
+
+        Refused with 16, 20, 11, 10 (an index in cells), 9 (the new length) or 12.
+        """
+        cells = _words(cells)
+        numbers = map(_size, (bench, place, count))
+        return self._take(_benches_replace(self._numbers, *numbers, cells, len(cells), *self._buffers()))
+
+    def undo(self, bench: int) -> int:
+        """Takes this bench's last standing step back, and gives its new length. Refused with 20 or 13."""
+        return self._take(_benches_undo(self._numbers, _size(bench), *self._buffers()))
+
+    def redo(self, bench: int) -> int:
+        """Does this bench's next undone step again, and gives its new length. Refused with 20 or 13."""
+        return self._take(_benches_redo(self._numbers, _size(bench), *self._buffers()))
+
+    def save(self, bench: int) -> bytes:
+        """The bytes of this bench's letter: those that arrived if none of its steps stands, otherwise its text written
+        in its kind. The bench counts as saved from then on (`unchanged`); bytes that are still to be written to a file,
+        which may fail, are better saved by `save_with`. Refused with 20."""
+        return self.save_with(bench, lambda letter: letter)
+
+    def save_with(self, bench: int, put: Callable[[bytes], _T]) -> _T:
+        """Gives the bytes of this bench's letter to put, which writes them to where they belong, and gives what it
+        gives. If put raises, the bench stays as it was, and so does what was saved before. Put is not to change the
+        benches."""
+        numbers = self._numbers
+        # No bench has no arrived bytes.
+        arrived = self._arrived[bench] if bench in (0, 1) else b""
+        lent = (numbers, _size(bench), *self._buffers(), arrived, len(arrived))
+        given, edited = _saved(lambda out, room: _benches_save(*lent, out, room), put)
+        # If put has changed the benches after all, the bytes are not those of the letter any more.
+        if self._numbers is numbers:
+            self._numbers = edited.benches
+        return given
+
+    def unchanged(self, bench: int) -> bool:
+        """Whether this bench is as it was saved last, or opened if it was not saved since. Steps that were undone and
+        done again make no difference; the same cells put by another step do. Refused with 20."""
+        asked = _benches_unchanged(self._numbers, _size(bench), *self._buffers())
+        _accepted(asked.answer)
+        return asked.unchanged == 1
+
+    def both(self) -> Tuple[Bench, Bench]:
+        """Both benches as they stand."""
+        return self._bench(0, self._numbers.bench0), self._bench(1, self._numbers.bench1)
+
+    def history(self) -> List[int]:
+        """The records of the steps of both, one after another in the order in which they were accepted: bench, place,
+        count removed, count added, the removed cells, the added cells."""
+        return self._history[: self._numbers.used]
+
+    def _bench(self, bench: int, numbers: _Bench) -> Bench:
+        text = self._texts[bench][: numbers.length]
+        kind, saved = Kind(numbers.kind), _mark(numbers.saved)
+        return Bench(kind, self._arrived[bench], text, numbers.opening, numbers.standing, saved)
+
+    def _buffers(self):
+        return [lent for buffer in (*self._texts, self._history) for lent in (buffer, len(buffer))]
+
+    def _take(self, edited: _BenchesEdited) -> int:
+        """A refused call gives the benches back as they were."""
+        self._numbers = edited.benches
         return _accepted(edited.answer)

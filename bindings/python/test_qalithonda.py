@@ -11,7 +11,8 @@ import unittest
 from pathlib import Path
 
 import qalithonda
-from qalithonda import LIMIT, Kind, Page, Part, Refusal, Refused, RefusedText, Same, Step, Text, jp2, mailbox, utf7
+from qalithonda import LIMIT, Benches, Kind, Letter, Page, Part, Refusal, Refused, RefusedText, Same, Step, Text
+from qalithonda import jp2, mailbox, utf7
 
 HERE = Path(__file__).resolve().parent
 HEADER, BODY = utf7.Style.HEADER, utf7.Style.BODY
@@ -569,14 +570,169 @@ class Pages(Case):
             self.assertEqual((page.unchanged, page.saved is None), (saved == now, saved is None))
 
 
+class TwoBenches(Case):
+    def opened(self, history_room):
+        """P2 on bench 0 and "Hi" on bench 1, with room for five cells each."""
+        return Benches.open(Letter(Kind.UTF7_BODY, P2, 5), Letter(Kind.JP2, b"Hi", 5), history_room)
+
+    def numbers(self, benches):
+        """Opening, length and standing steps of each."""
+        return [(bench.opening, len(bench.text), bench.standing) for bench in benches.both()]
+
+    def saved(self, benches):
+        return [bench.saved for bench in benches.both()]
+
+    def test_one_goes_on_while_the_other_undoes_to_the_bottom(self):
+        benches = self.opened(30)
+        first, second = benches.both()
+        self.assertEqual((first.kind, first.arrived, first.text), (Kind.UTF7_BODY, P2, P2_CELLS))
+        self.assertEqual((second.kind, second.arrived, second.text), (Kind.JP2, b"Hi", [0x060048, 0x060069]))
+        self.assertEqual((self.numbers(benches), benches.history()), ([(4, 4, 0), (2, 2, 0)], []))
+        self.assertEqual((benches.unchanged(0), benches.unchanged(1)), (True, True))
+
+        calls = (0, 1, 1, [0x3D]), (1, 2, 0, [0x060021]), (0, 4, 0, [0x21])
+        self.assertEqual([benches.replace(*call) for call in calls], [4, 3, 5])
+        records = [0, 1, 1, 1, 0x2262, 0x3D, 1, 2, 0, 1, 0x060021, 0, 4, 0, 1, 0x21]
+        self.assertEqual((self.numbers(benches), benches.history()), ([(4, 5, 2), (2, 3, 1)], records))
+
+        # Bench 0 to the bottom, bench 1 one step on: the undone steps stay where they are.
+        self.assertEqual((benches.undo(0), benches.undo(0)), (4, 4))
+        self.refused(13, 0, benches.undo, 0)
+        self.assertEqual(benches.replace(1, 3, 0, [0x060021]), 4)
+        self.assertEqual(benches.history(), records + [1, 3, 0, 1, 0x060021])
+        self.assertEqual((self.numbers(benches), benches.both()[0].text), ([(4, 4, 0), (2, 4, 2)], P2_CELLS))
+        self.assertEqual((benches.unchanged(0), benches.unchanged(1)), (True, False))
+
+        # Bench 0 does one again, and replaces: its other undone step is dropped from between those of bench 1.
+        self.assertEqual((benches.redo(0), benches.replace(0, 0, 1, [0x42])), (4, 4))
+        left = records[:11] + [1, 3, 0, 1, 0x060021, 0, 0, 1, 1, 0x41, 0x42]
+        self.assertEqual((self.numbers(benches), benches.history()), ([(4, 4, 2), (2, 4, 2)], left))
+        self.assertEqual((benches.save(0), benches.save(1), self.saved(benches)), (b"B=+A5E-.", b"Hi!!", [2, 2]))
+
+    def test_each_bench_has_its_own_mark(self):
+        benches = self.opened(30)
+        benches.replace(0, 1, 1, [0x3D])
+        self.assertEqual((benches.save(1), self.saved(benches), benches.unchanged(0)), (b"Hi", [0, 0], False))
+        self.assertEqual((benches.save(0), self.saved(benches), benches.unchanged(0)), (b"A=+A5E-.", [1, 0], True))
+        benches.replace(1, 0, 1, [])
+        self.assertEqual((benches.unchanged(0), benches.unchanged(1)), (True, False))
+        benches.undo(0)
+        benches.replace(0, 0, 0, [])
+        self.assertEqual((self.saved(benches), benches.unchanged(0)), ([None, 0], False))
+
+    def test_bytes_that_were_not_put_do_not_count_as_saved(self):
+        benches = self.opened(30)
+        benches.replace(0, 1, 1, [0x3D])
+        with self.assertRaises(ZeroDivisionError):
+            benches.save_with(0, lambda letter: 1 // 0)
+        self.assertFalse(benches.unchanged(0))
+        put = []
+        self.assertIsNone(benches.save_with(0, put.append))
+        self.assertEqual((benches.unchanged(0), put), (True, [b"A=+A5E-."]))
+        # What is put is not to change the benches; if it does, they are still sound.
+        benches.save_with(0, lambda letter: benches.replace(0, 0, 1, []))
+        self.assertEqual((self.saved(benches), benches.unchanged(0)), ([1, 0], False))
+
+    def test_room_is_all_that_they_share(self):
+        benches = self.opened(11)
+        benches.replace(0, 1, 1, [0x3D])
+        benches.replace(1, 2, 0, [0x060021])
+        self.refused(12, 16, benches.replace, 1, 3, 0, [0x060021])
+        # What the other could redo stays, and takes its room; what the caller could redo is dropped.
+        benches.undo(0)
+        self.refused(12, 16, benches.replace, 1, 3, 0, [0x060021])
+        self.refused(9, 6, benches.replace, 0, 0, 0, [0x41, 0x41])
+        self.refused(12, 12, benches.replace, 0, 0, 2, [0x41])
+        self.assertEqual(benches.replace(0, 0, 1, [0x42]), 4)
+        self.assertEqual(benches.history(), [1, 2, 0, 1, 0x060021, 0, 0, 1, 1, 0x41, 0x42])
+
+    def test_there_are_two_benches(self):
+        benches = self.opened(30)
+        for bench in (2, 2**64 - 1):
+            self.refused(20, 0, benches.replace, bench, 9, 9, [])
+            for call in (benches.undo, benches.redo, benches.save, benches.unchanged):
+                self.refused(20, 0, call, bench)
+            self.refused(16, LIMIT, benches.replace, bench, 0, 0, [0] * (LIMIT + 1))
+        for bench in (-1, 2**64, 2**64 + 1):
+            for call in (benches.undo, benches.redo, benches.save, benches.unchanged):
+                with self.assertRaises(OverflowError):
+                    call(bench)
+            with self.assertRaises(OverflowError):
+                benches.replace(bench, 0, 0, [])
+        self.assertEqual((self.numbers(benches), benches.history()), ([(4, 4, 0), (2, 2, 0)], []))
+
+    def test_open_is_refused_as_two_opens_would_be(self):
+        good = Letter(Kind.UTF7_BODY, P2, 4)
+        faults = (
+            (Letter(Kind.UTF7_BODY, b"+AKN-", 9), 4, 4),
+            (Letter(Kind.JP2, P9[:5], 9), 8, 5),
+            (Letter(Kind.UTF7_HEADER, P2, 3), 9, 4),
+            (Letter(Kind.UTF7_BODY, b"", LIMIT + 1), 16, LIMIT),
+            (Letter(Kind.UTF7_BODY, b"", 2**64 - 1), 16, LIMIT),
+        )
+        for bad, number, place in faults:
+            self.refused(number, place, Benches.open, bad, good, 9)
+            self.refused(number, place, Benches.open, good, bad, 9)
+            for other, _, _ in faults:
+                self.refused(number, place, Benches.open, bad, other, 9)
+        self.refused(16, LIMIT, Benches.open, good, good, LIMIT + 1)
+        empty = Letter(Kind.JP2, b"", 0)
+        self.assertEqual(self.numbers(Benches.open(empty, empty, 0)), [(0, 0, 0), (0, 0, 0)])
+        with self.assertRaises(ValueError):
+            Benches.open(good, Letter(3, P2, 9), 9)
+
+    def test_seeded_calls_agree_with_a_page_for_each(self):
+        rng = random.Random(1554)
+        for _ in range(20):
+            self.follow((Kind.UTF7_HEADER, Kind.UTF7_BODY), rng)
+            self.follow((Kind.UTF7_BODY, Kind.JP2), rng)
+
+    def follow(self, kinds, rng):
+        """Each bench does what a page of its own, with room for all steps, does with the same calls; the words used are
+        those of both pages, and one more for each step."""
+        benches = Benches.open(*(Letter(kind, P2, 12) for kind in kinds), 80)
+        pages = [Page.open(kind, P2, 12, 9999) for kind in kinds]
+        for _ in range(100):
+            bench = rng.randrange(2)
+            call, arguments = rng.choice(("undo", "redo", "save", "replace", "replace", "replace")), ()
+            if call == "replace":
+                cells = [0x41, 0x3D, 0x2262, 0xFFFF, 0x10000]
+                if kinds[bench] == Kind.JP2:
+                    cells = [0x060041, 0x06000D, 0x06000A, 0x572422, 0x640041, 0x41]
+                arguments = rng.randrange(14), rng.randrange(4), rng.choices(cells, k=rng.randrange(4))
+            answer = self.outcome(getattr(benches, call), bench, *arguments)
+            if isinstance(answer, tuple) and answer[0] == Refusal.HISTORY_FULL:
+                self.assertGreater(answer[1], 80)
+            else:
+                self.assertEqual(answer, self.outcome(getattr(pages[bench], call), *arguments))
+            for at, (page, here) in enumerate(zip(pages, benches.both())):
+                self.assertEqual((here.text, benches.unchanged(at)), (page.text(), page.unchanged))
+                self.assertEqual(here.saved is None, page.saved is None)
+            words = sum(page.used for page in pages) + self.steps(benches.history())
+            self.assertEqual(len(benches.history()), words)
+
+    def outcome(self, call, *arguments):
+        try:
+            return call(*arguments)
+        except Refused as refused:
+            return refused.number, refused.place
+
+    def steps(self, history):
+        """How many steps the records are of."""
+        count = at = 0
+        while at < len(history):
+            at += 4 + history[at + 2] + history[at + 3]
+            count += 1
+        return count
+
+
 class Refusals(Case):
     def test_each_number_has_its_name_and_message(self):
-        self.assertEqual([refusal.value for refusal in Refusal], [*range(1, 20)])
+        self.assertEqual([refusal.value for refusal in Refusal], [*range(1, 22)])
         for refusal in Refusal:
             message = str(Refused(int(refusal), 12))
             self.assertTrue(message.startswith("refused with {}: ".format(int(refusal))), message)
-            placeless = (Refusal.NOTHING_LEFT, Refusal.UNSOUND, Refusal.NOT_THE_TEXT, Refusal.NO_GAIN)
-            without_place = refusal in placeless
+            without_place = refusal.name in ("NOTHING_LEFT", "UNSOUND", "NOT_THE_TEXT", "NO_GAIN", "NO_SUCH_BENCH")
             self.assertEqual("12" not in message.split(": ")[1], without_place, message)
 
     def test_a_refusal_can_be_pickled(self):
@@ -594,6 +750,9 @@ class Loading(unittest.TestCase):
             qalithonda._Page: 48,
             qalithonda._Edited: 64,
             qalithonda._Asked: 24,
+            qalithonda._Bench: 40,
+            qalithonda._Benches: 88,
+            qalithonda._BenchesEdited: 104,
             qalithonda._Compared: 48,
             qalithonda._Utf7Cursor: 32,
             qalithonda._Utf7Stepped: 72,

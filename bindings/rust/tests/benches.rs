@@ -140,8 +140,8 @@ fn below(seed: &mut u64, bound: usize) -> usize {
     (*seed % bound as u64) as usize
 }
 
-/// Each bench does what a page of its own, with room for all steps, does with the same calls; the words used are those of
-/// both pages, and one more for each step.
+/// Each bench does what a page of its own, with room for all steps, does with the same calls; the words used are those
+/// of both pages, and one more for each step.
 fn follow(kinds: [Kind; 2], seed: &mut u64) {
     const ROOM: usize = 80;
     let mut benches = Benches::open(kinds.map(|kind| letter(kind, P2, 12)), ROOM).unwrap();
