@@ -40,9 +40,8 @@ edited-on r e text0 text1 history out o h q =
     ∙ ap hosted q
 
 -- an open by numbers of kinds; `b` are the benches of an open that is refused
-module _
-  (kind0 kind1 : ℕ) (arrived0 arrived1 text0 text1 history : List ℕ) (b : HostBenches) (q : b ≡ unopened kind0 kind1)
-  where
+module _ (kind0 kind1 : ℕ) (arrived0 arrived1 text0 text1 history : List ℕ) (b : HostBenches)
+    (q : b ≡ unopened kind0 kind1) where
   pub none-opened :
       (a : Numbers) → noKindIn b ≡ true →
       verdictIn a
