@@ -1,1 +1,2 @@
 pub mod OnBenches
+pub mod Runs

@@ -35,7 +35,7 @@ edited-on r e text history out o h q =
     (λ i. record { verdict = h .0 i; page = h .1 i; text = text; history = history; output = out }) ∙ ap hosted q
 
 -- a kind number of a kind is the number of that kind
-kind-back : (k : ℕ) → k ≤ 2 → kindNumber (kindOf k) ≡ k
+pub kind-back : (k : ℕ) → k ≤ 2 → kindNumber (kindOf k) ≡ k
 unfolding kindNumber kindOf allBelow
 kind-back k h = eqb-true (kindNumber (kindOf k)) k (below (λ j. eqb (kindNumber (kindOf j)) j) 3 refl k (omega arith))
 

@@ -45,7 +45,7 @@ kind-there Utf7Header = refl
 kind-there Utf7Body = refl
 kind-there Jp2 = refl
 
-kind-few : (k : Kind) → ltb 2 (kindNumber k) ≡ false
+pub kind-few : (k : Kind) → ltb 2 (kindNumber k) ≡ false
 unfolding kindNumber
 kind-few Utf7Header = refl
 kind-few Utf7Body = refl
