@@ -1,12 +1,12 @@
 //! A list of calls in the making. What is chosen next depends on the state that the second program says is reached.
 
+use super::view::{self, changed, changed_index, room, View};
 use super::{Change, List, Move, Reading, Sort};
 use crate::rng::Rng;
 use crate::second::page::{self, mark_of, Page, State};
 use crate::second::page_file::{self, Content, FORM_1, FORM_2};
 use crate::second::squeeze::squeeze;
 use crate::second::{Call, Kind};
-use crate::texts::{self, Source};
 
 #[derive(Clone)]
 pub struct Draft {
@@ -84,8 +84,8 @@ impl Draft {
 
     fn call(&self, rng: &mut Rng, sort: Sort) -> Call {
         match sort {
-            Sort::Open(kind) => Call::Open { kind, arrived: self.lent_bytes(rng) },
-            Sort::Replace => self.replace(rng),
+            Sort::Open(kind) => Call::Open { kind, arrived: self.view().lent_bytes(rng) },
+            Sort::Replace => self.view().replace(rng),
             Sort::Undo => Call::Undo,
             Sort::Redo => Call::Redo,
             Sort::Save => self.save(rng),
@@ -111,60 +111,19 @@ impl Draft {
         self.list.moves.push(Move::Change(change));
     }
 
-    fn source(&self) -> &'static Source {
-        texts::of_kind(self.kind)
-    }
-
-    /// The text on the page, if its length can be believed.
-    fn text(&self) -> &[u32] {
-        self.state.text.get(..self.state.page.length).unwrap_or(&self.state.text)
-    }
-
-    fn replace(&self, rng: &mut Rng) -> Call {
-        let (place, count) = self.part(rng);
-        Call::Replace { place, count, cells: self.cells(rng, count) }
-    }
-
-    /// A place and a count: of a part of the text, of one that ends a little beyond it, or of one far beyond it.
-    fn part(&self, rng: &mut Rng) -> (usize, usize) {
-        let length = self.text().len();
-        let place = rng.below(length + 1);
-        match rng.below(16) {
-            0..=7 => (place, rng.below(4).min(length - place)),
-            8..=9 => (place, rng.below(length - place + 1)),
-            10 => (0, length),
-            11..=12 => (length, 0),
-            13 => (place, length - place + rng.between(1, 3)),
-            14 => (length + rng.between(1, 3), 0),
-            _ => far(rng, place),
-        }
-    }
-
-    /// Cells to add in place of so many: a few, or as many as the text buffer or the history just holds or just does
-    /// not. Some lists have cells that are not writable.
-    fn cells(&self, rng: &mut Rng, removed: usize) -> Vec<u32> {
+    fn view(&self) -> View<'_> {
         let State { page, text, history } = &self.state;
-        let room = (text.len() - self.text().len()).saturating_add(removed);
-        let words = history.len().saturating_sub(page.done.saturating_add(3).saturating_add(removed));
-        let near = |rng: &mut Rng, number: usize| (number.min(text.len()) + rng.below(3)).saturating_sub(1);
-        let count = match rng.below(12) {
-            0..=6 => rng.below(4),
-            7..=9 => rng.below(text.len() / 4 + 4),
-            10 => near(rng, room),
-            _ => near(rng, words),
-        };
-        let mut cells = (self.source().cells)(rng, count);
-        if !cells.is_empty() && rng.one_in(8) {
-            let index = rng.below(cells.len());
-            cells[index] = (self.source().unwritable)(rng);
+        View {
+            kind: self.kind,
+            arrived: &self.arrived,
+            text: text.get(..page.length).unwrap_or(text),
+            cells: text.len(),
+            words: history.len().saturating_sub(page.done.saturating_add(3)),
         }
-        cells
     }
 
     fn save(&self, rng: &mut Rng) -> Call {
-        let arrived = self.lent_bytes(rng);
-        let needed = page::save(&self.state, &arrived).map_or(arrived.len(), |saved| saved.len());
-        Call::Save { arrived, room: room(rng, needed) }
+        self.view().save(rng, |arrived| page::save(&self.state, arrived))
     }
 
     /// A squeeze, most often of some of the steps that stand; with about the words to work in that it needs.
@@ -185,7 +144,7 @@ impl Draft {
         let arrived = match rng.below(8) {
             0..=4 => self.arrived.clone(),
             5 if self.state.page.opening <= 1_000 => vec![b'a'; self.state.page.opening],
-            _ => self.lent_bytes(rng),
+            _ => self.view().lent_bytes(rng),
         };
         let needed = page_file::keep(&self.state, &arrived).map_or(200, |file| file.len());
         Call::Keep { arrived, room: room(rng, needed) }
@@ -232,23 +191,6 @@ impl Draft {
         content.file_in(form)
     }
 
-    /// Bytes to lend as arrived: those that were opened, others that read as the text, or others still.
-    fn lent_bytes(&self, rng: &mut Rng) -> Vec<u8> {
-        let written = self.kind.write(self.text()).unwrap_or_default();
-        match rng.below(12) {
-            0..=4 => self.arrived.clone(),
-            5..=6 => written,
-            7 => [self.source().needless, &self.arrived].concat(),
-            8 => [self.source().needless, &written].concat(),
-            9..=10 => {
-                let mut damaged = self.arrived.clone();
-                self.source().damage(rng, &mut damaged);
-                damaged
-            }
-            _ => self.source().text(rng, 12),
-        }
-    }
-
     fn change(&self, rng: &mut Rng) -> Change {
         let State { page, text, history } = &self.state;
         match rng.below(14) {
@@ -272,74 +214,8 @@ impl Draft {
     /// A number to put in the place of one of the page's: near it, one of the others, at the end of a buffer, or far.
     fn number(&self, rng: &mut Rng, number: usize) -> usize {
         let State { page: Page { opening, length, used, done, saved, .. }, text, history } = &self.state;
-        let little = rng.between(1, 5);
-        match rng.below(7) {
-            0 => 0,
-            1 => number.wrapping_add(little),
-            2 => number.saturating_sub(little),
-            3 => rng.pick(&[*opening, *length, *used, *done, saved.unwrap_or(0)]),
-            4 => text.len() + rng.below(2),
-            5 => history.len() + rng.below(2),
-            // Numbers that come to little, or to the old one, if they are cut off at 32 bits or added to.
-            _ => rng.pick(&[usize::MAX, usize::MAX - little, 1 << 32, number.wrapping_add(1 << 32)]),
-        }
-    }
-}
-
-/// Room for so many bytes, or a little less or more.
-fn room(rng: &mut Rng, needed: usize) -> usize {
-    match rng.below(8) {
-        0..=3 => needed,
-        4 => needed.saturating_sub(1),
-        5 => rng.below(needed + 1),
-        _ => needed + rng.between(1, 20),
-    }
-}
-
-/// A place and a count that lie far beyond any text; some of the sums are too large for the machine, and come to little
-/// if they are cut off at 64 or at 32 bits.
-fn far(rng: &mut Rng, near: usize) -> (usize, usize) {
-    let small = rng.below(3);
-    rng.pick(&[
-        (usize::MAX, usize::MAX),
-        (usize::MAX, 0),
-        (0, usize::MAX),
-        (near + 1, usize::MAX - small),
-        (usize::MAX - small, 1 + small),
-        (usize::MAX / 2 + 1, usize::MAX / 2 + 1),
-        ((1 << 32) + near, 0),
-        (near, 1 << 32),
-        ((1 << 32) - 1, 1 + near),
-    ])
-}
-
-/// The index of an element to change: most often one of those before the end of what a buffer holds, or one directly
-/// after it.
-fn changed_index(rng: &mut Rng, end: usize, length: usize) -> usize {
-    let end = end.min(length);
-    match rng.below(6) {
-        0..=3 if end > 0 => rng.below(end),
-        4 if end < length => end,
-        _ => rng.below(length),
-    }
-}
-
-/// Another word in the place of this one.
-fn changed(rng: &mut Rng, word: u32) -> u32 {
-    let other = match rng.below(9) {
-        0 => 0,
-        1 => 1,
-        2 => word.wrapping_add(1),
-        3 => word.wrapping_sub(1),
-        4 => rng.below(60) as u32,
-        5 => u32::MAX,
-        6 => u32::MAX - rng.below(12) as u32,
-        7 => 1 << 31,
-        _ => rng.next() as u32,
-    };
-    if other == word {
-        word ^ 1
-    } else {
-        other
+        let of_page = rng.pick(&[*opening, *length, *used, *done, saved.unwrap_or(0)]);
+        let others = [of_page, text.len() + rng.below(2), history.len() + rng.below(2)];
+        view::number(rng, number, &others)
     }
 }

@@ -79,7 +79,7 @@ pub fn any(rng: &mut Rng, kind: Kind) -> Draft {
 }
 
 /// A number that is often small, or not much over this one.
-fn any_number(rng: &mut Rng, near: usize) -> u64 {
+pub(super) fn any_number(rng: &mut Rng, near: usize) -> u64 {
     match rng.below(6) {
         0 => 0,
         1..=2 => rng.below(4) as u64,
@@ -121,15 +121,19 @@ impl Making {
         }
     }
 
-    /// So many cells; where they need not be writable, some are not.
     fn contents(&self, rng: &mut Rng, count: usize) -> Vec<u32> {
-        let source = texts::of_kind(self.kind);
-        let mut cells = (source.cells)(rng, count);
-        for cell in cells.iter_mut().filter(|_| !self.writable) {
-            if rng.one_in(6) {
-                *cell = (source.unwritable)(rng);
-            }
-        }
-        cells
+        contents(rng, self.kind, self.writable, count)
     }
+}
+
+/// So many cells; where they need not be writable, some are not.
+pub(super) fn contents(rng: &mut Rng, kind: Kind, writable: bool, count: usize) -> Vec<u32> {
+    let source = texts::of_kind(kind);
+    let mut cells = (source.cells)(rng, count);
+    for cell in cells.iter_mut().filter(|_| !writable) {
+        if rng.one_in(6) {
+            *cell = (source.unwritable)(rng);
+        }
+    }
+    cells
 }

@@ -1,5 +1,6 @@
 //! Lists of calls to try the page on, and page files.
 
+pub mod benches;
 mod draft;
 pub mod files;
 pub mod limit;
@@ -7,6 +8,7 @@ mod made;
 pub mod marks;
 pub mod seeded;
 pub mod squeezes;
+mod view;
 
 use std::fmt::{self, Display, Formatter};
 use std::ops::Range;
@@ -145,7 +147,7 @@ impl Display for Page {
     }
 }
 
-fn show_mark(saved: Option<usize>) -> String {
+pub(super) fn show_mark(saved: Option<usize>) -> String {
     saved.map_or("no mark".to_string(), |words| format!("the mark at {words}"))
 }
 

@@ -182,7 +182,7 @@ fn open(rng: &mut Rng, kind: Kind, size: Size) -> Draft {
 }
 
 /// A text that is read into at most so many cells.
-fn fitting(rng: &mut Rng, kind: Kind, cells: usize) -> Vec<u8> {
+pub(super) fn fitting(rng: &mut Rng, kind: Kind, cells: usize) -> Vec<u8> {
     loop {
         let length = rng.below(2 * cells + 4);
         let text = (texts::of_kind(kind).whole)(rng, length);

@@ -1,5 +1,6 @@
 //! The checks: what the built programs give, compared with the papers and with the second program.
 
+mod benches;
 mod call;
 mod cursors;
 mod desk;
@@ -50,6 +51,7 @@ pub fn parts(settings: Settings) -> Vec<Part> {
     parts.extend(page::parts(seed));
     parts.extend(page_file::parts(seed));
     parts.extend(squeeze::parts(seed));
+    parts.extend(benches::parts(seed));
     parts.extend(memory::parts(settings));
     parts.extend(desk::parts(seed));
     parts.push(Part::aside("peers", move |report| peers::run(report, seed)));

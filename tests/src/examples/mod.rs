@@ -1,5 +1,6 @@
 //! Texts and cells for which the papers say what is given, so that no program is needed to know it.
 
+pub mod benches;
 pub mod compare;
 pub mod desk;
 pub mod jp2;

@@ -1,5 +1,6 @@
 //! The C interface of libqalithonda.a, in safe functions on slices.
 
+pub mod benches;
 pub mod compare;
 pub mod page;
 pub mod page_file;

@@ -17,7 +17,7 @@ pub struct RawPage {
 }
 
 /// QALITHONDA_NEVER_SAVED: no mark. Every other number is one.
-const NEVER_SAVED: usize = usize::MAX;
+pub(super) const NEVER_SAVED: usize = usize::MAX;
 
 impl From<Page> for RawPage {
     fn from(Page { kind, opening, length, used, done, saved }: Page) -> RawPage {
@@ -38,9 +38,9 @@ pub struct RawEdited {
 }
 
 #[repr(C)]
-struct RawAsked {
-    answer: RawAnswer,
-    unchanged: u32,
+pub(super) struct RawAsked {
+    pub(super) answer: RawAnswer,
+    pub(super) unchanged: u32,
 }
 
 type RawOpen = unsafe extern "C" fn(*const u8, usize, *mut u32, usize, *mut u32, usize) -> RawEdited;

@@ -157,6 +157,14 @@ impl Record {
         [&counts, &self.removed[..], &self.added].concat()
     }
 
+    /// The record that these words begin with, if they hold one, and the words behind it.
+    pub(super) fn first_of(words: &[u32]) -> Option<(Record, &[u32])> {
+        let (&[place, removed, added], rest) = words.split_first_chunk()?;
+        let (removed, rest) = rest.split_at_checked(removed as usize)?;
+        let (added, rest) = rest.split_at_checked(added as usize)?;
+        Some((Record { place: place as usize, removed: removed.to_vec(), added: added.to_vec() }, rest))
+    }
+
     /// The text with this step done.
     pub fn done_on(&self, text: &[u32]) -> Vec<u32> {
         [&text[..self.place], &self.added, &text[self.place + self.removed.len()..]].concat()
@@ -172,10 +180,8 @@ impl Record {
 fn records(mut words: &[u32]) -> Option<Vec<Record>> {
     let mut records = Vec::new();
     while !words.is_empty() {
-        let (&[place, removed, added], rest) = words.split_first_chunk()?;
-        let (removed, rest) = rest.split_at_checked(removed as usize)?;
-        let (added, rest) = rest.split_at_checked(added as usize)?;
-        records.push(Record { place: place as usize, removed: removed.to_vec(), added: added.to_vec() });
+        let (record, rest) = Record::first_of(words)?;
+        records.push(record);
         words = rest;
     }
     Some(records)
@@ -220,7 +226,7 @@ pub fn sound(state: &State) -> Option<Sound> {
 
 /// The start and where each record ends, with "the text length reached so far from the opening length"; none if not
 /// "each record's removed part lies within" that length.
-fn reached(opening: usize, records: &[Record]) -> Option<Vec<(usize, usize)>> {
+pub(super) fn reached(opening: usize, records: &[Record]) -> Option<Vec<(usize, usize)>> {
     let mut reached = vec![(0, opening)];
     let (mut end, mut length) = (0, opening);
     for record in records {
@@ -247,13 +253,13 @@ pub(super) fn all_within_limit(state: &State, list: usize) -> Result<(), Answer>
 }
 
 /// This list, and zeros up to this length.
-fn padded(mut list: Vec<u32>, length: usize) -> Vec<u32> {
+pub(super) fn padded(mut list: Vec<u32>, length: usize) -> Vec<u32> {
     list.resize(length, 0);
     list
 }
 
 /// "**Open** reads the arrived bytes into the text. Nothing stands; history is all 0."
-fn open(state: &State, kind: Kind, arrived: &[u8]) -> Result<State, Answer> {
+pub(super) fn open(state: &State, kind: Kind, arrived: &[u8]) -> Result<State, Answer> {
     all_within_limit(state, arrived.len())?;
     let cells = kind.read(arrived)?;
     if cells.len() > state.text.len() {
@@ -313,7 +319,7 @@ fn redo(state: &State) -> Result<State, Answer> {
 }
 
 /// "13 | nothing to undo or redo | 0"
-const NOTHING: Answer = Answer { number: 13, place: 0 };
+pub(super) const NOTHING: Answer = Answer { number: 13, place: 0 };
 
 /// The state with this text, at these words done.
 fn moved(state: &State, text: Vec<u32>, done: usize) -> State {
