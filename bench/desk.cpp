@@ -22,3 +22,34 @@ std::vector<size_t> scattered(size_t cells) {
     for (size_t i = cells; i > 1; i--) std::swap(places[i - 1], places[rng.between(0, i - 1)]);
     return places;
 }
+
+std::function<void()> one_open(SharedDesk desk) {
+    return [desk] { desk->open(); };
+}
+
+std::function<void()> one_replace(SharedDesk desk) {
+    // No step of a desk falls there: rooms are powers of 2.
+    return [desk, place = desk->room / 2 + 1] {
+        desk->replace(desk->page, place, 1, desk->kind->second);
+        desk->take_off(place, desk->kind->first);
+    };
+}
+
+std::function<void()> one_undo(SharedDesk desk) {
+    return [desk] {
+        desk->undo(desk->page);
+        desk->text[desk->last] = desk->kind->second;
+    };
+}
+
+std::function<void()> one_redo(SharedDesk desk) {
+    const qalithonda_page undone = desk->undo(desk->page).page;
+    return [desk, undone] {
+        desk->redo(undone);
+        desk->text[desk->last] = desk->kind->first;
+    };
+}
+
+std::function<void()> one_save(SharedDesk desk) {
+    return [desk] { desk->save(); };
+}

@@ -2,6 +2,7 @@
 #pragma once
 
 #include <algorithm>
+#include <functional>
 #include <memory>
 #include <string>
 #include <vector>
@@ -114,3 +115,11 @@ using SharedDesk = std::shared_ptr<Desk>;
 
 // Each row has a desk of its own, a copy of one that was made once.
 inline SharedDesk copy_of(const Desk &desk) { return std::make_shared<Desk>(desk); }
+
+// One call, made so that it can be made again: what it did is put back by hand, at no cost. A replace puts one cell for
+// one in the middle.
+std::function<void()> one_open(SharedDesk desk);
+std::function<void()> one_replace(SharedDesk desk);
+std::function<void()> one_undo(SharedDesk desk);
+std::function<void()> one_redo(SharedDesk desk);
+std::function<void()> one_save(SharedDesk desk);

@@ -7,6 +7,7 @@
 #include <memory>
 
 #include "agree.h"
+#include "benches.h"
 #include "instructions.h"
 #include "machine.h"
 #include "page.h"
@@ -132,10 +133,10 @@ static void measure_all(const Options &o) {
     }
     for (const Row &row : page_rows()) take(row);
     for (const Row &row : page_file_rows()) take(row);
+    for (const Row &row : bench_rows()) take(row);
     for (const Table &table : {ratio_table(all), reading_table(all), writing_table(all), stepping_table(all),
                                comparing_table(all), page_table(all), growth_table(all), squeeze_table(all), page_file_table(all),
-                               limit_table(all),
-                               agreement_table(agreements)})
+                               bench_table(all), limit_table(all), agreement_table(agreements)})
         print(table, o.markdown);
     if (o.parties) print(parties_table(all), o.markdown);
     std::printf("\n%zu runs of at least %.0f ms for each party, in turn, after a warm-up; medians.\n", o.effort.runs,

@@ -24,21 +24,14 @@ static Row row(SharedDesk desk, const std::string &size, const std::string &call
     return {{desk->kind->name, size, call, bytes, desk->page.length}, {{"ours", std::move(ours)}, plain_pass(desk)}};
 }
 
-// The middle of the page, where no step of Desk falls: rooms are powers of 2.
-static size_t middle(const Desk &desk) { return desk.room / 2 + 1; }
-
 static Row opening(const Desk &made, const std::string &size) {
     SharedDesk desk = copy_of(made);
-    return row(desk, size, "open", [desk] { desk->open(); });
+    return row(desk, size, "open", one_open(desk));
 }
 
-// One cell for one in the middle.
 static Row replacing(const Desk &made, const std::string &size) {
     SharedDesk desk = copy_of(made);
-    return row(desk, size, "replace", [desk, place = middle(made)] {
-        desk->replace(desk->page, place, 1, desk->kind->second);
-        desk->take_off(place, desk->kind->first);
-    });
+    return row(desk, size, "replace", one_replace(desk));
 }
 
 // A cell put in before all others, and undone: two calls, and every cell moves twice.
@@ -50,13 +43,6 @@ static Row putting_in(const Desk &made, const std::string &size) {
     });
 }
 
-static std::function<void()> one_undo(SharedDesk desk) {
-    return [desk] {
-        desk->undo(desk->page);
-        desk->text[desk->last] = desk->kind->second;
-    };
-}
-
 static Row undoing(const Desk &made, const std::string &size) {
     SharedDesk desk = copy_of(made);
     return row(desk, size, "undo", one_undo(desk));
@@ -64,16 +50,12 @@ static Row undoing(const Desk &made, const std::string &size) {
 
 static Row redoing(const Desk &made, const std::string &size) {
     SharedDesk desk = copy_of(made);
-    const qalithonda_page undone = desk->undo(desk->page).page;
-    return row(desk, size, "redo", [desk, undone] {
-        desk->redo(undone);
-        desk->text[desk->last] = desk->kind->first;
-    });
+    return row(desk, size, "redo", one_redo(desk));
 }
 
 static Row saving(const Desk &made, const std::string &size) {
     SharedDesk desk = copy_of(made);
-    return row(desk, size, "save", [desk] { desk->save(); });
+    return row(desk, size, "save", one_save(desk));
 }
 
 // The oldest half of 10,000 steps, in buffers of so many.

@@ -185,6 +185,21 @@ Table page_file_table(const std::vector<Measured> &all) {
     return table;
 }
 
+Table bench_table(const std::vector<Measured> &all) {
+    Table table{"Both benches, against a single page", {"kind", "history", "call", "ours µs", "page µs", "ours/page"}, {}, {}};
+    for (const Measured &m : all) {
+        const Timed *page = times_of(m.timed, "single page");
+        if (!page) continue;
+        const Timed &ours = *times_of(m.timed, "ours");
+        table.lines.push_back({m.task.subject, m.task.size, m.task.call, fixed(median(ours.seconds) * 1e6, 1),
+                               fixed(median(page->seconds) * 1e6, 1), shown(faster_by(ours, *page))});
+    }
+    table.notes = {"A call of bench 0 against the same call of a page with as many cells and steps: 1,048,576 cells, and a "
+                   "history of 1,048,576 words.",
+                   "One bench: it has all cells and steps, and the other an empty letter. In turn: each has half of both."};
+    return table;
+}
+
 Table parties_table(const std::vector<Measured> &all) {
     Table table{"Every party by itself", {"row", "party", "MB/s", "slowest", "fastest"}, {}, {}};
     for (const Measured &m : all) {

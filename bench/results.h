@@ -25,6 +25,7 @@ Table page_table(const std::vector<Measured> &all);
 Table growth_table(const std::vector<Measured> &all);
 Table squeeze_table(const std::vector<Measured> &all);
 Table page_file_table(const std::vector<Measured> &all);
+Table bench_table(const std::vector<Measured> &all);
 
 // Every party by itself.
 Table parties_table(const std::vector<Measured> &all);

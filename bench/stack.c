@@ -17,6 +17,8 @@ static uint8_t letter[LIMIT], out[8 * LIMIT], file[20 * LIMIT];
 static uint32_t cells[LIMIT], text[LIMIT], history[LIMIT], work[LIMIT], counts[9];
 static size_t size, count, kept;
 static qalithonda_page page;
+static uint32_t other[LIMIT];
+static qalithonda_benches benches;
 
 static void nothing(void) {}
 
@@ -67,6 +69,31 @@ static void unchanged(void) { qalithonda_unchanged(page, text, LIMIT, history, L
 static void keep(void) { kept = qalithonda_page_keep(page, text, LIMIT, history, LIMIT, letter, size, file, sizeof file).place; }
 static void read_back(void) { page = qalithonda_page_read(file, kept, out, LIMIT, text, LIMIT, history, LIMIT).page; }
 
+static void benches_open(void) {
+    benches = qalithonda_benches_open(QALITHONDA_UTF7_BODY, QALITHONDA_UTF7_BODY, letter, size, letter, size, text, LIMIT,
+                                      other, LIMIT, history, LIMIT)
+                  .benches;
+}
+static void benches_open_jp2(void) {
+    benches = qalithonda_benches_open(QALITHONDA_JP2, QALITHONDA_JP2, letter, size, letter, size, text, LIMIT, other, LIMIT,
+                                      history, LIMIT)
+                  .benches;
+}
+static void benches_replace(void) {
+    benches = qalithonda_benches_replace(benches, 1, 0, 1, cells, 1, text, LIMIT, other, LIMIT, history, LIMIT).benches;
+}
+static void benches_undo(void) {
+    benches = qalithonda_benches_undo(benches, 1, text, LIMIT, other, LIMIT, history, LIMIT).benches;
+}
+static void benches_redo(void) {
+    benches = qalithonda_benches_redo(benches, 1, text, LIMIT, other, LIMIT, history, LIMIT).benches;
+}
+static void benches_save(void) {
+    benches = qalithonda_benches_save(benches, 1, text, LIMIT, other, LIMIT, history, LIMIT, letter, size, out, sizeof out)
+                  .benches;
+}
+static void benches_unchanged(void) { qalithonda_benches_unchanged(benches, 1, text, LIMIT, other, LIMIT, history, LIMIT); }
+
 typedef struct {
     const char *name;
     const char *pattern;  // what the letter is made of
@@ -90,6 +117,11 @@ static const call calls[] = {
     {"unchanged", UTF7, unchanged}, {"page_keep", UTF7, keep}, {"page_read", UTF7, read_back},
     {"jp2_open", JP2, jp2_open}, {"save, nothing standing, JP-2", JP2, save}, {"page_keep, JP-2", JP2, keep},
     {"page_read, JP-2", JP2, read_back},
+    {"benches_open", UTF7, benches_open}, {"benches_save, nothing standing", UTF7, benches_save},
+    {"benches_replace", UTF7, benches_replace}, {"benches_replace again", UTF7, benches_replace},
+    {"benches_undo", UTF7, benches_undo}, {"benches_redo", UTF7, benches_redo}, {"benches_save", UTF7, benches_save},
+    {"benches_unchanged", UTF7, benches_unchanged}, {"benches_open, JP-2", JP2, benches_open_jp2},
+    {"benches_save, nothing standing, JP-2", JP2, benches_save},
 };
 
 // As many whole patterns as there is room for, so that the letter is accepted.

@@ -2,6 +2,7 @@
 //! lent to be read, ends the process, and `fault` says in which call. Each call is made twice, with all that is lent
 //! flush with the guard before it and with the guard behind it, and must leave the same.
 
+mod benches;
 mod lists;
 mod page;
 mod stack;
@@ -16,7 +17,8 @@ use crate::library::{self, Functions};
 use crate::parts::Part;
 use crate::settings::Settings;
 
-/// A part for each format, for the plain reader, for the tally and for the page, and one for all on a small stack.
+/// A part for each format, for the plain reader, for the tally, for the page and for both benches, and one for all on a small
+/// stack.
 pub fn parts(settings: Settings) -> Vec<Part> {
     vec![
         of_format(formats::utf7, &library::UTF7, &compare::UTF7, settings),
@@ -27,6 +29,7 @@ pub fn parts(settings: Settings) -> Vec<Part> {
         }),
         Part::new("memory-jp2-tally", move |report| lists::tally(report, &formats::jp2(), settings)),
         Part::new("memory-page", move |report| page::run(report, settings)),
+        Part::new("memory-benches", move |report| benches::run(report, settings)),
         Part::new("stack", move |report| stack::run(report, settings.seed)),
     ]
 }

@@ -6,11 +6,13 @@ use std::fs;
 use std::sync::mpsc::sync_channel;
 use std::thread;
 
+use super::benches::FUNCTIONS;
 use super::page::functions;
 use crate::calls::files::{self, Filed};
-use crate::calls::{limit, seeded, squeezes, List, Move};
+use crate::calls::{benches, limit, seeded, squeezes, List, Move};
 use crate::fault;
 use crate::formats::{self, Format};
+use crate::library::benches as library_benches;
 use crate::library::compare::{self, Comparer};
 use crate::library::page as library_page;
 use crate::library::page_file::{self, READ};
@@ -19,7 +21,7 @@ use crate::library::{self, Function, Functions, JP2_PLAIN_READ, JP2_TALLY};
 use crate::report::Report;
 use crate::rng::Rng;
 use crate::second::page::State;
-use crate::second::{Kind, LIMIT};
+use crate::second::{benches as second_benches, Kind, LIMIT};
 use crate::texts::{self, Source};
 use crate::trial::{try_all, Input};
 
@@ -45,6 +47,7 @@ pub fn run(report: &mut Report, seed: u64) {
     called.push(tally(report, formats::jp2().source, seed));
     called.extend(of_page(report, seed));
     called.push(of_files(report, seed));
+    called.extend(of_benches(report, seed));
     report.check("stack-functions", &format!("functions of {HEADER}, each of which was called"), |_| all_in(&called));
 }
 
@@ -157,6 +160,43 @@ fn follow(list: &List) {
 
 fn ask(state: &State) {
     library_page::ask(state.page, &state.text, &state.history);
+}
+
+/// The calls of both benches, each followed by the question: each sort on short texts, and all of them on full-size ones.
+fn of_benches(report: &mut Report, seed: u64) -> Vec<String> {
+    let short = |sort| benches::seeded::alone(seed, sort, ROUNDS);
+    let mut called: Vec<String> = FUNCTIONS
+        .into_iter()
+        .map(|(function, sort)| try_in_thread(report, function, short(sort), follow_benches))
+        .collect();
+    let states = benches::seeded::states(seed, ROUNDS);
+    let ask = |list: &benches::List| ask_benches(&list.start);
+    called.push(try_in_thread(report, library_benches::UNCHANGED, states, ask));
+    try_in_thread(report, "benches-limit", benches::limit::lists(), follow_benches);
+    called
+}
+
+/// Makes the calls of a list, and asks the questions after each.
+fn follow_benches(list: &benches::List) {
+    let mut state = list.start.clone();
+    for item in &list.moves {
+        match item {
+            benches::Move::Change(change) => change.make(&mut state),
+            benches::Move::Call(call) => {
+                let mut output = vec![0; call.room()];
+                let second_benches::State { benches, texts: [first, second], history } = &mut state;
+                (_, *benches) = library_benches::make(call, *benches, [first, second], history, &mut output);
+                ask_benches(&state);
+            }
+        }
+    }
+}
+
+fn ask_benches(state: &second_benches::State) {
+    let [first, second] = &state.texts;
+    for bench in 0..3 {
+        library_benches::ask(state.benches, bench, [first, second], &state.history);
+    }
 }
 
 fn of_files(report: &mut Report, seed: u64) -> String {
