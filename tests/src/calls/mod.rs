@@ -147,7 +147,7 @@ impl Display for Page {
     }
 }
 
-pub(super) fn show_mark(saved: Option<usize>) -> String {
+fn show_mark(saved: Option<usize>) -> String {
     saved.map_or("no mark".to_string(), |words| format!("the mark at {words}"))
 }
 

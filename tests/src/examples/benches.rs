@@ -57,6 +57,14 @@ struct Shown<'a> {
     records: &'a [&'a [u32]],
 }
 
+fn shown<'a>(
+    numbers: [(usize, usize, Option<usize>); 2],
+    texts: [&'a [u32]; 2],
+    records: &'a [&'a [u32]],
+) -> Shown<'a> {
+    Shown { numbers, texts, records }
+}
+
 impl Shown<'_> {
     fn state(&self, cells: [usize; 2], words: usize) -> State {
         let bench = |number: usize, kind, opening| {
@@ -118,7 +126,6 @@ fn turn(call: Call, (number, place): (u32, usize), output: &[u8], shown: &Shown,
 
 /// Both benches fill the history; what the one has undone is no room for the other.
 fn filling() -> Vec<Turned> {
-    let shown = |numbers, texts, records| Shown { numbers, texts, records };
     let opened = shown([(4, 0, Some(0)), (2, 0, Some(0))], [OPENED, AB], &[]);
     let one = shown([(4, 1, Some(0)), (2, 0, Some(0))], [REPLACED, AB], &[EQUALS]);
     let two = shown([(4, 1, Some(0)), (3, 1, Some(0))], [REPLACED, ABC], &[EQUALS, APPENDED]);
@@ -144,7 +151,6 @@ fn filling() -> Vec<Turned> {
 
 /// A replace drops what its bench has undone, and the mark behind that, and closes the gap.
 fn dropping() -> Vec<Turned> {
-    let shown = |numbers, texts, records| Shown { numbers, texts, records };
     let all: &[&[u32]] = &[EQUALS, APPENDED, BANG];
     let saved = shown([(5, 2, Some(2)), (3, 1, Some(1))], [BANGED, ABC], all);
     let undone = shown([(4, 1, Some(2)), (3, 1, Some(1))], [REPLACED, ABC], all);
@@ -177,8 +183,7 @@ fn dropping() -> Vec<Turned> {
 /// mark. The text buffers have room for two cells and for one more, and the history for three words.
 fn edited() -> State {
     let records: &[&[u32]] = &[EQUALS, APPENDED, BANG, A_OFF];
-    let numbers = [(4, 1, Some(1)), (3, 1, None)];
-    Shown { numbers, texts: [REPLACED, ABC], records }.state([6, 4], 24)
+    shown([(4, 1, Some(1)), (3, 1, None)], [REPLACED, ABC], records).state([6, 4], 24)
 }
 
 /// The sound benches with these changes.

@@ -33,7 +33,7 @@ fn check_examples(report: &mut Report) {
             compare(&state, call, left, statuses).map_err(after)?;
             state = left.state.clone();
             let asked = [0, 1].map(|bench| ask(&state, bench).map(|asked| asked.unchanged));
-            if asked != unchanged.map(Ok) {
+            if asked != unchanged.map(Ok::<bool, String>) {
                 return Err(after(format!("the questions give {asked:?}")));
             }
         }
