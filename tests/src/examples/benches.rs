@@ -49,8 +49,8 @@ const A: u32 = 0x0006_0061;
 const B: u32 = 0x0006_0062;
 const C: u32 = 0x0006_0063;
 
-/// A body page on P2 on bench 0 and a JP-2 page on "ab" on bench 1: the length, the standing steps and the mark of each,
-/// their texts, and the records; in buffers of these lengths.
+/// A body page on P2 on bench 0 and a JP-2 page on "ab" on bench 1: the length, the standing steps and the mark of
+/// each, their texts, and the records.
 struct Shown<'a> {
     numbers: [(usize, usize, Option<usize>); 2],
     texts: [&'a [u32]; 2],
@@ -66,6 +66,7 @@ fn shown<'a>(
 }
 
 impl Shown<'_> {
+    /// The state in buffers of these lengths.
     fn state(&self, cells: [usize; 2], words: usize) -> State {
         let bench = |number: usize, kind, opening| {
             let (length, standing, saved) = self.numbers[number];
@@ -96,8 +97,8 @@ fn open(kinds: [u32; 2], first: &[u8], second: &[u8]) -> Call {
     Call::Open { kinds, arrived: [first.to_vec(), second.to_vec()] }
 }
 
-/// The steps of the course: 003D for the cell at 1 and, at the end, "!" and then nothing for the first cell, on bench 0;
-/// "c" at the end, and then nothing for the first cell, on bench 1.
+/// The steps of the course: on bench 0 003D for the cell at 1, "!" at the end, and nothing for the first cell; on bench
+/// 1 "c" at the end, and nothing for the first cell.
 const EQUALS: &[u32] = &[0, 1, 1, 1, 0x2262, 0x3D];
 const BANG: &[u32] = &[0, 4, 0, 1, 0x21];
 const FIRST_OFF: &[u32] = &[0, 0, 1, 0, 0x41];

@@ -189,10 +189,10 @@ pub fn sound(state: &State) -> Option<Sound> {
     zeros_past_the_words.then(|| Sound { kinds: [kind, other_kind], texts: [text, other_text], entries })
 }
 
-/// The kind and the text of a bench with these records, if it is sound as a page is: document 01 asks that "both lengths
-/// (..) fit their buffers", that "each record's removed part lies within the text length reached so far from the opening
-/// length, no such length exceeds the text buffer, the length reached" where it stands is its own, "and everything past
-/// the ends is 0".
+/// The kind and the text of a bench with these records, if it is sound as a page is: document 01 asks that "both
+/// lengths (..) fit their buffers", that "each record's removed part lies within the text length reached so far from the
+/// opening length, no such length exceeds the text buffer, the length reached" where it stands is its own, "and
+/// everything past the ends is 0".
 fn judged(bench: &Bench, text: &[u32], records: &[Record]) -> Option<(Kind, Vec<u32>)> {
     // The C interface: a bench whose number is of no kind is not sound.
     let kind = Kind::of_number(bench.kind)?;
@@ -217,8 +217,8 @@ fn accepted(state: &State, bench: usize, list: usize) -> Result<Sound, Answer> {
     sound(state).ok_or(Answer { number: 14, place: 0 })
 }
 
-/// "One open takes both arrived texts and refuses as two opens would, bench 0's first. Accepted, its place is the sum of
-/// both counts".
+/// "One open takes both arrived texts and refuses as two opens would, bench 0's first. Accepted, its place is the sum
+/// of both counts".
 fn open(state: &State, kinds: [u32; 2], arrived: &[Vec<u8>; 2]) -> Result<(usize, State), Answer> {
     let [Some(kind), Some(other_kind)] = kinds.map(Kind::of_number) else {
         return refuse_no_kind(state, arrived);
@@ -362,7 +362,8 @@ mod tests {
         let bench = Bench { kind: 7, opening: 1, length: 1, standing: 1, saved: Some(1) };
         let benches = Benches { each: [bench; 2], used: 1 };
         let state = State { benches, texts: [vec![7; 2], vec![7; 3]], history: vec![7; 2] };
-        for (kinds, arrived) in [([1, 2], [b"abc", b"abc"]), ([1, 2], [b"+-A", b"\x1Bbc"]), ([3, 9], [b"abc", b"abc"])] {
+        let refused = [([1, 2], [b"abc", b"abc"]), ([1, 2], [b"+-A", b"\x1Bbc"]), ([3, 9], [b"abc", b"abc"])];
+        for (kinds, arrived) in refused {
             let call = Call::Open { kinds, arrived: arrived.map(|bytes| bytes.to_vec()) };
             let found = left(&state, &call, &[]);
             assert_ne!(found.answer.number, 0);

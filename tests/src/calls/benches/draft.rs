@@ -46,8 +46,8 @@ impl Draft {
         self.add_open();
     }
 
-    /// Adds one to four calls of one sort on one bench; or some that lead away from what was saved, most often for good;
-    /// or, after steps of both are undone, a replace of one.
+    /// Adds one to four calls of one sort on one bench; or some that lead away from what was saved, most often for
+    /// good; or, after steps of both are undone, a replace of one.
     pub fn add_calls(&mut self, rng: &mut Rng) {
         let bench = some_bench(rng);
         match rng.below(20) {
@@ -82,7 +82,8 @@ impl Draft {
         }
     }
 
-    /// One call of this sort on the state that is reached; what is opened often just fits the text buffers, or does not.
+    /// One call of this sort on the state that is reached; what is opened often just fits the text buffers, or does
+    /// not.
     pub fn alone(self, rng: &mut Rng, sort: Sort) -> List {
         let bench = some_bench(rng);
         let call = self.call(rng, bench, sort);

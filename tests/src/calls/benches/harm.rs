@@ -5,8 +5,8 @@ use super::{made, seeded, Change, List};
 use crate::rng::Rng;
 use crate::second::benches::{Bench, Benches, State};
 
-/// So many states, half of them made by hand and half opened and edited; each with every change by itself, and a call of
-/// each sort.
+/// So many states, half of them made by hand and half opened and edited; each with every change by itself, and a call
+/// of each sort.
 pub fn lists(seed: u64, count: usize) -> impl Iterator<Item = List> {
     let mut rng = Rng::new(seed, "benches harmed");
     (0..count).flat_map(move |number| {
@@ -43,12 +43,13 @@ fn of_bench(state: &State, bench: usize) -> Vec<Change> {
     let counts = numbers(standing, most).map(|number| Change::Standing(bench, number));
     let marks = numbers(saved.unwrap_or(0), most).map(Some).chain([None]);
     let marks = marks.map(|mark| Change::Saved(bench, mark));
-    let past = (length..texts[bench].len()).flat_map(|index| [1, u32::MAX].map(|cell| Change::Cell(bench, index, cell)));
+    let past = (length..texts[bench].len()).flat_map(|index| [(index, 1), (index, u32::MAX)]);
+    let past = past.map(|(index, cell)| Change::Cell(bench, index, cell));
     kinds.chain(openings).chain(lengths).chain(counts).chain(marks).chain(past).collect()
 }
 
-/// All numbers up to a little past this end; and larger ones, of which some come to little or to this number if they are
-/// cut off at 32 bits, or if something is added to them.
+/// All numbers up to a little past this end; and larger ones, of which some come to little or to this number if they
+/// are cut off at 32 bits, or if something is added to them.
 fn numbers(number: usize, end: usize) -> impl Iterator<Item = usize> {
     let cut_off = [1 << 32, number.wrapping_add(1 << 32), 1 << 31, (1 << 32) - 1];
     (0..end + 3).chain(cut_off).chain((2..6).map(|little| usize::MAX - little)).chain([usize::MAX / 2 + 1])

@@ -87,15 +87,15 @@ pub fn full() -> List {
     )
 }
 
-/// As many steps as can be recorded, each of which removes nothing and adds nothing, with the benches in turn; all stand,
-/// or half of each, or none.
+/// As many steps as can be recorded, each of which removes nothing and adds nothing, with the benches in turn; all
+/// stand, or half of each, or none.
 fn many_records() -> impl Iterator<Item = List> {
     let count = LIMIT / 8;
     [count, count / 2, 0].into_iter().map(move |standing| {
         let history = (0..2 * count).flat_map(|number| [number as u32 % 2, 0, 0, 0]).collect();
         let bench = |kind| Bench { standing, saved: Some(count), ..Bench::opened(kind, 0) };
         let benches = Benches { each: KINDS.map(bench), used: LIMIT };
-        let turns = |bench| [of(bench, Turn::Undo), of(bench, Turn::Redo), of(bench, Turn::Redo), of(bench, Turn::Undo)];
+        let turns = |bench| [Turn::Undo, Turn::Redo, Turn::Redo, Turn::Undo].map(|turn| of(bench, turn));
         let others = [replace(0, 0, 0, 1), save(0, 0, 1), of(1, Turn::Redo), replace(1, 0, 0, 1), save(1, 0, 9)];
         let both = turns(0).into_iter().chain(turns(1)).chain(others).chain(turns(0)).chain(turns(1));
         calls(State { benches, texts: [vec![0; 3], vec![0; 4]], history }, both)
@@ -107,9 +107,7 @@ fn many_records() -> impl Iterator<Item = List> {
 fn on_zeros(cells: [usize; 2], words: usize) -> List {
     let benches = Benches { each: KINDS.map(|kind| Bench::opened(kind, 0)), used: 0 };
     let start = State { benches, texts: cells.map(|cells| vec![0; cells]), history: vec![0; words] };
-    let faulty = |bench, length| {
-        of(bench, Turn::Replace { place: 1, count: 0, cells: vec![u32::MAX; length] })
-    };
+    let faulty = |bench, length| of(bench, Turn::Replace { place: 1, count: 0, cells: vec![u32::MAX; length] });
     let of_each = |bench| {
         let turns = [of(bench, Turn::Undo), of(bench, Turn::Redo), faulty(bench, 1), faulty(bench, LIMIT + 1)];
         turns.into_iter().chain([save(bench, 1, 2), save(bench, LIMIT + 1, 2), replace(bench, 0, 0, 1)])

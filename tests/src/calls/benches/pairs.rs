@@ -1,4 +1,4 @@
-//! Pairs of runs: one bench has "the same kind, arrived text, buffer lengths and calls" in both, and the other need not.
+//! Pairs of runs: one bench has "the same kind, arrived text, buffer lengths and calls" in both; the other need not.
 
 use std::ops::Range;
 

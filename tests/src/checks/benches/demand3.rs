@@ -168,7 +168,8 @@ impl Opened {
         }
         number_is(13, &self.make(&state, &Turn::Undo, program)?)?;
         self.text_is(&self.ledger.page.reading, &state)?;
-        let saved = self.make(&state, &Turn::Save { arrived: self.arrived.clone(), room: self.arrived.len() }, program)?;
+        let exact = Turn::Save { arrived: self.arrived.clone(), room: self.arrived.len() };
+        let saved = self.make(&state, &exact, program)?;
         number_is(0, &saved)?;
         if saved.answer.place != self.arrived.len() || saved.output != self.arrived {
             return Err(format!("\"{}\" is saved", saved.output.escape_ascii()));

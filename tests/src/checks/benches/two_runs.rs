@@ -49,7 +49,8 @@ pub fn follow(pair: &Pair, program: &Program, met: &mut Met) -> Result<(), Strin
             }
             _ => {}
         }
-        same(one.but_place_of_12(), other.but_place_of_12()).map_err(|problem| format!("at its call {number}, {problem}"))?;
+        let at_call = |difference| format!("at its call {number}, {difference}");
+        same(one.but_place_of_12(), other.but_place_of_12()).map_err(at_call)?;
     }
     met.whole += 1;
     met.with_12 += usize::from(twelves > 0);
@@ -134,8 +135,8 @@ mod tests {
     #[test]
     fn it_does_not_where_a_bench_is_told_of_the_other() {
         let changes: [fn(&State, &Call, &mut Left); 4] = [
-            // A refusal that comes from the other's length; a length that counts both; an undo of the other's step; a mark
-            // that every save sets.
+            // A refusal that comes from the other's length; a length that counts both; an undo of the other's step; a
+            // mark that every save sets.
             |state, call, left| {
                 if matches!(call, Call::Of { bench: 0, turn: Turn::Redo }) && state.benches.each[1].length > 20 {
                     left.answer = Answer { number: 13, place: 0 };

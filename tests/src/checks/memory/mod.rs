@@ -17,8 +17,8 @@ use crate::library::{self, Functions};
 use crate::parts::Part;
 use crate::settings::Settings;
 
-/// A part for each format, for the plain reader, for the tally, for the page and for both benches, and one for all on a small
-/// stack.
+/// A part for each format, for the plain reader, for the tally, for the page and for both benches, and one for all on a
+/// small stack.
 pub fn parts(settings: Settings) -> Vec<Part> {
     vec![
         of_format(formats::utf7, &library::UTF7, &compare::UTF7, settings),

@@ -162,7 +162,7 @@ fn ask(state: &State) {
     library_page::ask(state.page, &state.text, &state.history);
 }
 
-/// The calls of both benches, each followed by the question: each sort on short texts, and all of them on full-size ones.
+/// The calls of both benches, each followed by the question: each sort on short texts, and all on full-size ones.
 fn of_benches(report: &mut Report, seed: u64) -> Vec<String> {
     let short = |sort| benches::seeded::alone(seed, sort, ROUNDS);
     let mut called: Vec<String> = FUNCTIONS
