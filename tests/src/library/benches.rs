@@ -52,16 +52,8 @@ struct RawBenchesEdited {
     benches: RawBenches,
 }
 
-type RawTurn = unsafe extern "C" fn(
-    RawBenches,
-    usize,
-    *mut u32,
-    usize,
-    *mut u32,
-    usize,
-    *const u32,
-    usize,
-) -> RawBenchesEdited;
+type RawTurn =
+    unsafe extern "C" fn(RawBenches, usize, *mut u32, usize, *mut u32, usize, *const u32, usize) -> RawBenchesEdited;
 
 extern "C" {
     fn qalithonda_benches_open(

@@ -197,6 +197,9 @@ fn judged(bench: &Bench, text: &[u32], records: &[Record]) -> Option<(Kind, Vec<
     // The C interface: a bench whose number is of no kind is not sound.
     let kind = Kind::of_number(bench.kind)?;
     let (cells, past) = text.split_at_checked(bench.length)?;
+    if bench.opening > text.len() {
+        return None;
+    }
     let lengths: Vec<usize> = reached(bench.opening, records)?.into_iter().map(|(_, length)| length).collect();
     // "its standing steps and any mark at most the number of its records"
     let length = *lengths.get(bench.standing)?;

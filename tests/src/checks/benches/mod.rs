@@ -75,9 +75,8 @@ fn check_demand3(report: &mut Report, seed: u64) {
     let lists = |size, count| seeded::opened(seed, size, count);
     let all = lists(seeded::SMALL, 4_000).chain(lists(seeded::SHORT, 300)).chain(lists(seeded::LARGE, 60));
     let what = "demand 3 for each bench, by its ledger, after each call";
-    report.check("benches-demand-3", what, |_| {
-        try_all(all.chain([limit::full()]), |list| demand3::follow(list, &BUILT))
-    });
+    report
+        .check("benches-demand-3", what, |_| try_all(all.chain([limit::full()]), |list| demand3::follow(list, &BUILT)));
 }
 
 fn check_two_runs(report: &mut Report, seed: u64) {

@@ -41,9 +41,8 @@ pub fn run(report: &mut Report, Settings { seed, rounds }: Settings) {
         try_all(seeded::states(seed, rounds), |list| memory.ask(&list.start, statuses))
     });
     let what = "lists of calls with as much as can be lent, and with more, in guarded memory";
-    report.check(&name("benches-limit"), what, |statuses| {
-        try_all(limit::lists(), |list| memory.follow(list, statuses))
-    });
+    report
+        .check(&name("benches-limit"), what, |statuses| try_all(limit::lists(), |list| memory.follow(list, statuses)));
     expect_statuses(report);
 }
 
