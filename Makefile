@@ -21,12 +21,12 @@ all: library target/examples/where
 
 library: $(archive) $(shared)
 
-# Three objects: the comparers and the benches are one each (crates/qalithonda_compare/src/lib.rt says why).
-parts = qalithonda_compare qalithonda_benches
+# Each of these is an object of its own in the archive (crates/NAME/src/lib.rt says why).
+objects = qalithonda_compare qalithonda_benches
+
 $(archive): $(sources)
-	for part in $(parts); do rt staticlib $$part || exit 1; done
-	rt staticlib qalithonda
-	cd $(@D) && for part in $(parts); do ar x lib$$part.a && ar q $(@F) $$part.o && rm $$part.o || exit 1; done
+	for crate in $(objects) qalithonda; do rt staticlib $$crate || exit 1; done
+	cd $(@D) && for crate in $(objects); do ar x lib$$crate.a && ar q $(@F) $$crate.o && rm $$crate.o || exit 1; done
 
 # The archive shows no other names than qalithonda_.., so neither does this.
 $(shared): $(archive)
