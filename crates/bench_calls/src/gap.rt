@@ -30,7 +30,7 @@ fn keep_other(history: &mut [u32], at: usize, to: usize, size: usize, mine: usiz
     if records::wide(history[at]) == mine {
         return to;
     }
-    splice::move_left(&mut *history, at, to, size);
+    splice::shift_left(&mut *history, at, to, size);
     to + size
 }
 

@@ -8,7 +8,7 @@ use native.Mathlib.Nat.{add-zero}
 use lib.ListN.{length, getD, take, drop, length-append, take-append-drop}
 use lib.Seq.{getD-append-add, drop-append-add, take-append-seam, drop-append-seam, drop-drop, length-take-le}
 use lib.Dec.{leb}
-use borrow.Author.Tests.{leb-true}
+use borrow.Author.Tests.{leb-true, le-leb}
 use Rattle.answer.specs.Answer.{numbered, inNumbers}
 use Rattle.answer.specs.declared.Answer.{Answer}
 use Rattle.answer.proofs.Below.{both}
@@ -31,7 +31,15 @@ use Rattle.records.proofs.Found.{Fit, unfit}
 use Rattle.page.specs.declared.Span.{Span}
 use Rattle.page.specs.declared.Change.{Change}
 use Rattle.splice.specs.Splice.{spliced}
-use Rattle.page.specs.Steps.{steppedOf, spanOf, changeOf, changeIn}
+use Rattle.page.specs.Steps.{steppedOf, spanOf, changeOf, changeIn, changeFound}
+
+-- a record that is whole in the history is what is found at its word
+pub found-in :
+    (forward : Bool) (history : List ℕ) (at : ℕ) →
+    at + (3 + getD history (at + 1) 0 + getD history (at + 2) 0) ≤ length history →
+    changeFound forward history at ≡ changeIn forward history at
+unfolding changeFound
+found-in forward history at h = rw (le-leb (at + 3) (length history) (omega (arith, h)))
 
 -- records in order, one of them picked out
 module _ (s : State) (back : List Entry) (e : Entry) (rest : List Entry) where
@@ -198,8 +206,11 @@ module _ (s : State) where
           rw e
           (ready-next last (f .frame) forward (f .parted .standing) (f .parted .undone) (f .sound) (stepped-next forward) (f .begins) (λ z. q (rw e z)))
 
-      pub change-moves : (w .from ≡ w .to → ⊥) → (q : Change) → q ≡ changeIn forward (s .history) (w .from) → Moves forward s q
-      change-moves n q z = rw z (ready n .moves)
+      pub change-moves :
+          (w .from ≡ w .to → ⊥) → (q : Change) → q ≡ changeFound forward (s .history) (w .from) → Moves forward s q
+      change-moves n q z =
+          let r = ready n in
+          rw (z ∙ found-in forward (s .history) (w .from) (r .words)) (r .moves)
 
       pub nothing-left : w .from ≡ w .to → steppedOf forward s ≡ refusing s [] (numbered 13 0)
       nothing-left q =

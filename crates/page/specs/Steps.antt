@@ -1,8 +1,9 @@
 -- Undo and redo, one thing in two directions: back and forward.
 use Prim.Native.Nat.{ℕ, _+_}
-use mathlib.Core.Bool.{Bool, true, false}
+use mathlib.Core.Bool.{Bool, true, false, cond}
 use mathlib.Core.List.{List}
-use lib.ListN.{getD}
+use lib.ListN.{length, getD}
+use lib.Dec.{leb}
 use Rattle.ledger.specs.Page.{State, Outcome}
 use Rattle.ledger.specs.Calls.{undoOf, redoOf}
 use Rattle.ledger.specs.declared.Page.{Page}
@@ -26,3 +27,11 @@ changeOf true at place removed added =
 
 abbrev pub changeIn : Bool → List ℕ → ℕ → Change
 changeIn forward history at = changeOf forward at (getD history at 0) (getD history (at + 1) 0) (getD history (at + 2) 0)
+
+-- no cells put for none
+abbrev pub noChange : Change
+noChange = record { place = 0; count = 0; from = 0; to = 0; done = 0 }
+
+-- what a record at a word of the history does to the text: nothing where its first three words are not all there
+unfoldable pub changeFound : Bool → List ℕ → ℕ → Change
+changeFound forward history at = cond (leb (at + 3) (length history)) (changeIn forward history at) noChange

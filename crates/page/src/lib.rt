@@ -12,7 +12,7 @@ use records::Judged;
 ghost use mathlib.Core.Path.{_≡_};
 ghost use Prim.Native.Nat.{_+_, _-_, _≤_, _<_, _^_};
 ghost use mathlib.Core.List.{[], _++_};
-ghost use lib.ListN.{length, getD, take, replicate};
+ghost use lib.ListN.{length, take, replicate};
 ghost use Rattle.answer.specs.Answer.{limit, numbered};
 ghost use Rattle.answer.specs.declared.Answer.the-variants.{Accepted};
 ghost use Rattle.answer.specs.Output as output;
@@ -24,7 +24,7 @@ ghost use Rattle.editor.specs.Marks.{replacedMark, unchangedAt};
 ghost use Rattle.ledger.specs.Page.{stateOf, leaves, keeps, replies};
 ghost use Rattle.ledger.specs.Calls.{undoOf, redoOf, entryAt, replaceOf, openOf, saveOf, unchangedOf};
 ghost use Rattle.splice.specs.Splice.{spliced, Filled};
-ghost use Rattle.page.specs.Steps.{steppedOf, spanOf, changeIn};
+ghost use Rattle.page.specs.Steps.{steppedOf, spanOf, noChange, changeFound};
 ghost use Rattle.page.specs.Outcomes.{editedAs, replaceFitting, replaceSound, freshPage, savedIn, savedPage};
 
 // Words of the history: those of the step to be moved over, or none.
@@ -96,11 +96,28 @@ fn words_over(page: Page, forward: bool, last: usize) -> Span
     }
 }
 
-// The record at a word, forward as it was done, or back.
-pub fn change_at(history: &[u32], at: usize, forward: bool) -> Change
-    requires { ⌜ at + (3 + getD (now history) (at + 1) 0 + getD (now history) (at + 2) 0) ≤ length (now history) ⌝ }
-    ensures { λ r. ⌜ r ≡ changeIn forward (now (history .entry)) at ⌝ }
+fn no_change() -> Change
+    ensures { λ r. ⌜ r ≡ noChange ⌝ }
 {
+    Change {
+        place: 0,
+        count: 0,
+        from: 0,
+        to: 0,
+        done: 0,
+    }
+}
+
+// The record at a word, forward as it was done, or back; no change where its first three words are not in the history.
+pub fn change_at(history: &[u32], at: usize, forward: bool) -> Change
+    ensures { λ r. ⌜ r ≡ changeFound forward (now (history .entry)) at ⌝ }
+{
+    if history.len() < 3 {
+        return no_change();
+    }
+    if history.len() - 3 < at {
+        return no_change();
+    }
     let place = records::wide(history[at]);
     let removed = records::wide(history[at + 1]);
     let added = records::wide(history[at + 2]);

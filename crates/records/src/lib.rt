@@ -66,11 +66,13 @@ fn past_blocks(s: &[u32], at: usize) -> usize
     i
 }
 
-// Whether every element from a place on is 0.
+// Whether every element from a place on is 0; past the end there is none.
 pub fn zero_from(s: &[u32], at: usize) -> bool
-    requires { ⌜ at ≤ length (now s) ⌝ }
     ensures { λ r. ⌜ r ≡ zeros (drop at (now (s .entry))) ⌝ }
 {
+    if s.len() < at {
+        return true;
+    }
     let mut i = past_blocks(s, at);
     while i < s.len() {
         if s[i] != 0 {

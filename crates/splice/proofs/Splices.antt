@@ -13,7 +13,7 @@ use borrow.Author.Tests.{le-leb, leb-true}
 use Rattle.answer.proofs.Below.{both}
 use Rattle.ledger.specs.Words.{pad}
 use Rattle.ledger.proofs.Words.{drop-take, zeros-are}
-use Rattle.splice.specs.Splice.{Filled, spliced, cleared, fitting, usedAfter, splicedIn}
+use Rattle.splice.specs.Splice.{Filled, spliced, cleared, fitting, usedAfter, splicedIn, shiftedLeft}
 
 -- elements moved to a place that is not after theirs, from the first on
 module _ (l s : List ℕ) (from to j : ℕ) (e : s ≡ paste l to (drop from l) j) where
@@ -24,6 +24,12 @@ module _ (l s : List ℕ) (from to j : ℕ) (e : s ≡ paste l to (drop from l) 
       let read : getD s (from + j) 0 ≡ getD (drop from l) j 0 =
       rw (e, ← gap, ← getD-drop (to + j) (paste l to (drop from l) j) (from - to) 0, drop-paste l to (drop from l) j (omega arith) short, getD-drop (to + j) l (from - to) 0, gap, getD-drop from l j 0) in
       rw (read, e, add-one) (paste-suc l to (drop from l) j 0 (omega arith) (omega (arith, length-drop from l)))
+
+-- elements that are all there, to a place that is not after theirs
+pub shifted-in :
+    (l : List ℕ) (from to n : ℕ) → to ≤ from → from + n ≤ length l → shiftedLeft from to n l ≡ paste l to (drop from l) n
+unfolding shiftedLeft
+shifted-in l from to n h k = rw (le-leb to from h, le-leb (from + n) (length l) k)
 
 -- a paste that starts one place before
 paste-front : (l s : List ℕ) (at m v : ℕ) → at < length l → set (paste l (suc at) s m) at v ≡ paste l at (v ∷ s) (suc m)

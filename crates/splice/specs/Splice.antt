@@ -21,6 +21,11 @@ spliced place count cells text = take place text ++ (cells ++ drop (place + coun
 abbrev pub cleared : ℕ → ℕ → List ℕ → List ℕ
 cleared at to l = paste l at (replicate (length l) 0) (to - at)
 
+-- a list with n elements moved to a place that is not after theirs; it stays as it was where the place is after theirs,
+-- or not all n are there
+unfoldable pub shiftedLeft : ℕ → ℕ → ℕ → List ℕ → List ℕ
+shiftedLeft from to n l = cond (leb to from && leb (from + n) (length l)) (paste l to (drop from l) n) l
+
 -- whether so many cells can be put for `count` at a place of the elements in use, in a buffer of this length
 unfoldable pub fitting : ℕ → ℕ → ℕ → ℕ → ℕ → Bool
 fitting used place count new room = leb (place + count) used && leb used room && leb (used - count + new) room

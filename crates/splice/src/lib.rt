@@ -5,10 +5,10 @@ ghost use Prim.Native.Nat.{_+_, _-_, _≤_};
 ghost use lib.ListN.{length, take, drop};
 ghost use lib.Seq.{paste};
 ghost use Rattle.ledger.specs.Words.{pad};
-ghost use Rattle.splice.specs.Splice.{spliced, cleared, fitting, usedAfter, splicedIn};
+ghost use Rattle.splice.specs.Splice.{spliced, cleared, fitting, usedAfter, splicedIn, shiftedLeft};
 
 // Moves n elements to a place that is not after theirs.
-pub fn move_left(s: &mut [u32], from: usize, to: usize, n: usize)
+fn move_left(s: &mut [u32], from: usize, to: usize, n: usize)
     requires { ⌜ (to ≤ from) × (from + n ≤ length (now s)) ⌝ }
     ensures { λ _. ⌜ now (s .exit) ≡ paste (now (s .entry)) to (drop from (now (s .entry))) n ⌝ }
 {
@@ -17,6 +17,23 @@ pub fn move_left(s: &mut [u32], from: usize, to: usize, n: usize)
         s[to + j] = s[from + j];
         j += 1;
     }
+}
+
+// Moves n elements to a place that is not after theirs. Where they are not all there, or the place is after theirs,
+// nothing is changed.
+pub fn shift_left(s: &mut [u32], from: usize, to: usize, n: usize)
+    ensures { λ _. ⌜ now (s .exit) ≡ shiftedLeft from to n (now (s .entry)) ⌝ }
+{
+    if from < to {
+        return;
+    }
+    if s.len() < from {
+        return;
+    }
+    if s.len() - from < n {
+        return;
+    }
+    move_left(&mut *s, from, to, n);
 }
 
 // Moves n elements to a place that is not before theirs, the last one first.

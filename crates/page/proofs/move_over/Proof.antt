@@ -5,7 +5,7 @@ use lib.ListN.{drop, length-take, length-drop}
 use Rattle.ledger.specs.Page.{State, stateOf, leaves}
 use Rattle.records.proofs.Found.{fit}
 use Rattle.page.proofs.Fills.{text-filled}
-use Rattle.page.proofs.Turns.{ready, change-moves, nothing-left}
+use Rattle.page.proofs.Turns.{change-moves, nothing-left}
 use borrow.Author.Needs.{needs}
 use Rattle.page.proofs.move_over.Statement.{statement}
 use Rattle.page.proofs.move_over.Tie as tie
@@ -24,11 +24,7 @@ returns c =
     rw (c .refused .ensures) (sym (nothing-left s (a .last) f (a .forward) (c .before .before .before .words-over .result) (c .before .before .before .words-over .ensures) (c .before .if1 .taken)))
 
 change-at-requires : tie.Need-change-at-requires
-change-at-requires c κs =
-    let a = c .before .before .before .before .before .args in
-    let s : State = stateOf (a .page) (a .text .now) (a .history .now) in
-    let f = fit s refl (c .before .before .before .before .before .pre) in
-    ready s (a .last) f (a .forward) (c .before .before .words-over .result) (c .before .before .words-over .ensures) (c .if1 .left) .words
+change-at-requires c κs = search needs
 
 mul-accept : tie.Need-mul-accept
 mul-accept c =

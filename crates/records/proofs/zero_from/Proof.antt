@@ -14,23 +14,28 @@ Inv-loop s at i₀ i = zeros (drop at s) ≡ zeros (drop i s)
 abbrev μ-loop : tie.MeasureT-loop
 μ-loop s at i₀ i = length s - i
 
+returns : tie.Need-returns Inv-loop μ-loop
+returns c =
+    let a = c .before .before .args in
+    sym (zeros-end (a .s .now) (a .at) (omega arith))
+
 past-blocks-requires : tie.Need-past-blocks-requires Inv-loop μ-loop
 past-blocks-requires c κs = search needs
 
 loop-holds : tie.Need-loop-holds Inv-loop μ-loop
 loop-holds c = sym (c .past-blocks .ensures)
 
-mul-if1 : tie.Need-mul-if1 Inv-loop μ-loop
-mul-if1 c = search needs
+mul-if2 : tie.Need-mul-if2 Inv-loop μ-loop
+mul-if2 c = search needs
 
-shared-slice-read-if1 : tie.Need-shared-slice-read-if1 Inv-loop μ-loop
-shared-slice-read-if1 c = search needs
+shared-slice-read-if2 : tie.Need-shared-slice-read-if2 Inv-loop μ-loop
+shared-slice-read-if2 c = search needs
 
-returns : tie.Need-returns Inv-loop μ-loop
-returns c =
-    let s = c .before .before .before .before .before .before .args .s .now in
+returns-2 : tie.Need-returns-2 Inv-loop μ-loop
+returns-2 c =
+    let s = c .before .before .before .before .before .before .before .args .s .now in
     let l = c .before .before .before .loop in
-    sym (l .inv ∙ zeros-stop s (l .i) (omega arith) (c .if1 .taken))
+    sym (l .inv ∙ zeros-stop s (l .i) (omega arith) (c .if2 .taken))
 
 add-i : tie.Need-add-i Inv-loop μ-loop
 add-i c = search needs
@@ -40,12 +45,15 @@ loop-less c = search needs
 
 loop-again : tie.Need-loop-again Inv-loop μ-loop
 loop-again c =
-    let s = c .before .before .before .before .before .before .args .s .now in
+    let s = c .before .before .before .before .before .before .before .args .s .now in
     let l = c .before .before .before .loop in
-    l .inv ∙ zeros-next s (l .i) (omega arith) (c .if1 .left)
+    l .inv ∙ zeros-next s (l .i) (omega arith) (c .if2 .left)
 
-returns-2 : tie.Need-returns-2 Inv-loop μ-loop
-returns-2 c = sym (c .before .loop .inv ∙ zeros-end (c .before .before .before .before .args .s .now) (c .before .loop .i) (omega arith))
+returns-3 : tie.Need-returns-3 Inv-loop μ-loop
+returns-3 c =
+    let s = c .before .before .before .before .before .args .s .now in
+    let l = c .before .loop in
+    sym (l .inv ∙ zeros-end s (l .i) (omega arith))
 
 pub zero-from-spec : {M : Type 1} → statement M
 zero-from-spec =
@@ -53,12 +61,13 @@ zero-from-spec =
     (tie.spec
     Inv-loop
     μ-loop
+    returns
     past-blocks-requires
     loop-holds
-    mul-if1
-    shared-slice-read-if1
-    returns
+    mul-if2
+    shared-slice-read-if2
+    returns-2
     add-i
     loop-less
     loop-again
-    returns-2)
+    returns-3)

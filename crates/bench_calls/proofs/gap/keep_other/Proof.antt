@@ -1,4 +1,6 @@
 use mathlib.Core.Path.{refl, sym, _∙_}
+use native.Mathlib.Omega.{arith}
+use Rattle.splice.proofs.Splices.{shifted-in}
 use borrow.Author.Needs.{needs}
 use Rattle.bench_calls.proofs.gap.keep_other.Statement.{statement}
 use Rattle.bench_calls.proofs.gap.keep_other.Tie as tie
@@ -15,8 +17,8 @@ wide-requires c κs = search needs
 returns : tie.Need-returns
 returns c = ((λ _. (refl, refl)), (λ n. absurd (n (sym (c .before .wide .ensures .0) ∙ c .if1 .taken))))
 
-move-left-requires : tie.Need-move-left-requires
-move-left-requires c κs = search needs
+shift-left-requires : tie.Need-shift-left-requires
+shift-left-requires c κs = search needs
 
 add-result : tie.Need-add-result
 add-result c = search needs
@@ -28,8 +30,10 @@ returns-2 : tie.Need-returns-2
 returns-2 c =
     let wide' = c .before .before .before .before .before .wide in
     let if1' = c .before .before .before .before .if1 in
-    let move-left' = c .before .before .move-left in
-    ((λ e. absurd (if1' .left (wide' .ensures .0 ∙ e))), (λ _. (refl, move-left' .ensures)))
+    let shift-left' = c .before .before .shift-left in
+    let a = c .before .before .before .before .before .before .before .before .args in
+    let l = shifted-in (a .history .now) (a .at) (a .to) (a .size) (omega arith) (omega arith) in
+    ((λ e. absurd (if1' .left (wide' .ensures .0 ∙ e))), (λ _. (refl, shift-left' .ensures ∙ l)))
 
 pub keep-other-spec : {M : Type 1} → statement M
 keep-other-spec =
@@ -39,7 +43,7 @@ keep-other-spec =
     slice-read-wide
     wide-requires
     returns
-    move-left-requires
+    shift-left-requires
     add-result
     same-length
     returns-2)
