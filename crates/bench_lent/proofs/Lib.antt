@@ -1,0 +1,4 @@
+pub mod Lending
+pub mod Stepping
+pub mod Replacing
+pub mod Saving
