@@ -4,8 +4,9 @@ use answer::Answer;
 use benches::Benches;
 ghost use mathlib.Core.Path.{_≡_};
 ghost use mathlib.Core.List.{[]};
-ghost use Rattle.benches.specs.Benches.{stateOf, leaves};
+ghost use Rattle.benches.specs.Benches.{stateOf};
 ghost use Rattle.benches.specs.Calls.{replaceOf, undoOf, redoOf, saveOf};
+ghost use Rattle.bench_lent.specs.Lent.{left};
 
 // Puts cells for `count` cells at a place of a lent bench's text, and records the step.
 pub fn replace(
@@ -18,10 +19,9 @@ pub fn replace(
     text1: &mut [u32],
     history: &mut [u32],
 ) -> Answer
-    ensures { λ r. ⌜ leaves (record { answer = r; benches = now (b .exit) }) (now (text0 .exit)) (now (text1 .exit))
-        (now (history .exit)) []
-        ≡ replaceOf (stateOf (now (b .entry)) (now (text0 .entry)) (now (text1 .entry)) (now (history .entry))) bench
-        place count (now (cells .entry)) ⌝ }
+    ensures { λ r. ⌜ left r (now (b .exit)) (now (text0 .exit)) (now (text1 .exit)) (now (history .exit)) [] ≡ replaceOf
+        (stateOf (now (b .entry)) (now (text0 .entry)) (now (text1 .entry)) (now (history .entry)))
+        bench place count (now (cells .entry)) ⌝ }
 {
     let next = bench_calls::replace(*b, bench, place, count, cells, text0, text1, history);
     *b = next.benches;
@@ -36,9 +36,8 @@ pub fn undo(
     text1: &mut [u32],
     history: &[u32],
 ) -> Answer
-    ensures { λ r. ⌜ leaves (record { answer = r; benches = now (b .exit) }) (now (text0 .exit)) (now (text1 .exit))
-        (now (history .entry)) []
-        ≡ undoOf (stateOf (now (b .entry)) (now (text0 .entry)) (now (text1 .entry)) (now (history .entry))) bench ⌝ }
+    ensures { λ r. ⌜ left r (now (b .exit)) (now (text0 .exit)) (now (text1 .exit)) (now (history .entry)) [] ≡ undoOf
+        (stateOf (now (b .entry)) (now (text0 .entry)) (now (text1 .entry)) (now (history .entry))) bench ⌝ }
 {
     let next = bench_calls::undo(*b, bench, text0, text1, history);
     *b = next.benches;
@@ -53,9 +52,8 @@ pub fn redo(
     text1: &mut [u32],
     history: &[u32],
 ) -> Answer
-    ensures { λ r. ⌜ leaves (record { answer = r; benches = now (b .exit) }) (now (text0 .exit)) (now (text1 .exit))
-        (now (history .entry)) []
-        ≡ redoOf (stateOf (now (b .entry)) (now (text0 .entry)) (now (text1 .entry)) (now (history .entry))) bench ⌝ }
+    ensures { λ r. ⌜ left r (now (b .exit)) (now (text0 .exit)) (now (text1 .exit)) (now (history .entry)) [] ≡ redoOf
+        (stateOf (now (b .entry)) (now (text0 .entry)) (now (text1 .entry)) (now (history .entry))) bench ⌝ }
 {
     let next = bench_calls::redo(*b, bench, text0, text1, history);
     *b = next.benches;
@@ -72,10 +70,10 @@ pub fn save(
     arrived: &[u8],
     out: &mut [u8],
 ) -> Answer
-    ensures { λ r. ⌜ leaves (record { answer = r; benches = now (b .exit) }) (now (text0 .entry)) (now (text1 .entry))
-        (now (history .entry)) (now (out .exit))
-        ≡ saveOf (stateOf (now (b .entry)) (now (text0 .entry)) (now (text1 .entry)) (now (history .entry))) bench
-        (now (arrived .entry)) (now (out .entry)) ⌝ }
+    ensures { λ r. ⌜ left r (now (b .exit)) (now (text0 .entry)) (now (text1 .entry)) (now (history .entry))
+        (now (out .exit)) ≡ saveOf
+        (stateOf (now (b .entry)) (now (text0 .entry)) (now (text1 .entry)) (now (history .entry)))
+        bench (now (arrived .entry)) (now (out .entry)) ⌝ }
 {
     let next = bench_calls::save(*b, bench, text0, text1, history, arrived, out);
     *b = next.benches;
