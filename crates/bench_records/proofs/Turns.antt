@@ -9,7 +9,7 @@ use native.Mathlib.Numerals.{add-one}
 use lib.ListN.{length, getD, take, drop, length-drop, drop-of-length-le}
 use lib.Seq.{slice, slice-cons, length-slice, drop-drop, length-take-le}
 use lib.Dec.{leb, ltb, eqb}
-use borrow.Author.Tests.{le-leb, lt-leb, lt-ltb, le-ltb, eq-eqb, ne-eqb, ltb-true, ltb-false}
+use borrow.Author.Tests.{le-leb, lt-leb, lt-ltb, le-ltb, eq-eqb, ne-eqb, eqb-true, ltb-true, ltb-false}
 use Rattle.answer.proofs.Below.{cond-case}
 use Rattle.editor.specs.Records.{Entry, lengthAfter}
 use Rattle.benches.specs.Words.{Side, sideOf, same, Record, sizeOf, onto, recordsIn}
@@ -28,25 +28,25 @@ module _ (room standing mine at : ℕ) (p : Pass) (h : Head) where
   abbrev after : ℕ
   after = p .len - h .removed + h .added
 
-  pub other-bench : 1 < h .bench → here ≡ Broken
-  unfolding turned
-  other-bench q = rw (lt-ltb 1 (h .bench) q)
+  module _ (other : h .bench ≡ mine → ⊥) where
+    pub no-bench : 1 < h .bench → here ≡ Broken
+    unfolding turned
+    no-bench q = rw (ne-eqb (h .bench) mine other, lt-ltb 1 (h .bench) q)
 
-  pub not-mine : h .bench ≤ 1 → (h .bench ≡ mine → ⊥) → here ≡ Through p
-  unfolding turned
-  not-mine q n = rw (le-ltb 1 (h .bench) q, ne-eqb (h .bench) mine n)
+    pub not-mine : h .bench ≤ 1 → here ≡ Through p
+    unfolding turned
+    not-mine q = rw (ne-eqb (h .bench) mine other, le-ltb 1 (h .bench) q)
 
-  module _ (one : h .bench ≤ 1) (own : h .bench ≡ mine) where
+  module _ (own : h .bench ≡ mine) where
     pub beyond : p .len < h .place + h .removed → here ≡ Broken
     unfolding turned
-    beyond q = rw (le-ltb 1 (h .bench) one, eq-eqb (h .bench) mine own, lt-ltb (p .len) (h .place + h .removed) q)
+    beyond q = rw (eq-eqb (h .bench) mine own, lt-ltb (p .len) (h .place + h .removed) q)
 
     module _ (within : h .place + h .removed ≤ p .len) where
       pub too-long : room < after → here ≡ Broken
       unfolding turned
       too-long q =
           rw (
-            le-ltb 1 (h .bench) one,
             eq-eqb (h .bench) mine own,
             le-ltb (p .len) (h .place + h .removed) within,
             lt-ltb room after q,
@@ -56,7 +56,6 @@ module _ (room standing mine at : ℕ) (p : Pass) (h : Head) where
       unfolding turned
       one-more q =
           rw (
-            le-ltb 1 (h .bench) one,
             eq-eqb (h .bench) mine own,
             le-ltb (p .len) (h .place + h .removed) within,
             le-ltb room after q,
@@ -80,11 +79,11 @@ module _ (room standing mine at : ℕ) (p : Pass) (h : Head) (b : Bounded room a
   unfolding turned
   turned-within =
       let P : Passed → Type 0 = Within room (at + sizeAt h) in
-      cond-case P (ltb 1 (h .bench)) (λ _. tt)
-      (λ _. cond-case P (eqb (h .bench) mine)
+      cond-case P (eqb (h .bench) mine)
       (λ _. cond-case P (ltb (p .len) (h .place + h .removed)) (λ _. tt)
       (λ _. cond-case P (ltb room (after room standing mine at p h)) (λ _. tt)
       (λ q. own-within (ltb-false room (after room standing mine at p h) q))))
+      (λ _. cond-case P (ltb 1 (h .bench)) (λ _. tt)
       (λ _. record { fits = b .fits; few = omega (arith, b .few); small = omega (arith, b .small) }))
 
 -- the side of a number that is 0 or 1
@@ -273,15 +272,10 @@ module _
       pub turn : Turns (turned room standing mine at q head)
       unfolding turned
       turn =
-          cond-case Turns (ltb 1 (head .bench))
-          (λ t.
-          rw first-four
-          (words-lost room standing mine at q (head .bench) (head .place) (head .removed) (head .added) rest
-          (omega (arith, length-rest)) (ltb-true 1 (head .bench) t)))
-          (λ t.
-          let step = stepped (ltb-false 1 (head .bench) t) in
           cond-case Turns (eqb (head .bench) mine)
-          (λ e. cond-case Turns (ltb (q .len) (head .place + head .removed))
+          (λ e.
+          let step = stepped (rw (eqb-true (head .bench) mine e) one) in
+          cond-case Turns (ltb (q .len) (head .place + head .removed))
           (λ u. step ∙ rw (e, lt-leb (head .place + head .removed) (q .len) (ltb-true _ _ u)))
           (λ u. cond-case Turns (ltb room reaches)
           (λ v.
@@ -298,7 +292,12 @@ module _
             le-leb (head .place + head .removed) (q .len) (ltb-false _ _ u),
             le-leb reaches room (ltb-false _ _ v),
           ))))
-          (λ e. step ∙ rw e))
+          (λ e. cond-case Turns (ltb 1 (head .bench))
+          (λ t.
+          rw first-four
+          (words-lost room standing mine at q (head .bench) (head .place) (head .removed) (head .added) rest
+          (omega (arith, length-rest)) (ltb-true 1 (head .bench) t)))
+          (λ t. stepped (ltb-false 1 (head .bench) t) ∙ rw e))
 
     -- the head that was read there, and what was found of it
     module _ (hd : Head) (is : hd ≡ headAt h at) where
@@ -321,3 +320,9 @@ module _
         pub turn-bounded : Bounded room at q → (p : Pass) → found ≡ Through p → Bounded room (at + sizeAt hd) p
         turn-bounded b p e =
             subst (Within room (at + sizeAt hd)) (sym f ∙ e) (turned-within room standing mine at q hd b)
+
+        -- the same, where the record's size is known before
+        pub turn-alike :
+            Bounded room at q → (p : Pass) → found ≡ Through p → (n : ℕ) → sizeAt hd ≡ n →
+            Bounded room (at + n) p × (from ≡ passIn room standing mine (at + n) p (slice (at + n) to h))
+        turn-alike b p e n same = rw (← same) (turn-bounded b p e, turn-through p e)

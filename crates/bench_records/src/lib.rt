@@ -10,7 +10,7 @@ ghost use Rattle.answer.specs.Answer.{limit};
 ghost use Rattle.bench_records.specs.Passing.{onward, begun};
 ghost use Rattle.benches.specs.Benches.{stateOf, records};
 ghost use Rattle.bench_records.specs.Judging.{textFits, leadsAs, fittedOf, judgedAt, soundBy, judgeOf};
-ghost use Rattle.bench_records.specs.Turning.{headAt, sizeAt, Bounded, turned, passIn};
+ghost use Rattle.bench_records.specs.Turning.{headAt, sizeAt, Bounded, turned, passIn, passFrom};
 
 // The first four words of a record.
 struct Head {
@@ -30,6 +30,12 @@ pub struct Pass {
     pub last: usize,
     pub next: usize,
     pub spare: usize,
+}
+
+// A pass at the word where its next record begins.
+struct Spot {
+    at: usize,
+    pass: Pass,
 }
 
 // What a pass finds: the records do not fit, or where it stands at their end.
@@ -107,10 +113,10 @@ fn pass_one(room: usize, standing: usize, mine: usize, at: usize, p: Pass, h: He
     requires { ⌜ Bounded room at p × (room ≤ limit) × (at + sizeAt h ≤ limit) × (h .place < 2 ^ 32) ⌝ }
     ensures { λ r. ⌜ r ≡ turned room standing mine at p h ⌝ }
 {
-    if 1 < h.bench {
-        return Passed::Broken;
-    }
     if h.bench != mine {
+        if 1 < h.bench {
+            return Passed::Broken;
+        }
         return Passed::Through(p);
     }
     let len = p.len;
@@ -124,6 +130,44 @@ fn pass_one(room: usize, standing: usize, mine: usize, at: usize, p: Pass, h: He
     }
     let size = 4 + removed + h.added;
     Passed::Through(pass_own(standing, at, p, after, size))
+}
+
+// Past the records that come next and have a record's counts, as far as they fit. Steps of one kind come in runs, and
+// where the next record begins is known before this one is read.
+fn past_alike(
+    history: &[u32],
+    used: usize,
+    mine: usize,
+    standing: usize,
+    room: usize,
+    from: Spot,
+    like: Head,
+) -> Spot
+    requires { ⌜ (from .at ≤ used) × (used ≤ length (now history)) × (length (now history) ≤ limit) × (mine ≤ 1)
+        × Bounded room (from .at) (from .pass) × (room ≤ limit) × (sizeAt like ≤ used) ⌝ }
+    ensures { λ r. ⌜ (from .at ≤ r .at) × (r .at ≤ used) × Bounded room (r .at) (r .pass)
+        × (passFrom room standing mine used (now (history .entry)) from
+        ≡ passFrom room standing mine used (now (history .entry)) r) ⌝ }
+{
+    let size = 4 + like.removed + like.added;
+    let mut at = from.at;
+    let mut pass = from.pass;
+    while size <= used - at {
+        let h = head_at(history, at);
+        if h.removed != like.removed {
+            return Spot { at, pass };
+        }
+        if h.added != like.added {
+            return Spot { at, pass };
+        }
+        let found = pass_one(room, standing, mine, at, pass, h);
+        let Passed::Through(next) = found else {
+            return Spot { at, pass };
+        };
+        pass = next;
+        at += size;
+    }
+    Spot { at, pass }
 }
 
 // A bench's own records among all words used, from its opening length on; no length may exceed the room.
@@ -158,11 +202,14 @@ fn pass_over(
             return Passed::Broken;
         }
         let found = pass_one(room, standing, mine, at, p, h);
-        let Passed::Through(next) = found else {
+        let Passed::Through(pass) = found else {
             return Passed::Broken;
         };
-        p = next;
-        at += size;
+        let end = at + size;
+        let next = Spot { at: end, pass };
+        let run = past_alike(history, used, mine, standing, room, next, h);
+        at = run.at;
+        p = run.pass;
     }
     Passed::Through(p)
 }

@@ -53,8 +53,8 @@ returns-2 c =
     let h = c .before .before .before .head-at in
     sym
     (l .inv .2
-    ∙ turn-short (a .room) (a .standing) (a .mine) (omega arith) (a .history .now) (a .used) (omega arith) (l .at) (l .p)
-    (omega arith) (h .result) (h .ensures .0) (omega arith))
+    ∙ turn-short (a .room) (a .standing) (a .mine) (omega arith) (a .history .now) (a .used) (omega arith) (l .at)
+    (l .p) (omega arith) (h .result) (h .ensures .0) (omega arith))
 
 pass-one-requires : tie.Need-pass-one-requires Inv-loop μ-loop
 pass-one-requires c κs =
@@ -76,30 +76,45 @@ returns-3 c =
     let f = c .before .before .pass-one in
     sym
     (l .inv .2
-    ∙ turn-broken (a .room) (a .standing) (a .mine) (omega arith) (a .history .now) (a .used) (omega arith) (l .at) (l .p)
-    (omega arith) (h .result) (h .ensures .0) (omega arith) (f .result) (f .ensures) (c .enum-told .given .1))
+    ∙ turn-broken (a .room) (a .standing) (a .mine) (omega arith) (a .history .now) (a .used) (omega arith) (l .at)
+    (l .p) (omega arith) (h .result) (h .ensures .0) (omega arith) (f .result) (f .ensures) (c .enum-told .given .1))
 
-add-at : tie.Need-add-at Inv-loop μ-loop
-add-at c = omega (arith, limit-small)
+add-end : tie.Need-add-end Inv-loop μ-loop
+add-end c = omega (arith, limit-small)
 
-loop-less : tie.Need-loop-less Inv-loop μ-loop
-loop-less c = omega arith
-
-loop-again : tie.Need-loop-again Inv-loop μ-loop
-loop-again c =
+past-alike-requires : tie.Need-past-alike-requires Inv-loop μ-loop
+past-alike-requires c κs =
     let s = c .before .before .before .before .before .before .before .before .before .before .before .before in
     let a = s .args in
     let one = s .pre .2 in
     let l = c .before .before .before .before .before .before .before .before .before .before .loop in
     let h = c .before .before .before .before .before .before .before .head-at in
     let f = c .before .before .before .pass-one in
-    let g = c .before .found .given .1 in (
-      omega arith,
-      turn-bounded (a .room) (a .standing) (a .mine) (omega arith) (a .history .now) (a .used) (omega arith) (l .at) (l .p)
-          (omega arith) (h .result) (h .ensures .0) (omega arith) (f .result) (f .ensures) (l .inv .1) _ g,
+    let g = c .before .found .given .1 in
+    let bounded =
+    turn-bounded (a .room) (a .standing) (a .mine) one (a .history .now) (a .used) (omega arith) (l .at) (l .p)
+    (omega arith) (h .result) (h .ensures .0) (omega arith) (f .result) (f .ensures) (l .inv .1) _ g in
+    (omega arith, omega arith, omega arith, one, bounded, omega arith, omega arith)
+
+loop-less : tie.Need-loop-less Inv-loop μ-loop
+loop-less c = omega arith
+
+loop-again : tie.Need-loop-again Inv-loop μ-loop
+loop-again c =
+    let e = c .before .before .before .before .before .before .before .before .before .before .before .before in
+    let s = e .before .before in
+    let a = s .args in
+    let l = e .loop in
+    let h = c .before .before .before .before .before .before .before .before .before .head-at in
+    let f = c .before .before .before .before .before .pass-one in
+    let g = c .before .before .before .found .given .1 in
+    let run = c .before .past-alike .ensures in (
+      run .1,
+      run .2,
       l .inv .2
-          ∙ turn-through (a .room) (a .standing) (a .mine) (omega arith) (a .history .now) (a .used) (omega arith) (l .at)
-          (l .p) (omega arith) (h .result) (h .ensures .0) (omega arith) (f .result) (f .ensures) _ g,
+          ∙ turn-through (a .room) (a .standing) (a .mine) (s .pre .2) (a .history .now) (a .used) (omega arith) (l .at)
+          (l .p) (omega arith) (h .result) (h .ensures .0) (omega arith) (f .result) (f .ensures) _ g
+          ∙ run .3,
     )
 
 returns-4 : tie.Need-returns-4 Inv-loop μ-loop
@@ -129,7 +144,8 @@ pass-over-spec =
     enum-known-found
     enum-told
     returns-3
-    add-at
+    add-end
+    past-alike-requires
     loop-less
     loop-again
     returns-4)
