@@ -3,6 +3,7 @@ pub mod Greedy
 pub mod Grow
 pub mod Alive
 pub mod Faulty
+pub mod Kept
 pub mod Places
 pub mod Line
 pub mod Cases

@@ -63,7 +63,7 @@ fn counted(v: u8, from: u8, to: u8, first: u8, b: u8) -> u8
 }
 
 // A byte's value as a digit, 16 where it is none.
-fn digit_value(b: u8) -> u8
+pub fn digit_value(b: u8) -> u8
     ensures { λ r. ⌜ r ≡ valueOf b ⌝ }
 {
     let decimal = counted(16, b'0', b'9', 0, b);
