@@ -52,7 +52,7 @@ module _ {S : Type 0} {inner : Rule S} {Sound : S → Type 0} {Good : ℕ → Ty
   unfolding textDoes
   text-kept n st b h =
       let one : (c : ℕ) → Sure (fed (n + 1) bad (inner .byte st c)) =
-          λ c. fed-kept (n + 1) bad (inner .byte st c) (kept .keeps st c h) (λ k z. z) in
+      λ c. fed-kept (n + 1) bad (inner .byte st c) (kept .keeps st c h) (λ k z. z) in
       cond-case Sure (eqb b 63) (λ _. cond-case Sure (eqb n 0) (λ _. lit< tt) (λ _. ended-kept (inner .end 0 st) (kept .ends 0 st h)))
       (λ _. cond-case Sure (eqb b 61) (λ _. due-kept (leb (n + 3) most) (equals (n + 3) st) h)
       (λ _. cond-case Sure (leb (n + 1) most)
