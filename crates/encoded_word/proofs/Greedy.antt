@@ -58,7 +58,7 @@ unfolding qText
 q-few [] = omega arith
 q-few (b ∷ bs) = omega (arith, spelled-few b, q-few bs, length-append (spelled b) (qText bs))
 
-two-fit : (us : List ℕ) → length us ≤ 2 → fits us ≡ true
+pub two-fit : (us : List ℕ) → length us ≤ 2 → fits us ≡ true
 unfolding fits wordOf
 two-fit us h =
     le-leb (length (wordOf us)) 75 (omega (arith, q-few (writing Header us), size-bound Header us, length-append (qText (writing Header us)) wordEnd))

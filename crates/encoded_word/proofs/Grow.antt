@@ -20,6 +20,7 @@ use Rattle.utf7.proofs.Pieces.{length-run}
 use Rattle.utf7.proofs.Round.{AllGood, pieces-good, xs, xs-below, shifted-units}
 use Rattle.parsing.specs.Digits.{digits}
 use Rattle.encoded_word.specs.Writing.{itself, spelled, qText, wordStart, wordEnd, wordOf, fits}
+use Rattle.encoded_word.specs.Inner.{runSize, trailing, brings}
 
 q-append : (a b : List ℕ) → length (qText (a ++ b)) ≡ length (qText a) + length (qText b)
 unfolding qText
@@ -37,11 +38,6 @@ unfolding qText
 letters-one [] h = refl
 letters-one (y ∷ ys) h =
     length-append (spelled (letterOf slash y)) (qText (map (letterOf slash) ys)) ∙ rw (letter-one y (h .0), letters-one ys (h .1)) (omega arith)
-
--- the characters of a run of k units
-abbrev pub runSize : ℕ → ℕ
-runSize zero = 0
-runSize (suc k) = 2 + (suc k * 16 + 5) / 6
 
 spelled-some : (b : ℕ) → 0 < length (spelled b)
 unfolding spelled
@@ -114,15 +110,6 @@ sizeFrom k us = withRun k (pieces Header us)
 units-more : (us : List ℕ) (v : ℕ) → Each IsUnit us → IsUnit v → Each IsUnit (us ++ v ∷ [])
 units-more [] v h k = (k, tt)
 units-more (u ∷ us) v h k = (h .0, units-more us v (h .1) k)
-
--- the shifted units at the end of some, behind k of them
-abbrev pub trailing : ℕ → List ℕ → ℕ
-trailing k [] = k
-trailing k (u ∷ us) = cond (own Header u) (trailing 0 us) (cond (eqb u 43) (trailing 0 us) (trailing (k + 1) us))
-
--- the characters that one more unit brings, behind k shifted ones
-abbrev pub brings : ℕ → ℕ → ℕ
-brings v k = cond (own Header v) (length (spelled v)) (cond (eqb v 43) 2 (runSize (k + 1) - runSize k))
 
 -- the same unit in front of both
 front-more :

@@ -1,6 +1,7 @@
 pub mod Round
 pub mod Greedy
 pub mod Grow
+pub mod Shares
 pub mod Alive
 pub mod Faulty
 pub mod Kept

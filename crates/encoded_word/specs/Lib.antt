@@ -1,3 +1,4 @@
 pub mod Writing
 pub mod Rule
+pub mod Inner
 pub mod Cases
