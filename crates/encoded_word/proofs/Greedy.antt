@@ -48,7 +48,7 @@ module _ (test : ℕ → Bool) where
       below false e f = omega (arith, eqb-false m (suc n) e)
 
 -- two units always fit
-spelled-few : (b : ℕ) → length (spelled b) ≤ 3
+pub spelled-few : (b : ℕ) → length (spelled b) ≤ 3
 unfolding spelled digits
 spelled-few b =
     cond-case (λ (l : List ℕ). length l ≤ 3) (eqb b 32) (λ _. lit≤ tt) (λ _. cond-case (λ (l : List ℕ). length l ≤ 3) (itself b) (λ _. lit≤ tt) (λ _. lit≤ tt))

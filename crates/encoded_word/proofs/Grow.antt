@@ -22,7 +22,7 @@ use Rattle.parsing.specs.Digits.{digits}
 use Rattle.encoded_word.specs.Writing.{itself, spelled, qText, wordStart, wordEnd, wordOf, fits}
 use Rattle.encoded_word.specs.Inner.{runSize, trailing, brings}
 
-q-append : (a b : List ℕ) → length (qText (a ++ b)) ≡ length (qText a) + length (qText b)
+pub q-append : (a b : List ℕ) → length (qText (a ++ b)) ≡ length (qText a) + length (qText b)
 unfolding qText
 q-append [] b = omega arith
 q-append (x ∷ a) b =
@@ -39,7 +39,7 @@ letters-one [] h = refl
 letters-one (y ∷ ys) h =
     length-append (spelled (letterOf slash y)) (qText (map (letterOf slash) ys)) ∙ rw (letter-one y (h .0), letters-one ys (h .1)) (omega arith)
 
-spelled-some : (b : ℕ) → 0 < length (spelled b)
+pub spelled-some : (b : ℕ) → 0 < length (spelled b)
 unfolding spelled
 spelled-some b = cond-case (λ (l : List ℕ). 0 < length l) (eqb b 32) (λ _. lit< tt) (λ _. cond-case (λ (l : List ℕ). 0 < length l) (itself b) (λ _. lit< tt) (λ _. omega arith))
 
@@ -99,7 +99,7 @@ with-none (self u ∷ ps) g = rw (size-self u ps) (omega arith)
 with-none (sign ∷ ps) g = rw (size-sign ps) (omega arith)
 with-none (stretch us ∷ ps) g = rw (size-run us ps (g .0 .0) (shifted-units Header us (g .0 .1)), zero-add (length us))
 
-run-grows : (k : ℕ) → runSize k < runSize (k + 1)
+pub run-grows : (k : ℕ) → runSize k < runSize (k + 1)
 run-grows zero = lit< tt
 run-grows (suc k) = rw (add-one (suc k)) (omega arith)
 

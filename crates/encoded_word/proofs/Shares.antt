@@ -7,11 +7,12 @@ use native.Mathlib.Omega.{arith}
 use native.Mathlib.Numerals.{add-one}
 use native.Mathlib.Nat.{add-zero}
 use lib.ListN.{length, getD, take, drop, length-append, length-take, length-drop, List·getD-eq-default}
-use lib.Seq.{take-suc, take-length}
+use lib.Seq.{take-suc, take-length, take-all, drop-drop}
 use lib.Dec.{ltb, leb, eqb, lit≤}
 use borrow.Author.Tests.{ltb-true, ltb-false, leb-true, leb-false, le-leb, lt-leb, eqb-true, eqb-false, lt-ltb, le-ltb}
+use Rattle.answer.specs.Answer.{limit}
 use Rattle.answer.specs.Lists.{Each}
-use Rattle.answer.proofs.Below.{cond-case, both, each-at, each-take}
+use Rattle.answer.proofs.Below.{cond-case, both, each-at, each-take, each-drop}
 use Rattle.base64.specs.Letters.{within}
 use Rattle.utf7.specs.Sets.{own}
 use Rattle.utf7.specs.Writing.{IsUnit, writing, spellAll, pieces}
@@ -42,6 +43,10 @@ fits-size us h = omega (arith, word-size us, leb-true (length (wordOf us)) 75 h)
 few-taken : (us : List ℕ) → 0 < length us → shareOf us ≤ length us
 few-taken [] h = absurd (omega arith)
 few-taken (u ∷ us) h = share-few u us
+
+some-taken : (us : List ℕ) → 0 < length us → 0 < shareOf us
+some-taken [] h = absurd (omega arith)
+some-taken (u ∷ us) h = share-some u us
 
 taken-fits : (us : List ℕ) → 0 < length us → fits (take (shareOf us) us) ≡ true
 taken-fits [] h = absurd (omega arith)
@@ -110,8 +115,8 @@ module _ (us : List ℕ) (units : Each IsUnit us) (some : 0 < length us) where
         let q : m - 1 + 1 ≡ m = omega arith in
         let f : fits (take (m - 1) us) ≡ true = fits-down us units 1 (m - 1) (omega arith) (rw q fit) in
         let n : parts us (m - 1) ≡ false =
-            and-false (isHigh (getD us (m - 1 - 1) 0)) (isLow (getD us (m - 1) 0))
-            (high-not-low (getD us (m - 1) 0) (both (isHigh (getD us (m - 1) 0)) (isLow (getD us m 0)) p .0)) in
+        and-false (isHigh (getD us (m - 1 - 1) 0)) (isLow (getD us (m - 1) 0))
+        (high-not-low (getD us (m - 1) 0) (both (isHigh (getD us (m - 1) 0)) (isLow (getD us m 0)) p .0)) in
         let other : shareOf us ≡ m → ⊥ = λ e. false≢true (sym (taken-whole us some) ∙ ap (parts us) e ∙ p) in
         omega (arith, upto, taken-most us some (m - 1) (omega arith) f n, other)
 
@@ -250,3 +255,54 @@ line-more (u ∷ us) h =
     ap (λ (l : List (List ℕ)). joined (wordOf (take k (u ∷ us)) ∷ map wordOf l))
     (shares-enough (length us) (length (drop k (u ∷ us))) (drop k (u ∷ us)) (omega arith) (omega arith))
     ∙ word-then (take k (u ∷ us)) (drop k (u ∷ us))
+
+-- the units from a place on, and the word that they begin with
+module _ (units : List ℕ) (i : ℕ) (good : Each IsUnit units) (h : i < length units) where
+  abbrev rest : List ℕ
+  rest = drop i units
+
+  rest-some : 0 < length rest
+  rest-some = omega (arith, length-drop i units)
+
+  pub step-asked : length units ≤ limit → Each IsUnit rest × (0 < length rest) × (length rest ≤ limit)
+  step-asked few = (each-drop IsUnit units i good, rest-some, omega (arith, length-drop i units))
+
+  pub step-taken : (0 < shareOf rest) × (i + shareOf rest ≤ length units)
+  step-taken = (some-taken rest rest-some, omega (arith, few-taken rest rest-some, length-drop i units))
+
+  pub step-fits : fits (take (shareOf rest) rest) ≡ true
+  step-fits = taken-fits rest rest-some
+
+  more-left : ltb 0 (length (drop (i + shareOf rest) units)) ≡ ltb (i + shareOf rest) (length units)
+  more-left = ap (ltb 0) (length-drop (i + shareOf rest) units) ∙ by (ltb (i + shareOf rest) (length units)) refl
+    where
+      by : (t : Bool) → ltb (i + shareOf rest) (length units) ≡ t → ltb 0 (length units - (i + shareOf rest)) ≡ t
+      by true e = lt-ltb 0 (length units - (i + shareOf rest)) (omega (arith, ltb-true (i + shareOf rest) (length units) e))
+      by false e = le-ltb 0 (length units - (i + shareOf rest)) (omega (arith, ltb-false (i + shareOf rest) (length units) e))
+
+  pub step-line :
+      lineOf rest ≡ wordAnd (ltb (i + shareOf rest) (length units)) (take (shareOf rest) rest) ++ lineOf (drop (i + shareOf rest) units)
+  step-line = line-more rest rest-some ∙ rw (drop-drop (shareOf rest) i units, more-left)
+
+end-size : (more : Bool) → length (endOf more) ≡ 2 + cond more 3 0
+end-size true = refl
+end-size false = refl
+
+pub word-and-size : (more : Bool) (us : List ℕ) → length (wordAnd more us) ≡ 12 + qSize us + cond more 3 0
+unfolding wordAnd qSize
+word-and-size more us = omega (arith, length-append (qText (writing Header us)) (endOf more), end-size more)
+
+-- the units from a place on, lent as `&units[i..]`
+pub rest-whole : (units : List ℕ) (i : ℕ) → take (length units - i) (drop i units) ≡ drop i units
+rest-whole units i = take-all (length units - i) (drop i units) (omega (arith, length-drop i units))
+
+pub step-size :
+    (units : List ℕ) (i : ℕ) → Each IsUnit units → i < length units →
+    let k = shareOf (drop i units) in
+    length (lineOf (drop i units)) ≡ 12 + qSize (take k (drop i units)) + cond (ltb (i + k) (length units)) 3 0 + length (lineOf (drop (i + k) units))
+step-size units i good h =
+    let k : ℕ = shareOf (drop i units) in
+    let more : Bool = ltb (i + k) (length units) in
+    ap length (step-line units i good h)
+    ∙ length-append (wordAnd more (take k (drop i units))) (lineOf (drop (i + k) units))
+    ∙ rw (word-and-size more (take k (drop i units)))

@@ -1,0 +1,96 @@
+-- How many characters a byte of Q text, a run and a unit bring. Assumes nothing.
+use Prim.Native.Nat.{ℕ, zero, suc, _+_, _-_, _*_, _/_, _<_, _≤_}
+use mathlib.Core.Path.{_≡_, refl, sym, ap, _∙_}
+use mathlib.Core.Bool.{Bool, true, false, cond, not, _&&_, false≢true}
+use mathlib.Core.List.{List, [], _∷_, _++_, append-assoc, append-nil}
+use native.Mathlib.Omega.{arith}
+use native.Mathlib.Numerals.{add-one}
+use lib.ListN.{length, getD, take, drop, length-append}
+use lib.Seq.{take-suc, take-add}
+use lib.Dec.{leb, eqb}
+use borrow.Author.Tests.{eq-eqb, ne-eqb, lt-leb}
+use Rattle.answer.specs.Answer.{limit}
+use Rattle.answer.specs.Bytes.{bytes}
+use Rattle.answer.proofs.Below.{cond-case}
+use Rattle.base64.specs.Letters.{within}
+use Rattle.utf7.specs.Sets.{member, own}
+use Rattle.utf7.specs.declared.Style.the-variants.{Header}
+use Rattle.parsing.specs.Digits.{digit, digits}
+use Rattle.encoded_word.specs.Writing.{itself, spelled, qText}
+use Rattle.encoded_word.specs.Inner.{runSize, brings}
+use Rattle.encoded_word.proofs.Greedy.{spelled-few}
+use Rattle.encoded_word.proofs.Grow.{q-append}
+
+pub spelled-space : (b : ℕ) → b ≡ 32 → spelled b ≡ 95 ∷ []
+unfolding spelled
+spelled-space b e = rw (eq-eqb b 32 e)
+
+-- a space is not itself in Q text
+itself-apart : (b : ℕ) → itself b ≡ true → b ≡ 32 → ⊥
+unfolding itself
+itself-apart b t e = false≢true (ap itself (sym e) ∙ t)
+
+pub spelled-itself : (b : ℕ) → itself b ≡ true → spelled b ≡ b ∷ []
+unfolding spelled
+spelled-itself b t = rw (ne-eqb b 32 (itself-apart b t), t)
+
+pub spelled-pair : (b : ℕ) → (b ≡ 32 → ⊥) → itself b ≡ false → spelled b ≡ 61 ∷ digits 16 2 b
+unfolding spelled
+spelled-pair b n t = rw (ne-eqb b 32 n, t)
+
+pub itself-over : (b : ℕ) → 126 < b → itself b ≡ false
+unfolding itself
+itself-over b h = rw (lt-leb b 126 h) (by (leb 33 b))
+  where
+    by : (a : Bool) → ((a && false) && not (member (bytes "=?_") b)) ≡ false
+    by true = refl
+    by false = refl
+
+pub pair-three : (b : ℕ) → length (61 ∷ digits 16 2 b) ≡ 3
+unfolding digits
+pair-three b = refl
+
+pub run-some : (k : ℕ) → (k ≡ 0 → ⊥) → 2 + (k * 16 + 5) / 6 ≡ runSize k
+run-some zero h = absurd (h refl)
+run-some (suc k) h = refl
+
+pub pair-end : (b at : ℕ) → at + 3 ≡ at + length (61 ∷ digits 16 2 b)
+pair-end b at = rw (pair-three b)
+
+-- what a unit brings fits every machine word
+pub brings-few : (v k : ℕ) → k ≤ limit → brings v k ≤ 4000000
+unfolding limit
+brings-few v k h =
+    cond-case (λ (n : ℕ). n ≤ 4000000) (own Header v) (λ _. omega (arith, spelled-few v))
+    (λ _. cond-case (λ (n : ℕ). n ≤ 4000000) (eqb v 43) (λ _. omega arith) (λ _. omega (arith, run-few k)))
+  where
+    run-few : (k : ℕ) → runSize (k + 1) ≤ 3 * k + 6
+    run-few k = rw (add-one k) (omega arith)
+
+-- Q text, one byte more
+q-both : (a b : List ℕ) → qText (a ++ b) ≡ qText a ++ qText b
+unfolding qText
+q-both [] b = refl
+q-both (x ∷ a) b = ap (λ (l : List ℕ). spelled x ++ l) (q-both a b) ∙ sym (append-assoc (spelled x) (qText a) (qText b))
+
+q-one : (x : ℕ) → qText (x ∷ []) ≡ spelled x
+unfolding qText
+q-one x = append-nil (spelled x)
+
+pub q-next : (l : List ℕ) (i : ℕ) → i < length l → qText (take (i + 1) l) ≡ qText (take i l) ++ spelled (getD l i 0)
+q-next l i h = rw (add-one i, take-suc l i 0 h, q-both (take i l) (getD l i 0 ∷ []), q-one (getD l i 0))
+
+-- fewer bytes have no more characters
+pub q-upto : (l : List ℕ) (i k : ℕ) → length (qText (take i l)) ≤ length (qText (take (i + k) l))
+q-upto l i k = rw (take-add i k l) (omega (arith, q-append (take i l) (take k (drop i l))))
+
+pub q-more-size :
+    (l : List ℕ) (i : ℕ) → i < length l → length (qText (take (i + 1) l)) ≡ length (qText (take i l)) + length (spelled (getD l i 0))
+q-more-size l i h = ap length (q-next l i h) ∙ length-append (qText (take i l)) (spelled (getD l i 0))
+
+pub q-room :
+    (l : List ℕ) (i n : ℕ) → i < n → n ≤ length l →
+    length (qText (take i l)) + length (spelled (getD l i 0)) ≤ length (qText (take n l))
+q-room l i n h k =
+    let e : i + 1 + (n - (i + 1)) ≡ n = omega arith in
+    omega (arith, q-more-size l i (omega arith), rw e at (q-upto l (i + 1) (n - (i + 1))))
