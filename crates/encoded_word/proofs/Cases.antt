@@ -27,4 +27,5 @@ hold = refl and refl and refl and refl and refl and refl and refl and (λ _. ref
     (λ _. refl) and (λ _. refl) and (λ _. refl) and (λ _. refl) and (λ _. refl) and (λ _. refl) and
     (λ _. refl) and (λ _. refl) and (λ _. refl) and (λ _. refl) and (λ _. refl) and (λ _. refl) and
     (λ _. refl) and (λ _. refl) and (λ _. refl) and (λ _. refl) and (λ _. refl) and (λ _. refl) and refl and
-    refl and refl and refl and refl and refl and refl and (λ _. refl) and tt
+    refl and refl and refl and refl and refl and refl and refl and refl and refl and
+    refl and refl and refl and (λ _. refl) and tt

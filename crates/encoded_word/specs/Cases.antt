@@ -83,6 +83,19 @@ cases =
     "=?utf-7?Q?aaaaaaaaaaaaaaaaaaaaaaaaaaaaaaaaaaaaaaaaaaaaaaaaaaaaaaaaaa?=␍␊ =?utf-7?Q?+2D3eCQ-?="
     ∷ writes tt (bytes "aaaaaaaaaaaaaaaaaaaaaaaaaaaaaaaaaaaaaaaaaaaaaaaaaaaaaaaaaa" ++ (0xD83D ∷ 0x61 ∷ []))
     "=?utf-7?Q?aaaaaaaaaaaaaaaaaaaaaaaaaaaaaaaaaaaaaaaaaaaaaaaaaaaaaaaaaa+2D0-?=␍␊ =?utf-7?Q?a?="
+    -- the first and the last surrogates, and what stands next to them
+    ∷ writes tt (bytes "aaaaaaaaaaaaaaaaaaaaaaaaaaaaaaaaaaaaaaaaaaaaaaaaaaaaaaaaaa" ++ (0xDBFF ∷ 0xDC00 ∷ []))
+    "=?utf-7?Q?aaaaaaaaaaaaaaaaaaaaaaaaaaaaaaaaaaaaaaaaaaaaaaaaaaaaaaaaaa?=␍␊ =?utf-7?Q?+2//cAA-?="
+    ∷ writes tt (bytes "aaaaaaaaaaaaaaaaaaaaaaaaaaaaaaaaaaaaaaaaaaaaaaaaaaaaaaaaaa" ++ (0xD800 ∷ 0xDFFF ∷ []))
+    "=?utf-7?Q?aaaaaaaaaaaaaaaaaaaaaaaaaaaaaaaaaaaaaaaaaaaaaaaaaaaaaaaaaa?=␍␊ =?utf-7?Q?+2ADf/w-?="
+    ∷ writes tt (bytes "aaaaaaaaaaaaaaaaaaaaaaaaaaaaaaaaaaaaaaaaaaaaaaaaaaaaaaaaaa" ++ (0xD7FF ∷ 0xDC00 ∷ []))
+    "=?utf-7?Q?aaaaaaaaaaaaaaaaaaaaaaaaaaaaaaaaaaaaaaaaaaaaaaaaaaaaaaaaaa+1/8-?=␍␊ =?utf-7?Q?+3AA-?="
+    ∷ writes tt (bytes "aaaaaaaaaaaaaaaaaaaaaaaaaaaaaaaaaaaaaaaaaaaaaaaaaaaaaaaaaa" ++ (0xD800 ∷ 0xDBFF ∷ []))
+    "=?utf-7?Q?aaaaaaaaaaaaaaaaaaaaaaaaaaaaaaaaaaaaaaaaaaaaaaaaaaaaaaaaaa+2AA-?=␍␊ =?utf-7?Q?+2/8-?="
+    ∷ writes tt (bytes "aaaaaaaaaaaaaaaaaaaaaaaaaaaaaaaaaaaaaaaaaaaaaaaaaaaaaaaaaa" ++ (0xD800 ∷ 0xE000 ∷ []))
+    "=?utf-7?Q?aaaaaaaaaaaaaaaaaaaaaaaaaaaaaaaaaaaaaaaaaaaaaaaaaaaaaaaaaa+2AA-?=␍␊ =?utf-7?Q?+4AA-?="
+    ∷ writes tt (bytes "aaaaaaaaaaaaaaaaaaaaaaaaaaaaaaaaaaaaaaaaaaaaaaaaaaaaaaaaaa" ++ (0xDC00 ∷ 0xDC00 ∷ []))
+    "=?utf-7?Q?aaaaaaaaaaaaaaaaaaaaaaaaaaaaaaaaaaaaaaaaaaaaaaaaaaaaaaaaaa+3AA-?=␍␊ =?utf-7?Q?+3AA-?="
     ∷ unwritable tt (0xFFFF ∷ 0x10000 ∷ []) 1
     ∷ []
 
