@@ -1,10 +1,10 @@
 /*
  * Qalithonda: the text part of a journal program.
  *
- * It reads and writes UTF-7 (RFC 2152), ISO-2022-JP-2 (RFC 1554, "JP-2") and mailbox names of IMAP
- * (RFC 3501, section 5.1.3), steps through a text cell by cell, compares two texts, and has an
- * editable page with undo and redo, which a file can keep, and two benches that edit two letters
- * over one history. Link with libqalithonda.a or libqalithonda.so.
+ * It reads and writes UTF-7 (RFC 2152), ISO-2022-JP-2 (RFC 1554, "JP-2"), mailbox names of IMAP
+ * (RFC 3501, section 5.1.3) and subject lines (RFC 2047), steps through a text cell by cell,
+ * compares two texts, and has an editable page with undo and redo, which a file can keep, and two
+ * benches that edit two letters over one history. Link with libqalithonda.a or libqalithonda.so.
  *
  * Cells. A text is read to cells, which are 32-bit numbers. A cell of UTF-7 or of a mailbox name is
  * a UTF-16 unit, 0 to 65535; half a surrogate pair is a unit like any other. A JP-2 cell is its
@@ -184,6 +184,34 @@ qalithonda_numbers qalithonda_mailbox_read(const uint8_t *text, size_t text_len,
  */
 qalithonda_numbers qalithonda_mailbox_write(const uint32_t *cells, size_t cells_len,
                                             uint8_t *out, size_t out_len);
+
+
+/* ---- Subject lines ----
+ *
+ * Words of RFC 2047, "=?utf-7?Q?" to "?=", of at most 75 characters, joined by CR, LF and a space.
+ * Each holds UTF-7 in header style, complete in itself: '_' is a space, '=' and two capital hex
+ * digits are any byte, and other bytes 33 to 126 are themselves. A cell is a UTF-16 unit. No units
+ * are an empty line. No page is of this format.
+ */
+
+/*
+ * Reads a line to cells, however its units are shared among its words. A line of n bytes has at most
+ * n cells. A line that was written, and is not over the limit, gives its units back.
+ * Accepted: the count of cells, which are in `cells`.
+ * Refused: 16 (line); 21, 1, 2, 3, 4 (21 first at one byte; the others in the line, where an '=' pair
+ * stands at its '=' and the end of a word at its '?'); 9 (cells).
+ */
+qalithonda_numbers qalithonda_subject_read(const uint8_t *line, size_t line_len,
+                                           uint32_t *cells, size_t cells_len);
+
+/*
+ * Writes units as a line. Each word takes as many as fit, and parts no surrogate pair. n units need
+ * at most 78n bytes.
+ * Accepted: the count of bytes, which are in `line`.
+ * Refused: 16 (units); 10 (a unit above 65535); 9 (line).
+ */
+qalithonda_numbers qalithonda_subject_write(const uint32_t *units, size_t units_len,
+                                            uint8_t *line, size_t line_len);
 
 
 /* ---- Stepping through a text ----

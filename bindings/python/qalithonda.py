@@ -1,5 +1,6 @@
 """UTF-7 (RFC 2152), ISO-2022-JP-2 (RFC 1554) and mailbox names of IMAP (RFC 3501, section 5.1.3), read, written and
-stepped through, and letters of the first two edited, one at a time or two over one history, over libqalithonda.so.
+stepped through, letters of the first two edited, one at a time or two over one history, and subject lines (RFC 2047)
+read and written, over libqalithonda.so.
 
 >>> from qalithonda import utf7, jp2, mailbox
 >>> utf7.read(b"A+ImIDkQ.") == [0x41, 0x2262, 0x391, 0x2E]
@@ -17,6 +18,7 @@ import ctypes
 import enum
 import operator
 import os
+import sys
 from array import array
 from pathlib import Path
 from typing import Callable, Iterable, List, NamedTuple, Optional, Tuple, TypeVar, Union
@@ -38,6 +40,7 @@ __all__ = [
     "Text",
     "jp2",
     "mailbox",
+    "subject",
     "utf7",
 ]
 
@@ -306,6 +309,8 @@ _mailbox_write = _function("mailbox_write", _Numbers, *_WORDS, *_OUT)
 _mailbox_start = _function("mailbox_start", _MailboxCursor)
 _mailbox_step = _function("mailbox_step", _MailboxStepped, *_BYTES, _MailboxCursor)
 _mailbox_compare = _function("mailbox_compare", _Compared, *_BYTES, *_BYTES)
+_subject_read = _function("subject_read", _Numbers, *_BYTES, *_WORDS)
+_subject_write = _function("subject_write", _Numbers, *_WORDS, *_OUT)
 _utf7_header_open = _function("utf7_header_open", _Edited, *_BYTES, *_WORDS, *_WORDS)
 _utf7_body_open = _function("utf7_body_open", _Edited, *_BYTES, *_WORDS, *_WORDS)
 _jp2_open = _function("jp2_open", _Edited, *_BYTES, *_WORDS, *_WORDS)
@@ -600,6 +605,45 @@ class mailbox:
     def compare(first: bytes, second: bytes) -> Union[Same, Part]:
         """Whether two names read as the same cells, or where they part, as utf7.compare does."""
         return _compare(_mailbox_compare, first, second)
+
+
+#: UTF-16 as it stands in an array, with no mark of its order.
+_UTF16 = "utf-16-le" if sys.byteorder == "little" else "utf-16-be"
+
+
+class subject:
+    r"""Subject lines: words of RFC 2047, =?utf-7?Q? to ?=, of at most 75 characters, joined by CR, LF and a space. A cell is
+    a UTF-16 unit, 0 to 65535.
+
+    >>> subject.encode("Re: 日本語?")
+    b'=?utf-7?Q?Re:_+ZeVnLIqe-=3F?='
+    >>> subject.decode(b"=?utf-7?Q?a?=\r\n =?utf-7?Q?_=62?=")
+    'a b'
+    >>> subject.read(b"=?utf-7?Q??=")
+    Traceback (most recent call last):
+    qalithonda.Refused: refused with 21: no line of such words has the byte at 10 there, or ends there
+    """
+
+    @staticmethod
+    def read(line: bytes) -> List[int]:
+        """The cells of a line, however they are shared among its words. Refused with 16, 21, 1, 2, 3 or 4."""
+        return _read(_subject_read, line)
+
+    @staticmethod
+    def write(cells: Iterable[int]) -> bytes:
+        """The line of these cells: each word takes as many as fit, and parts no surrogate pair. Refused with 16, or 10 for a
+        cell above 65535."""
+        return _write(_subject_write, cells)
+
+    @staticmethod
+    def encode(text: str) -> bytes:
+        """The line of a string. Refused with 16."""
+        return subject.write(memoryview(text.encode(_UTF16, "surrogatepass")).cast("H"))
+
+    @staticmethod
+    def decode(line: bytes) -> str:
+        """The string of a line, as read."""
+        return array("H", subject.read(line)).tobytes().decode(_UTF16, "surrogatepass")
 
 
 class Kind(enum.IntEnum):

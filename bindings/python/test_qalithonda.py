@@ -2,6 +2,7 @@
 
 import ctypes
 import doctest
+import email.header
 import os
 import pickle
 import random
@@ -12,7 +13,7 @@ from pathlib import Path
 
 import qalithonda
 from qalithonda import LIMIT, Benches, Kind, Letter, Page, Part, Refusal, Refused, RefusedText, Same, Step, Text
-from qalithonda import jp2, mailbox, utf7
+from qalithonda import jp2, mailbox, subject, utf7
 
 HERE = Path(__file__).resolve().parent
 HEADER, BODY = utf7.Style.HEADER, utf7.Style.BODY
@@ -31,6 +32,7 @@ arrived=412B496D49446B512E
 text=000000410000003D000003910000002E
 history=000000010000000100000001000022620000003D
 """
+SUBJECT = b"=?utf-7?Q?Re:_+ZeVnLIqe-=3F?="
 NAME = b"~peter/mail/&U,BTFw-/&ZeVnLIqe-"
 
 
@@ -128,6 +130,38 @@ class Formats(Case):
         self.assertEqual(mailbox.write([0x26, 0x2B, 0x09]), b"&-+&AAk-")
         self.refused(10, 1, mailbox.write, [0x41, 0x10000])
 
+    def test_subject_reads(self):
+        self.assertEqual(subject.read(b""), [])
+        self.assertEqual(subject.decode(SUBJECT), "Re: 日本語?")
+        self.assertEqual(subject.read(b"=?utf-7?Q?+2D0-?=\r\n =?utf-7?Q?+3gk-?="), [0xD83D, 0xDE09])
+        self.assertEqual(subject.decode(b"=?utf-7?Q?=61=2BAK=4D?="), "a£")
+        self.refused(1, 11, subject.read, b"=?utf-7?Q?a=80?=")
+        self.refused(2, 11, subject.read, b"=?utf-7?Q?+?=")
+        self.refused(3, 11, subject.read, b"=?utf-7?Q?a=7E?=")
+        self.refused(4, 14, subject.read, b"=?utf-7?Q?+AKN?=")
+        self.refused(21, 10, subject.read, b"=?utf-7?Q??=")
+        self.refused(21, 11, subject.read, b"=?utf-7?Q?a\x80?=")
+        self.refused(21, 12, subject.read, b"=?utf-7?Q?a=a8?=")
+        self.refused(21, 73, subject.read, b"=?utf-7?Q?" + b"a" * 64 + b"?=")
+        self.refused(21, 2, subject.read, b"=?UTF-7?Q?a?=")
+        self.refused(21, 11, subject.read, b"=?utf-7?Q?+")
+
+    def test_subject_writes(self):
+        self.assertEqual(subject.write([]), b"")
+        self.assertEqual(subject.encode("Re: 日本語?"), SUBJECT)
+        self.assertEqual(subject.encode("a b?\r\n\t"), b"=?utf-7?Q?a_b=3F=0D=0A=09?=")
+        two = b"=?utf-7?Q?" + b"a" * 58 + b"?=\r\n =?utf-7?Q?+2D3eCQ-?="
+        self.assertEqual(subject.encode("a" * 58 + "\U0001F609"), two)
+        self.refused(10, 1, subject.write, [0x41, 0x10000])
+
+    def test_python_reads_subjects_as_the_same_text(self):
+        for text in ("Re: 日本語?", "a" * 200, "\U0001F609" * 60, "".join(map(chr, range(1, 0x300))), "+-=?_ \t"):
+            line = subject.encode(text)
+            self.assertTrue(all(len(word) <= 75 for word in line.split(b"\r\n ")))
+            parts = email.header.decode_header(line.decode("ascii"))
+            self.assertEqual("".join(part.decode(name) for part, name in parts), text)
+            self.assertEqual(subject.decode(line), text)
+
     def test_the_limit_is_within(self):
         self.assertEqual(len(utf7.read(b"A" * LIMIT)), LIMIT)
         self.assertEqual(len(jp2.write([0x060041] * LIMIT)), LIMIT)
@@ -141,6 +175,8 @@ class Formats(Case):
         self.assertEqual(len(mailbox.read(b"A" * LIMIT)), LIMIT)
         self.refused(16, LIMIT, mailbox.read, b"A" * over)
         self.refused(16, LIMIT, mailbox.write, [0x41] * over)
+        self.refused(16, LIMIT, subject.read, b"A" * over)
+        self.refused(16, LIMIT, subject.write, [0x41] * over)
 
     def test_bytes_of_any_type_are_read(self):
         for text in (bytearray(P2), memoryview(P2)):
@@ -159,7 +195,7 @@ class Formats(Case):
 
     def test_no_cell_is_cut_down(self):
         for cell in (-1, 2**32, 2**32 + 0x41, 2**64 + 0x41):
-            for call in (lambda cells: utf7.write(BODY, cells), jp2.write, jp2.tally, mailbox.write):
+            for call in (lambda cells: utf7.write(BODY, cells), jp2.write, jp2.tally, mailbox.write, subject.write):
                 with self.assertRaises(OverflowError):
                     call([cell])
         self.refused(10, 0, utf7.write, BODY, [2**32 - 1])

@@ -180,6 +180,9 @@ extern "C" {
         second_len: usize,
     ) -> Compared;
 
+    pub fn qalithonda_subject_read(line: *const u8, line_len: usize, cells: *mut u32, cells_len: usize) -> Numbers;
+    pub fn qalithonda_subject_write(units: *const u32, units_len: usize, line: *mut u8, line_len: usize) -> Numbers;
+
     pub fn qalithonda_utf7_header_open(
         arrived: *const u8,
         arrived_len: usize,

@@ -10,6 +10,7 @@ mod page;
 mod refused;
 mod room;
 mod steps;
+pub mod subject;
 pub mod utf7;
 
 pub use benches::{Bench, Benches, Letter};

@@ -1,7 +1,7 @@
 //! Reading, writing and the tally: that each function is the right one, and what it leaves.
 
 use qalithonda::utf7::Style;
-use qalithonda::{jp2, mailbox, utf7, Refusal, Refused, LIMIT};
+use qalithonda::{jp2, mailbox, subject, utf7, Refusal, Refused, LIMIT};
 
 const P2: &[u8] = b"A+ImIDkQ.";
 const P2_CELLS: [u32; 4] = [0x41, 0x2262, 0x391, 0x2E];
@@ -72,6 +72,33 @@ fn jp2_writes_and_counts() {
         counts[index] = 2;
         assert_eq!(jp2::tally(&[set << 16 | code; 2]), Ok(counts));
     }
+}
+
+#[test]
+fn subject_reads() {
+    assert_eq!(subject::read_to_vec(b""), Ok(vec![]));
+    assert_eq!(subject::read_to_vec(b"=?utf-7?Q?a_b=3F?="), Ok(vec![0x61, 0x20, 0x62, 0x3F]));
+    let parted = b"=?utf-7?Q?+2D0-?=\r\n =?utf-7?Q?+3gk-?=";
+    assert_eq!(subject::read_to_vec(parted), Ok(vec![0xD83D, 0xDE09]));
+    assert_eq!(subject::read_to_vec(b"=?utf-7?Q?a=80?="), refused(Refusal::HighByte, 11));
+    assert_eq!(subject::read_to_vec(b"=?utf-7?Q?+?="), refused(Refusal::LoneSign, 11));
+    assert_eq!(subject::read_to_vec(b"=?utf-7?Q?a=7E?="), refused(Refusal::StrayByte, 11));
+    assert_eq!(subject::read_to_vec(b"=?utf-7?Q?+AKN?="), refused(Refusal::LeftOverBits, 14));
+    assert_eq!(subject::read_to_vec(b"=?utf-7?Q?a\x80?="), refused(Refusal::BadWord, 11));
+    assert_eq!(subject::read_to_vec(b"=?utf-7?Q?a=a8?="), refused(Refusal::BadWord, 12));
+    assert_eq!(subject::read_to_vec(b"=?utf-7?Q?+"), refused(Refusal::BadWord, 11));
+    assert_eq!(subject::read_to_vec(&vec![b'a'; LIMIT + 1]), refused(Refusal::OverLimit, LIMIT));
+}
+
+#[test]
+fn subject_writes() {
+    assert_eq!(subject::write_to_vec(&[]), Ok(vec![]));
+    let cells: Vec<u32> = [0x61; 58].into_iter().chain([0xD83D, 0xDE09]).collect();
+    let line = [b"=?utf-7?Q?", &[b'a'; 58][..], b"?=\r\n =?utf-7?Q?+2D3eCQ-?="].concat();
+    assert_eq!(subject::write_to_vec(&cells), Ok(line.clone()));
+    assert_eq!(subject::read_to_vec(&line), Ok(cells));
+    assert_eq!(subject::write_to_vec(&[0x41, 0x10000]), refused(Refusal::Unwritable, 1));
+    assert_eq!(subject::write_to_vec(&vec![0x41; LIMIT + 1]), refused(Refusal::OverLimit, LIMIT));
 }
 
 #[test]
