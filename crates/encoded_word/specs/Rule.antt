@@ -1,5 +1,5 @@
--- Document 02, order 14: "Reading takes any line of such non-empty words, however units are shared among them, `=` pairs for any byte at all too,
--- each word read by itself".
+-- Document 02, order 14: "Reading takes any line of such non-empty words, however units are shared among them, `=`
+-- pairs for any byte at all too, each word read by itself".
 use Prim.Native.Nat.{ℕ, _+_, _-_, _*_}
 use mathlib.Core.Bool.{cond}
 use mathlib.Core.List.{List, [], _∷_}
@@ -59,7 +59,8 @@ module _ {S : Type 0} (inner : Rule S) where
       cond (eqb b 63) (cond (eqb n 0) (bad 21) (ended (inner .end 0 st)))
       (cond (eqb b 61) (cond (leb (n + 3) most) (go (equals (n + 3) st)) (bad 21))
       (cond (leb (n + 1) most)
-      (cond (eqb b 95) (fed (n + 1) bad (inner .byte st 32)) (cond (itself b) (fed (n + 1) bad (inner .byte st b)) (bad 21)))
+      (cond (eqb b 95) (fed (n + 1) bad (inner .byte st 32))
+      (cond (itself b) (fed (n + 1) bad (inner .byte st b)) (bad 21)))
       (bad 21)))
 
   unfoldable pub partDoes : Part S → ℕ → Does (Part S)

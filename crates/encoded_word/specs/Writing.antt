@@ -1,4 +1,5 @@
--- Document 02, order 14: units in "RFC 2047 words, `=?utf-7?Q?` to `?=`, at most 75 characters each, joined by CRLF and a space".
+-- Document 02, order 14: units in "RFC 2047 words, `=?utf-7?Q?` to `?=`, at most 75 characters each, joined by CRLF
+-- and a space".
 use Prim.Native.Nat.{ℕ, zero, suc, _-_}
 use mathlib.Core.Bool.{Bool, cond, not, _&&_}
 use mathlib.Core.List.{List, [], _∷_, _++_, map}

@@ -13,7 +13,7 @@ ghost use Rattle.utf7.specs.Rule.{utf7};
 ghost use Rattle.utf7.specs.Rule.{endsIn as utf7EndsIn};
 ghost use Rattle.utf7_read.specs.Cursor.{shiftOf};
 ghost use Rattle.utf7_read.specs.Cursor.{doesOf as moveDoes};
-ghost use Rattle.encoded_word.specs.Rule.{head, half, fed, atEquals, ended, dueDoes, textDoes, partDoes, endsIn, subject};
+ghost use Rattle.encoded_word.specs.Rule.{head, fed, atEquals, ended, dueDoes, textDoes, partDoes, endsIn, subject};
 ghost use Rattle.encoded_word_read.specs.Line.{dueFrom, due, partOf, doesOf};
 ghost use Rattle.encoded_word_read.specs.declared.Part.the-variants.{Half};
 

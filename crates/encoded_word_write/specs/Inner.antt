@@ -1,4 +1,5 @@
--- A part put into an output, as the contracts of the functions that put it say it: no promise to a caller rests on this.
+-- A part put into an output, as the contracts of the functions that put it say it: no promise to a caller rests on
+-- this.
 use Prim.Native.Nat.{ℕ, _+_}
 use mathlib.Core.Path.{_≡_}
 use mathlib.Core.List.{List, _++_}

@@ -278,7 +278,8 @@ fn put_line(units: &[u32], out: &mut [u8]) -> usize
     at
 }
 
-// Writes units into an output. All are judged before a byte is written. With room for as many units at their greatest, none is counted.
+// Writes units into an output. All are judged before a byte is written. With room for as many units at their greatest,
+// none is counted.
 pub fn write(units: &[u32], out: &mut [u8]) -> Answer
     ensures { λ r. ⌜ leaves r (now (out .exit)) ≡ writeInto (now (units .entry)) (now (out .entry)) ⌝ }
 {
