@@ -20,6 +20,7 @@ mod spelling;
 mod squeeze;
 mod stepping;
 mod subject;
+mod subject_line;
 mod tally;
 mod writing;
 
@@ -47,6 +48,7 @@ pub fn parts(settings: Settings) -> Vec<Part> {
     parts.push(Part::new("jp2-plain", move |report| plain::run(report, seed)));
     parts.extend(of_format(formats::mailbox, &library::MAILBOX, icu::MAILBOX, seed));
     parts.push(Part::new("mailbox-spelling", move |report| spelling::run(report, seed)));
+    parts.push(Part::new("subject", move |report| subject_line::run(report, seed)));
     parts.extend(same_letter::parts(seed));
     parts.extend(page::parts(seed));
     parts.extend(page_file::parts(seed));

@@ -9,6 +9,7 @@ pub mod nights;
 pub mod page;
 pub mod page_file;
 pub mod squeeze;
+pub mod subject;
 pub mod utf7;
 
 use std::fmt::{self, Display, Formatter, UpperHex};

@@ -32,6 +32,8 @@ extern "C" {
     fn qalithonda_jp2_tally(cells: *const u32, cells_len: usize, counts: *mut [u32; 9]) -> RawAnswer;
     fn qalithonda_mailbox_read(text: *const u8, text_len: usize, cells: *mut u32, cells_len: usize) -> RawAnswer;
     fn qalithonda_mailbox_write(cells: *const u32, cells_len: usize, out: *mut u8, out_len: usize) -> RawAnswer;
+    fn qalithonda_subject_read(line: *const u8, line_len: usize, cells: *mut u32, cells_len: usize) -> RawAnswer;
+    fn qalithonda_subject_write(units: *const u32, units_len: usize, line: *mut u8, line_len: usize) -> RawAnswer;
 }
 
 /// A reader or writer: it is lent a list and an output.
@@ -78,6 +80,11 @@ pub const MAILBOX: Functions<MailboxCursor> = Functions {
     step: steps::MAILBOX,
     write: &[Function { name: "qalithonda_mailbox_write", raw: qalithonda_mailbox_write }],
 };
+
+pub const SUBJECT_READ: Function<u8, u32> = Function { name: "qalithonda_subject_read", raw: qalithonda_subject_read };
+
+pub const SUBJECT_WRITE: Function<u32, u8> =
+    Function { name: "qalithonda_subject_write", raw: qalithonda_subject_write };
 
 pub const JP2_TALLY: &str = "qalithonda_jp2_tally";
 

@@ -4,10 +4,10 @@
 //! cells found before it, bits are lists, and a call on a page makes new lists of all that it leaves. Quotations in
 //! comments are sentences of document 01. Mailbox names are in it as order 1 of document 02 states them, where the
 //! bytes of a cell begin and end as its order 2 does, the saved mark of a page as its order 5 does, page files as its
-//! orders 6 and 10 do, squeezing as its order 8 does, comparing as its order 11 does, and both benches as its order 13
-//! does. Beside the readers stands a recogniser of RFC 1554's syntax, for order 7, written from the RFC's page. What a
-//! cursor made by hand means is in no paper: `steps_from` takes that from the header and from the definitions of
-//! crates/reading (`inText` in specs/Stepping.antt), and of crates/utf7_read,
+//! orders 6 and 10 do, squeezing as its order 8 does, comparing as its order 11 does, both benches as its order 13
+//! does, and subject lines as its order 14 does. Beside the readers stands a recogniser of RFC 1554's syntax, for order
+//! 7, written from the RFC's page. What a cursor made by hand means is in no paper: `steps_from` takes that from the
+//! header and from the definitions of crates/reading (`inText` in specs/Stepping.antt), and of crates/utf7_read,
 //! crates/mailbox_read and crates/jp2_read (specs/Cursor.antt).
 
 pub mod bench_ledger;
@@ -27,6 +27,7 @@ pub mod page_file;
 mod reading;
 mod run;
 pub mod squeeze;
+pub mod subject;
 mod syntax;
 pub mod utf7;
 

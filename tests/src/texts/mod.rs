@@ -3,6 +3,7 @@
 pub mod jp2;
 pub mod lengths;
 pub mod mailbox;
+pub mod subject;
 pub mod utf7;
 
 use crate::rng::Rng;

@@ -95,7 +95,7 @@ fn loose_run(rng: &mut Rng, units: &[u32]) -> Vec<u8> {
 }
 
 /// So many units, among them stretches of one kind.
-fn units(rng: &mut Rng, count: usize) -> Vec<u32> {
+pub fn units(rng: &mut Rng, count: usize) -> Vec<u32> {
     let mut units = Vec::new();
     while units.len() < count {
         let kind = rng.below(5);
