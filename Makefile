@@ -22,7 +22,7 @@ all: library target/examples/where
 library: $(archive) $(shared)
 
 # Each of these is an object of its own in the archive (crates/NAME/src/lib.rt says why).
-objects = qalithonda_compare qalithonda_benches
+objects = qalithonda_compare qalithonda_benches qalithonda_subject
 
 $(archive): $(sources)
 	for crate in $(objects) qalithonda; do rt staticlib $$crate || exit 1; done

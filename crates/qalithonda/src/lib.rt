@@ -11,8 +11,6 @@ ghost use Rattle.utf7.specs.Rule.{utf7};
 ghost use Rattle.utf7.specs.Writing.{writeInto};
 ghost use Rattle.utf7.specs.declared.Style.the-variants.{Header, Body, Name};
 ghost use Rattle.mailbox.specs.Rule.{mailbox};
-ghost use Rattle.encoded_word.specs.Rule.{subject};
-ghost use Rattle.encoded_word.specs.Writing as word-writing;
 ghost use Rattle.jp2.specs.Rule.{jp2};
 ghost use Rattle.jp2.specs.Writing as jp2-writing;
 ghost use Rattle.jp2.specs.Tally.{tallyOf};
@@ -74,20 +72,6 @@ pub extern "C" fn qalithonda_jp2_write(cells: &[u32], out: &mut [u8]) -> Numbers
     ensures { λ r. ⌜ left r (now (out .exit)) ≡ jp2-writing.writeInto (now (cells .entry)) (now (out .entry)) ⌝ }
 {
     in_numbers(jp2_write::write(cells, out))
-}
-
-#[no_mangle]
-pub extern "C" fn qalithonda_subject_read(line: &[u8], cells: &mut [u32]) -> Numbers
-    ensures { λ r. ⌜ left r (now (cells .exit)) ≡ readInto subject (now (line .entry)) (now (cells .entry)) ⌝ }
-{
-    in_numbers(encoded_word_read::read(line, cells))
-}
-
-#[no_mangle]
-pub extern "C" fn qalithonda_subject_write(units: &[u32], line: &mut [u8]) -> Numbers
-    ensures { λ r. ⌜ left r (now (line .exit)) ≡ word-writing.writeInto (now (units .entry)) (now (line .entry)) ⌝ }
-{
-    in_numbers(encoded_word_write::write(units, line))
 }
 
 // The nine counts are written whole, zeros where the tally is refused.

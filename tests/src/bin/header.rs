@@ -14,10 +14,11 @@ use header::item::{self, Item};
 use header::{c, layout, rattle};
 
 const HEADER: &str = "include/qalithonda.h";
-const SOURCES: [&str; 8] = [
+const SOURCES: [&str; 9] = [
     "crates/qalithonda/src",
     "crates/qalithonda_compare/src",
     "crates/qalithonda_benches/src",
+    "crates/qalithonda_subject/src",
     "crates/host_numbers/src",
     "crates/host_steps/src",
     "crates/host_compare/src",

@@ -1,7 +1,7 @@
 use Rattle.host_numbers.proofs.HandedOn.{handed-on}
 use borrow.Author.Needs.{needs}
-use Rattle.qalithonda.proofs.qalithonda_subject_write.Statement.{statement}
-use Rattle.qalithonda.proofs.qalithonda_subject_write.Tie as tie
+use Rattle.qalithonda_subject.proofs.qalithonda_subject_write.Statement.{statement}
+use Rattle.qalithonda_subject.proofs.qalithonda_subject_write.Tie as tie
 
 write-requires : tie.Need-write-requires
 write-requires c κs = search needs

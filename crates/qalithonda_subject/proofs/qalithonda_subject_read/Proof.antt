@@ -1,7 +1,7 @@
 use Rattle.host_numbers.proofs.HandedOn.{handed-on}
 use borrow.Author.Needs.{needs}
-use Rattle.qalithonda.proofs.qalithonda_subject_read.Statement.{statement}
-use Rattle.qalithonda.proofs.qalithonda_subject_read.Tie as tie
+use Rattle.qalithonda_subject.proofs.qalithonda_subject_read.Statement.{statement}
+use Rattle.qalithonda_subject.proofs.qalithonda_subject_read.Tie as tie
 
 read-requires : tie.Need-read-requires
 read-requires c κs = search needs
