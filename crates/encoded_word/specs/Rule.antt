@@ -8,7 +8,7 @@ use Rattle.answer.specs.Bytes.{bytes}
 use Rattle.reading.specs.Reading.{Does, give, go, bad, Ending, accepted, fault, Rule}
 use Rattle.utf7.specs.Rule.{Shift, utf7}
 use Rattle.parsing.specs.Digits.{valueOf}
-use Rattle.encoded_word.specs.Writing.{itself}
+use Rattle.encoded_word.specs.Writing.{char, itself}
 
 -- where in a line a byte stands; in a word with the state of the reader of its text
 pub data Part (S : Type 0) : Type 0 where
@@ -56,23 +56,23 @@ module _ {S : Type 0} (inner : Rule S) where
   -- "non-empty words"; "21 first at one byte"
   unfoldable pub textDoes : ℕ → S → ℕ → Does (Part S)
   textDoes n st b =
-      cond (eqb b 63) (cond (eqb n 0) (bad 21) (ended (inner .end 0 st)))
-      (cond (eqb b 61) (cond (leb (n + 3) most) (go (equals (n + 3) st)) (bad 21))
+      cond (eqb b (char "?")) (cond (eqb n 0) (bad 21) (ended (inner .end 0 st)))
+      (cond (eqb b (char "=")) (cond (leb (n + 3) most) (go (equals (n + 3) st)) (bad 21))
       (cond (leb (n + 1) most)
-      (cond (eqb b 95) (fed (n + 1) bad (inner .byte st 32))
+      (cond (eqb b (char "_")) (fed (n + 1) bad (inner .byte st (char " ")))
       (cond (itself b) (fed (n + 1) bad (inner .byte st b)) (bad 21)))
       (bad 21)))
 
   unfoldable pub partDoes : Part S → ℕ → Does (Part S)
-  partDoes start b = dueDoes 61 b (head (bytes "?utf-7?Q?"))
+  partDoes start b = dueDoes (char "=") b (head (bytes "?utf-7?Q?"))
   partDoes (head []) b = bad 21
   partDoes (head (x ∷ [])) b = dueDoes x b (text 0 (inner .start))
   partDoes (head (x ∷ y ∷ xs)) b = dueDoes x b (head (y ∷ xs))
   partDoes (text n st) b = textDoes n st b
   partDoes (equals n st) b = cond (ltb (valueOf b) 16) (go (half n (valueOf b) st)) (bad 21)
   partDoes (half n d st) b = cond (ltb (valueOf b) 16) (fed n atEquals (inner .byte st (16 * d + valueOf b))) (bad 21)
-  partDoes tail b = dueDoes 61 b behind
-  partDoes behind b = dueDoes 13 b (head (bytes "␊ =?utf-7?Q?"))
+  partDoes tail b = dueDoes (char "=") b behind
+  partDoes behind b = dueDoes (char "␍") b (head (bytes "␊ =?utf-7?Q?"))
   partDoes (faulty k back) b = go (faulty k (back + 1))
 
 -- "or the length"; "No units give an empty line."

@@ -1,6 +1,7 @@
 -- Document 02, order 14: units in "RFC 2047 words, `=?utf-7?Q?` to `?=`, at most 75 characters each, joined by CRLF
 -- and a space".
 use Prim.Native.Nat.{ℕ, zero, suc, _-_}
+use Prim.Native.String.{String}
 use mathlib.Core.Bool.{Bool, cond, not, _&&_}
 use mathlib.Core.List.{List, [], _∷_, _++_, map}
 use lib.ListN.{length, getD, take, drop}
@@ -13,13 +14,17 @@ use Rattle.utf7.specs.Writing.{writing, firstOver}
 use Rattle.utf7.specs.declared.Style.the-variants.{Header}
 use Rattle.parsing.specs.Digits.{digits}
 
+-- a byte by its character
+abbrev pub char : String → ℕ
+char c = getD (bytes c) 0 0
+
 -- "other bytes 33 to 126 as themselves": other than `=`, `?` and `_`
 unfoldable pub itself : ℕ → Bool
 itself b = within 33 126 b && not (member (bytes "=?_") b)
 
 -- "`_` for space and `=` with two capital hex digits for other controls, `=`, `?` and `_`"
 unfoldable pub spelled : ℕ → List ℕ
-spelled b = cond (eqb b 32) (bytes "_") (cond (itself b) (b ∷ []) (bytes "=" ++ digits 16 2 b))
+spelled b = cond (eqb b (char " ")) (bytes "_") (cond (itself b) (b ∷ []) (bytes "=" ++ digits 16 2 b))
 
 unfoldable pub qText : List ℕ → List ℕ
 qText [] = []
