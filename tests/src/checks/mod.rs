@@ -57,6 +57,7 @@ pub fn parts(settings: Settings) -> Vec<Part> {
     parts.extend(memory::parts(settings));
     parts.extend(desk::parts(seed));
     parts.push(Part::aside("peers", move |report| peers::run(report, seed)));
+    parts.push(Part::aside("peers-subject", move |report| peers::run_subject(report, seed)));
     parts
 }
 

@@ -3,6 +3,8 @@
 use std::ffi::{c_char, c_int, c_void};
 use std::ptr::null_mut;
 
+use super::Answers;
+
 extern "C" {
     fn iconv_open(to: *const c_char, from: *const c_char) -> *mut c_void;
     fn iconv(
@@ -17,7 +19,7 @@ extern "C" {
 
 const FAILED: usize = usize::MAX;
 
-pub fn read_all(texts: &[Vec<u8>]) -> Result<Vec<Option<Vec<u32>>>, String> {
+pub fn read_all(texts: &[Vec<u8>]) -> Answers {
     // SAFETY: both names end in NUL.
     let state = unsafe { iconv_open(c"UTF-16LE".as_ptr(), c"UTF-7".as_ptr()) };
     if state as usize == FAILED {

@@ -145,9 +145,15 @@ fn is_pair(high: u32, low: u32) -> bool {
     (0xD800..0xDC00).contains(&high) && (0xDC00..0xE000).contains(&low)
 }
 
-/// "its UTF-7 is complete in itself, its Q text spelled with `_` for space and `=` with two capital hex digits for other
+/// The bytes that each word of a line spells.
+pub fn spelled_in(line: &[u8]) -> Vec<Vec<u8>> {
+    let (words, _) = words(line);
+    words.into_iter().map(|word| word.bytes.into_iter().map(|(byte, _)| byte).collect()).collect()
+}
+
+/// The word of these units: "its UTF-7 is complete in itself, its Q text spelled with `_` for space and `=` with two capital hex digits for other
 /// controls, `=`, `?` and `_`, other bytes 33 to 126 as themselves"
-fn spell(units: &[u32]) -> Vec<u8> {
+pub fn spell(units: &[u32]) -> Vec<u8> {
     let bytes = utf7::write(Style::Header, units).expect("units");
     let mut word = START.to_vec();
     for byte in bytes {

@@ -12,6 +12,7 @@ use crate::report::Report;
 use crate::rng::Rng;
 use crate::second::LIMIT;
 use crate::settings::Settings;
+use crate::texts::subject::SOURCE as SUBJECT;
 use crate::texts::{lengths, Source};
 use crate::trial::try_all;
 
@@ -26,6 +27,14 @@ pub fn read(report: &mut Report, format: &Format, function: &Function<u8, u32>, 
 pub fn write(report: &mut Report, format: &Format, function: &Function<u32, u8>, settings: Settings) {
     run(report, function, lists(format.source, settings));
     report.expect_statuses(function.name, &[0, 9, 10, 16]);
+}
+
+/// Subject lines, which are no format.
+pub fn subject(report: &mut Report, settings: Settings) {
+    run(report, &library::SUBJECT_READ, texts(&SUBJECT, settings));
+    report.expect_statuses(library::SUBJECT_READ.name, &[0, 1, 2, 3, 4, 9, 16, 21]);
+    run(report, &library::SUBJECT_WRITE, lists(&SUBJECT, settings));
+    report.expect_statuses(library::SUBJECT_WRITE.name, &[0, 9, 10, 16]);
 }
 
 /// Compares each text with itself and with its first half, in both orders.

@@ -17,7 +17,7 @@ use crate::library::{self, Functions};
 use crate::parts::Part;
 use crate::settings::Settings;
 
-/// A part for each format, for the plain reader, for the tally, for the page and for both benches, and one for all on a
+/// A part for each format, for the plain reader, for the tally, for subject lines, for the page and for both benches, and one for all on a
 /// small stack.
 pub fn parts(settings: Settings) -> Vec<Part> {
     vec![
@@ -28,6 +28,7 @@ pub fn parts(settings: Settings) -> Vec<Part> {
             lists::read(report, &formats::jp2(), &library::JP2_PLAIN_READ, settings);
         }),
         Part::new("memory-jp2-tally", move |report| lists::tally(report, &formats::jp2(), settings)),
+        Part::new("memory-subject", move |report| lists::subject(report, settings)),
         Part::new("memory-page", move |report| page::run(report, settings)),
         Part::new("memory-benches", move |report| benches::run(report, settings)),
         Part::new("stack", move |report| stack::run(report, settings.seed)),

@@ -17,11 +17,12 @@ use crate::library::compare::{self, Comparer};
 use crate::library::page as library_page;
 use crate::library::page_file::{self, READ};
 use crate::library::steps::Cursor;
-use crate::library::{self, Function, Functions, JP2_PLAIN_READ, JP2_TALLY};
+use crate::library::{self, Function, Functions, JP2_PLAIN_READ, JP2_TALLY, SUBJECT_READ, SUBJECT_WRITE};
 use crate::report::Report;
 use crate::rng::Rng;
 use crate::second::page::State;
 use crate::second::{benches as second_benches, Kind, LIMIT};
+use crate::texts::subject::SOURCE as SUBJECT;
 use crate::texts::{self, Source};
 use crate::trial::{try_all, Input};
 
@@ -44,6 +45,8 @@ pub fn run(report: &mut Report, seed: u64) {
     called.extend(of_format(report, &formats::jp2(), &library::JP2, &compare::JP2, seed));
     called.extend(of_format(report, &formats::mailbox(), &library::MAILBOX, &compare::MAILBOX, seed));
     called.push(list_call(report, &JP2_PLAIN_READ, texts(formats::jp2().source, seed), 1));
+    called.push(list_call(report, &SUBJECT_READ, texts(&SUBJECT, seed), 1));
+    called.push(list_call(report, &SUBJECT_WRITE, lists(&SUBJECT, seed), 78));
     called.push(tally(report, formats::jp2().source, seed));
     called.extend(of_page(report, seed));
     called.push(of_files(report, seed));
