@@ -14,6 +14,7 @@
 #include "page_files.h"
 #include "peers.h"
 #include "results.h"
+#include "subject.h"
 #include "texts.h"
 
 struct Options {
@@ -134,9 +135,15 @@ static void measure_all(const Options &o) {
     for (const Row &row : page_rows()) take(row);
     for (const Row &row : page_file_rows()) take(row);
     for (const Row &row : bench_rows()) take(row);
+    for (const SubjectRow &subject : subject_rows(std::strtoull(o.seed.c_str(), nullptr, 10))) {
+        if (!wanted(o, subject.row.task.key())) continue;
+        take(subject.row);
+        const std::vector<double> python = subject.python(o.effort.runs);
+        if (!python.empty()) all.back().timed.push_back({"Python", python});
+    }
     for (const Table &table : {ratio_table(all), reading_table(all), writing_table(all), stepping_table(all),
                                comparing_table(all), page_table(all), growth_table(all), squeeze_table(all), page_file_table(all),
-                               bench_table(all), limit_table(all), agreement_table(agreements)})
+                               bench_table(all), subject_table(all), limit_table(all), agreement_table(agreements)})
         print(table, o.markdown);
     if (o.parties) print(parties_table(all), o.markdown);
     std::printf("\n%zu runs of at least %.0f ms for each party, in turn, after a warm-up; medians.\n", o.effort.runs,

@@ -200,6 +200,26 @@ Table bench_table(const std::vector<Measured> &all) {
     return table;
 }
 
+Table subject_table(const std::vector<Measured> &all) {
+    Table table{"Subject lines",
+                {"corpus", "call", "ours MB/s", "ours µs a line", "UTF-7 µs a line", "ours/UTF-7", "Python µs a line", "ours/Python"},
+                {},
+                {}};
+    for (const Measured *m : rows_of(all, "subject")) {
+        const Timed &ours = *times_of(m->timed, "ours"), &utf7 = *times_of(m->timed, "UTF-7");
+        const Timed *python = times_of(m->timed, "Python");
+        const double lines = std::stod(m->task.size); // "512 lines"
+        const auto each = [&](const Timed &t) { return fixed(median(t.seconds) * 1e6 / lines, 2); };
+        table.lines.push_back({m->task.subject, m->task.call, speed(m->task.bytes, ours), each(ours), each(utf7),
+                               shown(faster_by(ours, utf7)), python ? each(*python) : "-",
+                               python ? fixed(faster_by(ours, *python).median, 0) : "-"});
+    }
+    table.notes = {"512 subjects, each a line of the corpus of UTF-7 and a call of its own; MB/s are of the subject lines' bytes.",
+                   "UTF-7: our own reader and header style writer on the same units. Wanted in writing: at least a quarter of it.",
+                   "Python: email.header's decode_header, and Header(..).encode with this charset in Q; its time on the processor."};
+    return table;
+}
+
 Table parties_table(const std::vector<Measured> &all) {
     Table table{"Every party by itself", {"row", "party", "MB/s", "slowest", "fastest"}, {}, {}};
     for (const Measured &m : all) {

@@ -26,6 +26,7 @@ Table growth_table(const std::vector<Measured> &all);
 Table squeeze_table(const std::vector<Measured> &all);
 Table page_file_table(const std::vector<Measured> &all);
 Table bench_table(const std::vector<Measured> &all);
+Table subject_table(const std::vector<Measured> &all);
 
 // Every party by itself.
 Table parties_table(const std::vector<Measured> &all);

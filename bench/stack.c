@@ -51,6 +51,9 @@ static void jp2_write(void) { qalithonda_jp2_write(cells, count, out, sizeof out
 static void jp2_tally(void) { qalithonda_jp2_tally(cells, count, counts); }
 static void mailbox_read(void) { count = qalithonda_mailbox_read(letter, size, cells, LIMIT).place; }
 static void mailbox_write(void) { qalithonda_mailbox_write(cells, count, out, sizeof out); }
+// The last three bytes would join another word.
+static void subject_read(void) { count = qalithonda_subject_read(letter, size - 3, cells, LIMIT).place; }
+static void subject_write(void) { qalithonda_subject_write(cells, count, out, sizeof out); }
 static void utf7_step(void) { qalithonda_utf7_step(letter, size, qalithonda_utf7_start()); }
 static void jp2_step(void) { qalithonda_jp2_step(letter, size, qalithonda_jp2_start()); }
 static void mailbox_step(void) { qalithonda_mailbox_step(letter, size, qalithonda_mailbox_start()); }
@@ -102,6 +105,7 @@ typedef struct {
 
 static const char UTF7[] = "Good +ZeVnLIqe- day, +AOk- and &\r\n";
 static const char JP2[] = "a\x1b$B$\"$$\x1b(B \x1b.A\x1bNA b\r\n";
+static const char SUBJECT[] = "=?utf-7?Q?Good_+ZeVnLIqe-_day=3F?=\r\n ";
 static const char NAME[] = "in &ZeVnLIqe- box ";
 
 static const call calls[] = {
@@ -111,6 +115,7 @@ static const call calls[] = {
     {"jp2_tally", JP2, jp2_tally}, {"jp2_start, jp2_step", JP2, jp2_step}, {"jp2_compare", JP2, jp2_compare},
     {"mailbox_read", NAME, mailbox_read}, {"mailbox_write", NAME, mailbox_write},
     {"mailbox_start, mailbox_step", NAME, mailbox_step}, {"mailbox_compare", NAME, mailbox_compare},
+    {"subject_read", SUBJECT, subject_read}, {"subject_write", SUBJECT, subject_write},
     {"utf7_header_open", UTF7, utf7_header_open}, {"utf7_body_open", UTF7, utf7_body_open},
     {"save, nothing standing", UTF7, save}, {"replace", UTF7, replace}, {"replace again", UTF7, replace},
     {"undo", UTF7, undo}, {"redo", UTF7, redo}, {"save", UTF7, save}, {"squeeze", UTF7, squeeze},
