@@ -6,10 +6,10 @@
  * compares two texts, and has an editable page with undo and redo, which a file can keep, and two
  * benches that edit two letters over one history. Link with libqalithonda.a or libqalithonda.so.
  *
- * Cells. A text is read to cells, which are 32-bit numbers. A cell of UTF-7 or of a mailbox name is
- * a UTF-16 unit, 0 to 65535; half a surrogate pair is a unit like any other. A JP-2 cell is its
- * set's registration number times 65536, plus the code as sent (of a pair: first byte times 256
- * plus second).
+ * Cells. A text is read to cells, which are 32-bit numbers. A cell of UTF-7, of a mailbox name or of
+ * a subject line is a UTF-16 unit, 0 to 65535; half a surrogate pair is a unit like any other. A
+ * JP-2 cell is its set's registration number times 65536, plus the code as sent (of a pair: first
+ * byte times 256 plus second).
  *
  * Answers. A call is accepted with number 0 and a count, or refused with one of the numbers below
  * and a place; both are in `place`. The numbers that a function can give are listed with it, those
@@ -82,8 +82,8 @@ enum qalithonda_number {
                                        there, or the length if it ends early */
     QALITHONDA_NO_GAIN = 19,        /* squeezed, the history would not become shorter: 0 */
     QALITHONDA_NO_SUCH_BENCH = 20,  /* no such bench: 0 */
-    QALITHONDA_BAD_WORD = 21        /* bad word in a subject line: the first byte that no line of such
-                                       words can have there, or the length if it ends early */
+    QALITHONDA_BAD_WORD = 21        /* bad word in a subject line: the first byte that no line of
+                                       such words can have there, or the length if it ends early */
 };
 
 /* The kinds of page, and of bench. */
@@ -195,11 +195,11 @@ qalithonda_numbers qalithonda_mailbox_write(const uint32_t *cells, size_t cells_
  */
 
 /*
- * Reads a line to cells, however its units are shared among its words. A line of n bytes has at most
- * n cells. A line that was written, and is not over the limit, gives its units back.
+ * Reads a line to cells, however its units are shared among its words. A line of n bytes has at
+ * most n cells. A line that was written, and is not over the limit, gives its units back.
  * Accepted: the count of cells, which are in `cells`.
- * Refused: 16 (line); 21, 1, 2, 3, 4 (21 first at one byte; the others in the line, where an '=' pair
- * stands at its '=' and the end of a word at its '?'); 9 (cells).
+ * Refused: 16 (line); 21, 1, 2, 3, 4 (21 first at one byte; the others in the line, where an '='
+ * pair stands at its '=' and the end of a word at its '?'); 9 (cells).
  */
 qalithonda_numbers qalithonda_subject_read(const uint8_t *line, size_t line_len,
                                            uint32_t *cells, size_t cells_len);
