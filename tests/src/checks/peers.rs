@@ -59,14 +59,16 @@ const PYTHON: &[Cause] = &[
         what: "'+' at the end of the text is dropped; we refuse with 2",
         explains: |case| case.refused(2, true) && case.theirs.is_some(),
     },
-    Cause {
-        name: "half-pair-at-end",
-        what: "the first half of a surrogate pair in a run still open at the end is refused; to us it is a unit",
-        explains: |case| case.theirs.is_none() && case.has_half_pair(),
-    },
+    HALF_AT_END,
 ];
 
-const HEADERS_PYTHON: &[Cause] = &[JOINED];
+const HALF_AT_END: Cause = Cause {
+    name: "half-pair-at-end",
+    what: "the first half of a surrogate pair in a run still open at the end is refused; to us it is a unit",
+    explains: |case| case.theirs.is_none() && case.has_half_pair(),
+};
+
+const HEADERS_PYTHON: &[Cause] = &[JOINED, HALF_AT_END];
 
 const HEADERS_PERL: &[Cause] = &[
     JOINED,
@@ -93,7 +95,8 @@ pub fn run_subject(report: &mut Report, seed: u64) {
     let written = lists.filter_map(|units| given(78 * units.len(), |line| SUBJECT_WRITE.call(&units, line)));
     let seeded = source.texts(seed, "lines for peers", 20_000, |rng| rng.below(400));
     let shared = SHARED.iter().flat_map(|units| lines::shared(units));
-    let all = written.chain(seeded).chain(shared).chain(lines::pairs()).chain(lines::long_words());
+    let half_pair = b"=?utf-7?Q?+2AA?=".to_vec();
+    let all = written.chain(seeded).chain(shared).chain(lines::pairs()).chain(lines::long_words()).chain([half_pair]);
     let accepted: Vec<Vec<u8>> = all.filter(|line| ours(&SUBJECT_READ, line).is_ok()).collect();
     against(report, "subject-python", python::read_headers, HEADERS_PYTHON, &SUBJECT_READ, &accepted);
     against(report, "subject-perl", perl::read_headers, HEADERS_PERL, &SUBJECT_READ, &accepted);
@@ -216,6 +219,7 @@ mod tests {
         assert_eq!(agreed(&[case(joined, &[0xA3]), case(joined, &[0xA3, 0x61])], HEADERS_PYTHON), Ok(1));
         assert_eq!(agreed(&[case(half, &[0x61, 0xFFFD])], HEADERS_PERL), Ok(0));
         assert!(agreed(&[case(half, &[0x61, 0xFFFD])], HEADERS_PYTHON).is_err());
+        assert!(agreed(&[case(half, &[])], HEADERS_PYTHON).is_err());
         assert!(agreed(&[case(half, &[0x62, 0xFFFD])], HEADERS_PERL).is_err());
     }
 }
