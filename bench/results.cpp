@@ -212,7 +212,7 @@ Table subject_table(const std::vector<Measured> &all) {
         const auto each = [&](const Timed &t) { return fixed(median(t.seconds) * 1e6 / lines, 2); };
         table.lines.push_back({m->task.subject, m->task.call, speed(m->task.bytes, ours), each(ours), each(utf7),
                                shown(faster_by(ours, utf7)), python ? each(*python) : "-",
-                               python ? fixed(faster_by(ours, *python).median, 0) : "-"});
+                               python ? fixed(faster_by(ours, *python).median, 1) : "-"});
     }
     table.notes = {"512 subjects, each a line of the corpus of UTF-7 and a call of its own; MB/s are of the subject lines' bytes.",
                    "UTF-7: our own reader and header style writer on the same units. Wanted in writing: at least a quarter of it.",
