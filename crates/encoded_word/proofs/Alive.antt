@@ -1,11 +1,13 @@
--- A rule of which every state leads on to an accepted text refuses at the first byte that no accepted text can have there. Assumes nothing.
+-- A rule of which every state leads on to an accepted text refuses at the first byte that no accepted text can have
+-- there. Assumes nothing.
 use Prim.Native.Nat.{ℕ, zero, suc, _+_, _<_, _≤_}
 use mathlib.Core.Path.{_≡_, refl, sym, ap, _∙_}
 use mathlib.Core.List.{List, [], _∷_, _++_}
 use native.Mathlib.Omega.{arith}
 use native.Mathlib.Nat.{add-zero, zero-add}
 use lib.ListN.{length, take}
-use Rattle.reading.specs.Reading.{Does, give, go, bad, Ending, accepted, fault, Rule, Reading, onRead, readFrom, reading}
+use Rattle.reading.specs.Reading.{Does, give, go, bad, Ending, accepted, fault, Rule, Reading, onRead, readFrom}
+use Rattle.reading.specs.Reading.{reading}
 use Rattle.reading.proofs.Walk.{no-fault}
 use Rattle.parsing.specs.Parsing.{Begins, FirstFault}
 
@@ -33,7 +35,8 @@ module _ {S : Type 0} (rule : Rule S) where
 
     -- one byte on
     later :
-        (b : ℕ) (bs : List ℕ) (at : ℕ) (st st' : S) (m : ℕ) → ((l : List ℕ) → readFrom rule (b ∷ l) at st .ending ≡ readFrom rule l (at + 1) st' .ending) →
+        (b : ℕ) (bs : List ℕ) (at : ℕ) (st st' : S) (m : ℕ) →
+        ((l : List ℕ) → readFrom rule (b ∷ l) at st .ending ≡ readFrom rule l (at + 1) st' .ending) →
         FirstFault (From (at + 1) st') bs m → FirstFault (From at st) (b ∷ bs) (suc m)
     later b bs at st st' m same f =
         let x = f .before in
@@ -48,7 +51,8 @@ module _ {S : Type 0} (rule : Rule S) where
     Found bs at st place = (m : ℕ) × (place ≡ at + m) × FirstFault (From at st) bs m
 
     fault-does :
-        (x : Does S) (b : ℕ) (bs : List ℕ) (at : ℕ) (st : S) (k place : ℕ) → rule .byte st b ≡ x → Sound st → Goes Sound x →
+        (x : Does S) (b : ℕ) (bs : List ℕ) (at : ℕ) (st : S) (k place : ℕ) → rule .byte st b ≡ x → Sound st →
+        Goes Sound x →
         ((st' : S) → Sound st' → readFrom rule bs (at + 1) st' .ending ≡ fault k place → Found bs (at + 1) st' place) →
         onRead x at (readFrom rule bs (at + 1)) .ending ≡ fault k place → Found (b ∷ bs) at st place
     unfolding readFrom
@@ -65,12 +69,15 @@ module _ {S : Type 0} (rule : Rule S) where
           record { inside = omega arith; before = begins-here at st s; there = λ h (c, more, y). no-fault j at (rw q at y) },
         )
 
-    fault-from : (bs : List ℕ) (at : ℕ) (st : S) (k place : ℕ) → Sound st → readFrom rule bs at st .ending ≡ fault k place → Found bs at st place
+    fault-from :
+        (bs : List ℕ) (at : ℕ) (st : S) (k place : ℕ) → Sound st → readFrom rule bs at st .ending ≡ fault k place →
+        Found bs at st place
     unfolding readFrom
     fault-from [] at st k place s e =
         (0, alive .ends at st k place s e ∙ sym (add-zero at), record { inside = omega arith; before = begins-here at st s; there = λ h. absurd (omega arith) })
     fault-from (b ∷ bs) at st k place s e =
-        fault-does (rule .byte st b) b bs at st k place refl s (alive .keeps st b s) (λ st' s' e'. fault-from bs (at + 1) st' k place s' e') e
+        fault-does (rule .byte st b) b bs at st k place refl s (alive .keeps st b s)
+        (λ st' s' e'. fault-from bs (at + 1) st' k place s' e') e
 
     -- of whole texts
     pub first-fault :

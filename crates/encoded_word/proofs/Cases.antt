@@ -12,7 +12,8 @@ use Rattle.utf7.specs.Rule.{endsIn as utf7-endsIn}
 use Rattle.utf7.specs.Writing.{pieces, letters, spell, spellAll, writing, firstOver}
 use Rattle.parsing.specs.Digits.{digits}
 use Rattle.parsing.specs.Digits.{valueOf as digitValue}
-use Rattle.encoded_word.specs.Writing.{itself, spelled, qText, wordOf, fits, greatest, shareOf, shares, joined, lineOf, writeInto}
+use Rattle.encoded_word.specs.Writing.{itself, spelled, qText, wordOf, fits, greatest, shareOf, shares, joined}
+use Rattle.encoded_word.specs.Writing.{lineOf, writeInto}
 use Rattle.encoded_word.specs.Rule.{textDoes, partDoes, endsIn}
 use Rattle.encoded_word.specs.Cases.{AllHold}
 

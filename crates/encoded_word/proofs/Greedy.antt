@@ -1,10 +1,12 @@
--- The words of a line: each takes as many units as fit, none parts a surrogate pair, and together they hold all units. Assumes nothing.
+-- The words of a line: each takes as many units as fit, none parts a surrogate pair, and together they hold all units.
+-- Assumes nothing.
 use Prim.Native.Nat.{ℕ, zero, suc, _+_, _-_, _*_, _<_, _≤_}
 use mathlib.Core.Path.{_≡_, refl, sym, ap, _∙_, subst}
 use mathlib.Core.Bool.{Bool, true, false, cond, not, _&&_, _||_, false≢true}
 use mathlib.Core.List.{List, [], _∷_, _++_, append-nil, map}
 use native.Mathlib.Omega.{arith}
-use lib.ListN.{length, getD, take, drop, length-append, length-take, length-drop, take-append-drop, List·getD-eq-default}
+use lib.ListN.{length, getD, take, drop, length-append, length-take, length-drop, take-append-drop}
+use lib.ListN.{List·getD-eq-default}
 use lib.Seq.{length-take-le}
 use lib.Dec.{ltb, leb, eqb, lit<, lit≤}
 use borrow.Author.Tests.{ltb-true, leb-true, leb-false, eqb-true, eqb-false, le-leb, lt-leb, not-true}
@@ -19,7 +21,9 @@ use Rattle.utf7.specs.Writing.{IsUnit, writing, firstOver}
 use Rattle.utf7.specs.declared.Style.the-variants.{Header}
 use Rattle.utf7.proofs.Pieces.{size-bound, units-all}
 use Rattle.parsing.specs.Digits.{digits}
-use Rattle.encoded_word.specs.Writing.{itself, spelled, qText, wordStart, wordEnd, joint, wordOf, fits, isHigh, isLow, parts, mayTake, greatest, shareOf, shares, joined, lineOf, writeInto}
+use Rattle.encoded_word.specs.Writing.{itself, spelled, qText, wordStart, wordEnd, joint, wordOf, fits, isHigh}
+use Rattle.encoded_word.specs.Writing.{isLow, parts, mayTake, greatest, shareOf, shares, joined, lineOf}
+use Rattle.encoded_word.specs.Writing.{writeInto}
 use Rattle.encoded_word.specs.Rule.{subject}
 use Rattle.encoded_word.proofs.Round.{Good, flat, line-reads}
 
@@ -28,7 +32,8 @@ module _ (test : ℕ → Bool) where
   pub greatest-few : (n : ℕ) → greatest test n ≤ n
   unfolding greatest
   greatest-few zero = omega arith
-  greatest-few (suc n) = cond-case (λ (m : ℕ). m ≤ suc n) (test (suc n)) (λ _. omega arith) (λ _. omega (arith, greatest-few n))
+  greatest-few (suc n) =
+      cond-case (λ (m : ℕ). m ≤ suc n) (test (suc n)) (λ _. omega arith) (λ _. omega (arith, greatest-few n))
 
   pub greatest-passes : (n : ℕ) → 0 < greatest test n → test (greatest test n) ≡ true
   unfolding greatest
@@ -51,7 +56,8 @@ module _ (test : ℕ → Bool) where
 pub spelled-few : (b : ℕ) → length (spelled b) ≤ 3
 unfolding spelled digits
 spelled-few b =
-    cond-case (λ (l : List ℕ). length l ≤ 3) (eqb b 32) (λ _. lit≤ tt) (λ _. cond-case (λ (l : List ℕ). length l ≤ 3) (itself b) (λ _. lit≤ tt) (λ _. lit≤ tt))
+    cond-case (λ (l : List ℕ). length l ≤ 3) (eqb b 32) (λ _. lit≤ tt)
+    (λ _. cond-case (λ (l : List ℕ). length l ≤ 3) (itself b) (λ _. lit≤ tt) (λ _. lit≤ tt))
 
 q-few : (bs : List ℕ) → length (qText bs) ≤ 3 * length bs
 unfolding qText
@@ -61,7 +67,8 @@ q-few (b ∷ bs) = omega (arith, spelled-few b, q-few bs, length-append (spelled
 pub two-fit : (us : List ℕ) → length us ≤ 2 → fits us ≡ true
 unfolding fits wordOf
 two-fit us h =
-    le-leb (length (wordOf us)) 75 (omega (arith, q-few (writing Header us), size-bound Header us, length-append (qText (writing Header us)) wordEnd))
+    le-leb (length (wordOf us)) 75
+    (omega (arith, q-few (writing Header us), size-bound Header us, length-append (qText (writing Header us)) wordEnd))
 
 not-both : (a b c : Bool) → b ≡ false → not ((a && b) && c) ≡ true
 not-both true b c e = rw e
@@ -74,7 +81,8 @@ low-not-high v c e =
 
 -- where the first unit may not stand alone, the first two may
 pair-taken : (u : ℕ) (us : List ℕ) → parts (u ∷ us) 1 ≡ true → (2 ≤ length (u ∷ us)) × (mayTake (u ∷ us) 2 ≡ true)
-pair-taken u [] e = absurd (omega (arith, leb-true 0xDC00 0 (both (leb 0xDC00 0) (leb 0 0xDFFF) (both (isHigh u) (isLow 0) e .1) .0)))
+pair-taken u [] e =
+    absurd (omega (arith, leb-true 0xDC00 0 (both (leb 0xDC00 0) (leb 0 0xDFFF) (both (isHigh u) (isLow 0) e .1) .0)))
 pair-taken u (v ∷ vs) e =
     (omega arith, rw (two-fit (u ∷ v ∷ []) (lit≤ tt)) (low-not-high v (isLow (getD vs 0 0)) (both (isHigh u) (isLow v) e .1)))
 
@@ -99,19 +107,25 @@ module _ (u : ℕ) (us : List ℕ) where
 
   pub share-fits : fits (take (shareOf all) all) ≡ true
   unfolding shareOf
-  share-fits = both (fits (take (shareOf all) all)) (not (parts all (shareOf all))) (greatest-passes (mayTake all) (length all) share-some) .0
+  share-fits =
+      both (fits (take (shareOf all) all)) (not (parts all (shareOf all)))
+      (greatest-passes (mayTake all) (length all) share-some) .0
 
   -- "a high surrogate directly before a low one shares its word"
   pub share-whole : parts all (shareOf all) ≡ false
   unfolding shareOf
-  share-whole = not-true (parts all (shareOf all)) (both (fits (take (shareOf all) all)) (not (parts all (shareOf all))) (greatest-passes (mayTake all) (length all) share-some) .1)
+  share-whole =
+      not-true (parts all (shareOf all))
+      (both (fits (take (shareOf all) all)) (not (parts all (shareOf all)))
+      (greatest-passes (mayTake all) (length all) share-some) .1)
 
   -- "Each word takes as many units as fit": no more of them that part no pair
   pub share-most : (n : ℕ) → n ≤ length all → fits (take n all) ≡ true → parts all n ≡ false → n ≤ shareOf all
   unfolding shareOf
   share-most n h f p = greatest-most (mayTake all) (length all) n h (rw (f, p))
 
-shares-good : (n : ℕ) (us : List ℕ) → length us ≤ n → Each IsUnit us → Each Good (shares n us) × (flat (shares n us) ≡ us)
+shares-good :
+    (n : ℕ) (us : List ℕ) → length us ≤ n → Each IsUnit us → Each Good (shares n us) × (flat (shares n us) ≡ us)
 unfolding shares
 shares-good zero [] h g = (tt, refl)
 shares-good zero (u ∷ us) h g = absurd (omega arith)
@@ -120,7 +134,8 @@ shares-good (suc n) (u ∷ us) h g =
     let k : ℕ = shareOf (u ∷ us) in
     let some = share-some u us in
     let few = share-few u us in
-    let ih = shares-good n (drop k (u ∷ us)) (omega (arith, length-drop k (u ∷ us))) (each-drop IsUnit (u ∷ us) k g) in (
+    let ih =
+    shares-good n (drop k (u ∷ us)) (omega (arith, length-drop k (u ∷ us))) (each-drop IsUnit (u ∷ us) k g) in (
       ((omega (arith, length-take-le k (u ∷ us) few), each-take IsUnit (u ∷ us) k g, share-fits u us), ih .0),
       ap (λ (l : List ℕ). take k (u ∷ us) ++ l) (ih .1) ∙ take-append-drop k (u ∷ us),
     )
@@ -134,7 +149,8 @@ round-trip us g =
 
 -- "a line written within the limit restores the units"
 pub reads-back :
-    (us out o room : List ℕ) (place : ℕ) → writeInto us out ≡ record { verdict = numbered 0 place; out = o } → place ≤ limit →
+    (us out o room : List ℕ) (place : ℕ) → writeInto us out ≡ record { verdict = numbered 0 place; out = o } →
+    place ≤ limit →
     length us ≤ length room → readInto subject (take place o) room ≡ Fills us room
 unfolding writeInto
 reads-back us out = whole.reads-back us (firstOver us) (lineOf us) out subject (λ h. round-trip us (units-all us h))

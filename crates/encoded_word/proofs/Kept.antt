@@ -1,4 +1,5 @@
--- A line's cells are those of its words' text, and no fault has the number 0; what a loop over its bytes keeps. Assumes nothing.
+-- A line's cells are those of its words' text, and no fault has the number 0; what a loop over its bytes keeps. Assumes
+-- nothing.
 use Prim.Native.Nat.{ℕ, _+_, _-_, _*_, _<_}
 use mathlib.Core.Path.{_≡_, ap, _∙_}
 use mathlib.Core.Bool.{Bool, cond}
@@ -17,7 +18,8 @@ use Rattle.utf7.specs.Writing.{IsUnit}
 use Rattle.utf7.proofs.Kept.{SoundShift, utf7-kept}
 use Rattle.parsing.specs.Digits.{valueOf}
 use Rattle.encoded_word.specs.Writing.{itself}
-use Rattle.encoded_word.specs.Rule.{Part, start, head, text, equals, half, tail, behind, faulty, most, fed, atEquals, ended, textDoes, partDoes, endsIn, lineRule, subject}
+use Rattle.encoded_word.specs.Rule.{Part, start, head, text, equals, half, tail, behind, faulty, most, fed}
+use Rattle.encoded_word.specs.Rule.{atEquals, ended, textDoes, partDoes, endsIn, lineRule, subject}
 use Rattle.encoded_word.proofs.Faulty.{faulty-reads}
 
 module _ {S : Type 0} {inner : Rule S} {Sound : S → Type 0} {Good : ℕ → Type 0} (kept : Kept inner Sound Good) where
@@ -53,10 +55,12 @@ module _ {S : Type 0} {inner : Rule S} {Sound : S → Type 0} {Good : ℕ → Ty
   text-kept n st b h =
       let one : (c : ℕ) → Sure (fed (n + 1) bad (inner .byte st c)) =
       λ c. fed-kept (n + 1) bad (inner .byte st c) (kept .keeps st c h) (λ k z. z) in
-      cond-case Sure (eqb b 63) (λ _. cond-case Sure (eqb n 0) (λ _. lit< tt) (λ _. ended-kept (inner .end 0 st) (kept .ends 0 st h)))
+      cond-case Sure (eqb b 63)
+      (λ _. cond-case Sure (eqb n 0) (λ _. lit< tt) (λ _. ended-kept (inner .end 0 st) (kept .ends 0 st h)))
       (λ _. cond-case Sure (eqb b 61) (λ _. due-kept (leb (n + 3) most) (equals (n + 3) st) h)
       (λ _. cond-case Sure (leb (n + 1) most)
-      (λ _. cond-case Sure (eqb b 95) (λ _. one 32) (λ _. cond-case Sure (itself b) (λ _. one b) (λ _. lit< tt))) (λ _. lit< tt)))
+      (λ _. cond-case Sure (eqb b 95) (λ _. one 32) (λ _. cond-case Sure (itself b) (λ _. one b) (λ _. lit< tt)))
+      (λ _. lit< tt)))
 
   part-kept : (p : Part S) (b : ℕ) → SoundPart p → Sure (partDoes inner p b)
   unfolding partDoes
@@ -68,7 +72,8 @@ module _ {S : Type 0} {inner : Rule S} {Sound : S → Type 0} {Good : ℕ → Ty
   part-kept (equals n st) b h = due-kept (ltb (valueOf b) 16) _ h
   part-kept (half n d st) b h =
       let c : ℕ = 16 * d + valueOf b in
-      cond-case Sure (ltb (valueOf b) 16) (λ _. fed-kept n atEquals (inner .byte st c) (kept .keeps st c h) (λ k z. z)) (λ _. lit< tt)
+      cond-case Sure (ltb (valueOf b) 16) (λ _. fed-kept n atEquals (inner .byte st c) (kept .keeps st c h) (λ k z. z))
+      (λ _. lit< tt)
   part-kept tail b h = due-kept (eqb b 61) _ tt
   part-kept behind b h = due-kept (eqb b 13) _ tt
   part-kept (faulty k back) b h = h
@@ -99,5 +104,6 @@ module _ {s : List ℕ} {at k back n : ℕ} where
       rw ends
 
   pub filling-faulty :
-      {out₀ out : List ℕ} → Filling subject s at (faulty k back) n out₀ out → out ≡ filled (reading subject s .cells) out₀
+      {out₀ out : List ℕ} → Filling subject s at (faulty k back) n out₀ out →
+      out ≡ filled (reading subject s .cells) out₀
   filling-faulty f = put-done (put-as (ap (λ (r : Reading). r .cells) (faulty-reads _ (drop at s) at k back)) (f .put))

@@ -10,7 +10,8 @@ use Rattle.bits.specs.Bits.{bits}
 use Rattle.base64.specs.Letters.{valueOf, setB, slash}
 use Rattle.reading.specs.Reading.{Does, Ending, accepted, fault, reading}
 use Rattle.utf7.specs.Sets.{direct}
-use Rattle.utf7.specs.Rule.{Shift, outside, opening, run, outsideDoes, unitDoes, mayEnd, endDoes, lowDoes, byteDoes, utf7}
+use Rattle.utf7.specs.Rule.{Shift, outside, opening, run, outsideDoes, unitDoes, mayEnd, endDoes, lowDoes, byteDoes}
+use Rattle.utf7.specs.Rule.{utf7}
 use Rattle.utf7.specs.Rule.{endsIn as utf7-endsIn}
 use Rattle.parsing.specs.Parsing.{FirstFault}
 use Rattle.encoded_word.specs.Rule.{lineRule, subject, anyText}
@@ -34,8 +35,11 @@ end-low may b = cond-case Low may (λ _. cond-case Low (eqb b 45) (λ _. tt) (λ
 low-low : (st : Shift) (b : ℕ) → Low (lowDoes st b)
 unfolding lowDoes
 low-low outside b = outside-low b
-low-low opening b = cond-case Low (setB slash b) (λ _. unit-low (bits 6 (valueOf slash b))) (λ _. cond-case Low (eqb b 45) (λ _. tt) (λ _. lit< tt))
-low-low (run pending) b = cond-case Low (setB slash b) (λ _. unit-low (pending ++ bits 6 (valueOf slash b))) (λ _. end-low (mayEnd pending) b)
+low-low opening b =
+    cond-case Low (setB slash b) (λ _. unit-low (bits 6 (valueOf slash b)))
+    (λ _. cond-case Low (eqb b 45) (λ _. tt) (λ _. lit< tt))
+low-low (run pending) b =
+    cond-case Low (setB slash b) (λ _. unit-low (pending ++ bits 6 (valueOf slash b))) (λ _. end-low (mayEnd pending) b)
 
 byte-low : (st : Shift) (b : ℕ) → Low (byteDoes st b)
 unfolding byteDoes

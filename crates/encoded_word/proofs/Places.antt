@@ -8,12 +8,14 @@ use lib.ListN.{length}
 use lib.Dec.{ltb, leb, eqb, lit<, lit≤}
 use borrow.Author.Tests.{ltb-true, leb-true, eq-eqb, ne-eqb}
 use Rattle.answer.proofs.Below.{cond-case}
-use Rattle.reading.specs.Reading.{Does, give, go, bad, Ending, accepted, fault, Rule, Reading, onRead, readFrom, reading}
+use Rattle.reading.specs.Reading.{Does, give, go, bad, Ending, accepted, fault, Rule, Reading, onRead, readFrom}
+use Rattle.reading.specs.Reading.{reading}
 use Rattle.answer.specs.Bytes.{bytes}
 use Rattle.parsing.specs.Parsing.{FirstFault}
 use Rattle.parsing.specs.Digits.{valueOf}
 use Rattle.encoded_word.specs.Writing.{itself, wordStart}
-use Rattle.encoded_word.specs.Rule.{Part, start, head, text, equals, half, tail, behind, faulty, most, fed, atEquals, textDoes, partDoes, ended, endsIn, lineRule, anyText}
+use Rattle.encoded_word.specs.Rule.{Part, start, head, text, equals, half, tail, behind, faulty, most, fed}
+use Rattle.encoded_word.specs.Rule.{atEquals, textDoes, partDoes, ended, endsIn, lineRule, anyText}
 use Rattle.encoded_word.proofs.Alive.{Alive, Goes, first-fault}
 use Rattle.encoded_word.proofs.Faulty.{faulty-reads}
 
@@ -43,8 +45,11 @@ keeps (head (x ∷ [])) b h = cond-case GoesOn (eqb b x) (λ _. lit≤ tt) (λ _
 keeps (head (x ∷ y ∷ xs)) b h = cond-case GoesOn (eqb b x) (λ _. tt) (λ _. tt)
 keeps (text n st) b h =
     cond-case GoesOn (eqb b 63) (λ _. cond-case GoesOn (eqb n 0) (λ _. tt) (λ _. tt))
-    (λ _. cond-case GoesOn (eqb b 61) (λ _. cond-case GoesOn (leb (n + 3) most) (λ t. (omega arith, leb-true (n + 3) most t)) (λ _. tt))
-    (λ _. cond-case GoesOn (leb (n + 1) most) (λ t. cond-case GoesOn (eqb b 95) (λ _. leb-true (n + 1) most t) (λ _. cond-case GoesOn (itself b) (λ _. leb-true (n + 1) most t) (λ _. tt))) (λ _. tt)))
+    (λ _. cond-case GoesOn (eqb b 61)
+    (λ _. cond-case GoesOn (leb (n + 3) most) (λ t. (omega arith, leb-true (n + 3) most t)) (λ _. tt))
+    (λ _. cond-case GoesOn (leb (n + 1) most)
+    (λ t. cond-case GoesOn (eqb b 95) (λ _. leb-true (n + 1) most t)
+    (λ _. cond-case GoesOn (itself b) (λ _. leb-true (n + 1) most t) (λ _. tt))) (λ _. tt)))
 keeps (equals n st) b h = cond-case GoesOn (ltb (valueOf b) 16) (λ _. h) (λ _. tt)
 keeps (half n d st) b h = cond-case GoesOn (ltb (valueOf b) 16) (λ _. h .1) (λ _. tt)
 keeps tail b h = cond-case GoesOn (eqb b 61) (λ _. tt) (λ _. tt)
@@ -119,7 +124,9 @@ module _ {S : Type 0} (inner : Rule S) where
     own : {k : ℕ} {m : Does (Part Unit)} → k < 21 → Alike (bad k) m
     owned : {k j : ℕ} {m : Does (Part Unit)} → k < 21 → Alike (go (faulty k j)) m
 
-  alike-cond : (t : Bool) {a b : Does (Part S)} {c d : Does (Part Unit)} → Alike a c → Alike b d → Alike (cond t a b) (cond t c d)
+  alike-cond :
+      (t : Bool) {a b : Does (Part S)} {c d : Does (Part Unit)} → Alike a c → Alike b d →
+      Alike (cond t a b) (cond t c d)
   alike-cond true x y = x
   alike-cond false x y = y
 
@@ -158,10 +165,12 @@ module _ {S : Type 0} (inner : Rule S) where
         alike-cond (eqb b 63) (alike-cond (eqb n 0) both (alike-end (inner .end 0 st) (at-end st)))
         (alike-cond (eqb b 61) (alike-cond (leb (n + 3) most) (goes refl) both)
         (alike-cond (leb (n + 1) most)
-        (alike-cond (eqb b 95) (alike-char (n + 1) 32 (inner .byte st 32) (others st 32)) (alike-cond (itself b) (alike-char (n + 1) b (inner .byte st b) (others st b)) both)) both))
+        (alike-cond (eqb b 95) (alike-char (n + 1) 32 (inner .byte st 32) (others st 32))
+        (alike-cond (itself b) (alike-char (n + 1) b (inner .byte st b) (others st b)) both)) both))
     alike (equals n st) b = alike-cond (ltb (valueOf b) 16) (goes refl) both
     alike (half n d st) b =
-        alike-cond (ltb (valueOf b) 16) (alike-pair n (16 * d + valueOf b) (inner .byte st (16 * d + valueOf b)) (others st (16 * d + valueOf b))) both
+        alike-cond (ltb (valueOf b) 16)
+        (alike-pair n (16 * d + valueOf b) (inner .byte st (16 * d + valueOf b)) (others st (16 * d + valueOf b))) both
     alike tail b = alike-cond (eqb b 61) (goes refl) both
     alike behind b = alike-cond (eqb b 13) (goes refl) both
     alike (faulty k back) b = goes refl
@@ -183,7 +192,8 @@ module _ {S : Type 0} (inner : Rule S) where
         absurd (omega arith)
 
     alike-read :
-        {m : Does (Part S)} {m' : Does (Part Unit)} → Alike m m' → (at place : ℕ) (rest : Part S → Reading) (rest' : Part Unit → Reading) →
+        {m : Does (Part S)} {m' : Does (Part Unit)} → Alike m m' →
+        (at place : ℕ) (rest : Part S → Reading) (rest' : Part Unit → Reading) →
         ((p : Part S) → rest p .ending ≡ fault 21 place → rest' (bare p) .ending ≡ fault 21 place) →
         ((k j : ℕ) → rest (faulty k j) .ending ≡ fault k (at + 1 - j)) →
         onRead m at rest .ending ≡ fault 21 place → onRead m' at rest' .ending ≡ fault 21 place
@@ -192,7 +202,8 @@ module _ {S : Type 0} (inner : Rule S) where
     alike-read (goes {p = p} q) at place rest rest' ih still e = rw (← q) (ih p e)
     alike-read both at place rest rest' ih still e = e
     alike-read (own {k = k} h) at place rest rest' ih still e = other k at place h e
-    alike-read (owned {k = k} {j = j} h) at place rest rest' ih still e = other k (at + 1 - j) place h (sym (still k j) ∙ e)
+    alike-read (owned {k = k} {j = j} h) at place rest rest' ih still e =
+        other k (at + 1 - j) place h (sym (still k j) ∙ e)
 
     same-from :
         (bs : List ℕ) (at place : ℕ) (p : Part S) → readFrom (lineRule inner) bs at p .ending ≡ fault 21 place →
@@ -200,7 +211,8 @@ module _ {S : Type 0} (inner : Rule S) where
     unfolding readFrom
     same-from [] at place p e = sym (alike-ends at p) ∙ e
     same-from (b ∷ bs) at place p e =
-        alike-read (alike p b) at place (readFrom (lineRule inner) bs (at + 1)) (readFrom words bs (at + 1)) (same-from bs (at + 1) place) (λ k j. ap (λ (r : Reading). r .ending) (faulty-reads inner bs (at + 1) k j)) e
+        alike-read (alike p b) at place (readFrom (lineRule inner) bs (at + 1)) (readFrom words bs (at + 1))
+        (same-from bs (at + 1) place) (λ k j. ap (λ (r : Reading). r .ending) (faulty-reads inner bs (at + 1) k j)) e
 
     -- "21 (bad word, at the first byte no such line can have there, or the length)"
     pub first-21 :

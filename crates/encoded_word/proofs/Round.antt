@@ -22,12 +22,16 @@ use Rattle.answer.specs.Bytes.{bytes}
 use Rattle.base64.specs.Letters.{within}
 use Rattle.parsing.specs.Digits.{digit, valueOf, digits}
 use Rattle.parsing.proofs.Digits.{value-digit}
-use Rattle.encoded_word.specs.Writing.{itself, spelled, qText, wordStart, wordEnd, joint, wordOf, fits, greatest, shareOf, mayTake, shares, joined, lineOf}
-use Rattle.encoded_word.specs.Rule.{Part, start, head, text, equals, half, tail, behind, most, fed, atEquals, textDoes, partDoes, endsIn, subject}
+use Rattle.encoded_word.specs.Writing.{itself, spelled, qText, wordStart, wordEnd, joint, wordOf, fits, greatest}
+use Rattle.encoded_word.specs.Writing.{shareOf, mayTake, shares, joined, lineOf}
+use Rattle.encoded_word.specs.Rule.{Part, start, head, text, equals, half, tail, behind, most, fed, atEquals}
+use Rattle.encoded_word.specs.Rule.{textDoes, partDoes, endsIn, subject}
 
 -- the last character of a byte's spelling feeds that byte, and leads on
 abbrev Last : ℕ → ℕ → Shift → List ℕ → Part Shift → Type 0
-Last n b st cs end = (from : Part Shift) (c : ℕ) (faulty : ℕ → Does (Part Shift)) → partDoes utf7 from c ≡ fed n faulty (utf7 .byte st b) → Walk subject from (c ∷ []) cs end
+Last n b st cs end =
+    (from : Part Shift) (c : ℕ) (faulty : ℕ → Does (Part Shift)) →
+    partDoes utf7 from c ≡ fed n faulty (utf7 .byte st b) → Walk subject from (c ∷ []) cs end
 
 abbrev Spelling : ℕ → ℕ → Shift → List ℕ → Part Shift → List ℕ → Type 0
 Spelling n b st cs end l = n + length l ≤ most → Last (n + length l) b st cs end → Walk subject (text n st) l cs end
@@ -40,7 +44,8 @@ not-member false false true e = absurd (false≢true e)
 
 itself-apart : (b : ℕ) → itself b ≡ true → (eqb b 61 ≡ false) × (eqb b 63 ≡ false) × (eqb b 95 ≡ false)
 unfolding itself
-itself-apart b t = not-member (eqb b 61) (eqb b 63) (eqb b 95) (both (within 33 126 b) (not (member (bytes "=?_") b)) t .1)
+itself-apart b t =
+    not-member (eqb b 61) (eqb b 63) (eqb b 95) (both (within 33 126 b) (not (member (bytes "=?_") b)) t .1)
 
 module _ (n b : ℕ) (st : Shift) (cs : List ℕ) (end : Part Shift) where
   by-space : b ≡ 32 → Spelling n b st cs end (95 ∷ [])
@@ -62,7 +67,8 @@ module _ (n b : ℕ) (st : Shift) (cs : List ℕ) (end : Part Shift) where
       let hy : y < 16 = omega arith in
       let e : 16 * x + y ≡ b = omega arith in
       let one : partDoes utf7 (text n st) 61 ≡ go (equals (n + 3) st) = rw (le-leb (n + 3) 63 h) in
-      let two : partDoes utf7 (equals (n + 3) st) (digit x) ≡ go (half (n + 3) x st) = rw (value-digit x hx, lt-ltb x 16 hx) in
+      let two : partDoes utf7 (equals (n + 3) st) (digit x) ≡ go (half (n + 3) x st) =
+      rw (value-digit x hx, lt-ltb x 16 hx) in
       goes one (goes two (k (half (n + 3) x st) (digit y) atEquals (rw (value-digit y hy, lt-ltb y 16 hy, e))))
 
   spelling : b < 256 → Spelling n b st cs end (spelled b)
@@ -80,17 +86,21 @@ Taken (bad k) = ⊥
 low-byte : (st : Shift) (b : ℕ) (m : Does Shift) → utf7 .byte st b ≡ m → Taken m → b < 256
 unfolding byteDoes
 low-byte st b m e t =
-    cond-case (λ (x : Does Shift). Taken x → b < 256) (ltb b 128) (λ y _. omega (arith, ltb-true b 128 y)) (λ _ z. absurd z) (subst Taken (sym e) t)
+    cond-case (λ (x : Does Shift). Taken x → b < 256) (ltb b 128) (λ y _. omega (arith, ltb-true b 128 y))
+    (λ _ z. absurd z) (subst Taken (sym e) t)
 
 -- the Q text of bytes feeds them all
 module _ (b : ℕ) (bs : List ℕ) (n : ℕ) (st : Shift) where
   q-byte :
-      (cs cs' : List ℕ) (st' end : Shift) → b < 256 → n + length (qText (b ∷ bs)) ≤ most → Last (n + length (spelled b)) b st cs (text (n + length (spelled b)) st') →
-      (let m = n + length (spelled b) in m + length (qText bs) ≤ most → Walk subject (text m st') (qText bs) cs' (text (m + length (qText bs)) end)) →
+      (cs cs' : List ℕ) (st' end : Shift) → b < 256 → n + length (qText (b ∷ bs)) ≤ most →
+      Last (n + length (spelled b)) b st cs (text (n + length (spelled b)) st') →
+      (let m = n + length (spelled b) in m + length (qText bs) ≤ most →
+      Walk subject (text m st') (qText bs) cs' (text (m + length (qText bs)) end)) →
       Walk subject (text n st) (qText (b ∷ bs)) (cs ++ cs') (text (n + length (qText (b ∷ bs))) end)
   unfolding qText
   q-byte cs cs' st' end l h k w =
-      let t : length (spelled b ++ qText bs) ≡ length (spelled b) + length (qText bs) = length-append (spelled b) (qText bs) in
+      let t : length (spelled b ++ qText bs) ≡ length (spelled b) + length (qText bs) =
+      length-append (spelled b) (qText bs) in
       let m : ℕ = n + length (spelled b) in
       let i : n + length (spelled b ++ qText bs) ≡ m + length (qText bs) = omega arith in
       rw i (walk-on (spelling n b st cs (text m st') l (omega arith) k) (w (omega arith)))
@@ -101,18 +111,24 @@ q-walk :
 unfolding qText
 q-walk stay n h = rw add-zero stay
 q-walk {end = end} (gives {st = st} {st' = st'} {b = b} {v = v} {bs = bs} {cs = cs} e w) n h =
-    q-byte b bs n st (v ∷ []) cs st' end (low-byte st b (give v st') e tt) h (λ from c f q. gives (q ∙ ap (fed (n + length (spelled b)) f) e) stay) (q-walk w (n + length (spelled b)))
+    q-byte b bs n st (v ∷ []) cs st' end (low-byte st b (give v st') e tt) h
+    (λ from c f q. gives (q ∙ ap (fed (n + length (spelled b)) f) e) stay) (q-walk w (n + length (spelled b)))
 q-walk {end = end} (goes {st = st} {st' = st'} {b = b} {bs = bs} {cs = cs} e w) n h =
-    q-byte b bs n st [] cs st' end (low-byte st b (go st') e tt) h (λ from c f q. goes (q ∙ ap (fed (n + length (spelled b)) f) e) stay) (q-walk w (n + length (spelled b)))
+    q-byte b bs n st [] cs st' end (low-byte st b (go st') e tt) h
+    (λ from c f q. goes (q ∙ ap (fed (n + length (spelled b)) f) e) stay) (q-walk w (n + length (spelled b)))
 
 -- the bytes of `=?utf-7?Q?`, of `?=`, of CR LF SP
 start-walk : Walk subject start wordStart [] (text 0 outside)
 unfolding partDoes
-start-walk = goes refl (goes refl (goes refl (goes refl (goes refl (goes refl (goes refl (goes refl (goes refl (goes refl stay)))))))))
+start-walk =
+    goes refl (goes refl
+    (goes refl (goes refl (goes refl (goes refl (goes refl (goes refl (goes refl (goes refl stay)))))))))
 
 head-walk : Walk subject (head wordStart) wordStart [] (text 0 outside)
 unfolding partDoes
-head-walk = goes refl (goes refl (goes refl (goes refl (goes refl (goes refl (goes refl (goes refl (goes refl (goes refl stay)))))))))
+head-walk =
+    goes refl (goes refl
+    (goes refl (goes refl (goes refl (goes refl (goes refl (goes refl (goes refl (goes refl stay)))))))))
 
 joint-walk : Walk subject behind joint [] (head wordStart)
 unfolding partDoes
@@ -132,7 +148,8 @@ walk-few (goes e w) = omega (arith, walk-few w)
 
 -- a word that fits is read as its units, from the line's start or from between words
 module _ (us : List ℕ) (some : 0 < length us) (units : Each IsUnit us) (h : fits us ≡ true) where
-  word-walk : (from : Part Shift) → Walk subject from wordStart [] (text 0 outside) → Walk subject from (wordOf us) us behind
+  word-walk :
+      (from : Part Shift) → Walk subject from wordStart [] (text 0 outside) → Walk subject from (wordOf us) us behind
   unfolding wordOf fits
   word-walk from w =
       let q : List ℕ = qText (writing Header us) in
@@ -149,13 +166,18 @@ flat [] = []
 flat (us ∷ rest) = us ++ flat rest
 
 -- a line of such words, "however units are shared among them"
-line-walk : (from : Part Shift) → Walk subject from wordStart [] (text 0 outside) → (us : List ℕ) (rest : List (List ℕ)) → Each Good (us ∷ rest) → Walk subject from (joined (map wordOf (us ∷ rest))) (flat (us ∷ rest)) behind
+line-walk :
+    (from : Part Shift) → Walk subject from wordStart [] (text 0 outside) → (us : List ℕ) (rest : List (List ℕ)) →
+    Each Good (us ∷ rest) → Walk subject from (joined (map wordOf (us ∷ rest))) (flat (us ∷ rest)) behind
 unfolding joined
 line-walk from w us [] g = rw append-nil (word-walk us (g .0 .0) (g .0 .1) (g .0 .2) from w)
 line-walk from w us (vs ∷ rest) g =
-    walk-on (word-walk us (g .0 .0) (g .0 .1) (g .0 .2) from w) (walk-on joint-walk (line-walk (head wordStart) head-walk vs rest (g .1)))
+    walk-on (word-walk us (g .0 .0) (g .0 .1) (g .0 .2) from w)
+    (walk-on joint-walk (line-walk (head wordStart) head-walk vs rest (g .1)))
 
-pub line-reads : (shared : List (List ℕ)) → Each Good shared → reading subject (joined (map wordOf shared)) ≡ record { cells = flat shared; ending = accepted }
+pub line-reads :
+    (shared : List (List ℕ)) → Each Good shared →
+    reading subject (joined (map wordOf shared)) ≡ record { cells = flat shared; ending = accepted }
 unfolding endsIn joined
 line-reads [] g = walk-whole stay (λ size. refl)
 line-reads (us ∷ rest) g = walk-whole (line-walk start start-walk us rest g) (λ size. refl)

@@ -17,7 +17,8 @@ use Rattle.base64.specs.Letters.{within}
 use Rattle.utf7.specs.Sets.{own}
 use Rattle.utf7.specs.Writing.{IsUnit, writing, spellAll, pieces}
 use Rattle.utf7.specs.declared.Style.the-variants.{Header}
-use Rattle.encoded_word.specs.Writing.{qText, wordStart, wordEnd, joint, wordOf, fits, isHigh, isLow, parts, shareOf, shares, joined, lineOf}
+use Rattle.encoded_word.specs.Writing.{qText, wordStart, wordEnd, joint, wordOf, fits, isHigh, isLow, parts}
+use Rattle.encoded_word.specs.Writing.{shareOf, shares, joined, lineOf}
 use Rattle.encoded_word.specs.Inner.{trailing, runAfter, brings, qSize, endOf, wordAnd}
 use Rattle.encoded_word.proofs.Greedy.{two-fit, share-some, share-few, share-fits, share-whole, share-most}
 use Rattle.encoded_word.proofs.Grow.{q-more, fits-less}
@@ -56,12 +57,16 @@ taken-whole : (us : List ℕ) → 0 < length us → parts us (shareOf us) ≡ fa
 taken-whole [] h = absurd (omega arith)
 taken-whole (u ∷ us) h = share-whole u us
 
-taken-most : (us : List ℕ) → 0 < length us → (n : ℕ) → n ≤ length us → fits (take n us) ≡ true → parts us n ≡ false → n ≤ shareOf us
+taken-most :
+    (us : List ℕ) → 0 < length us → (n : ℕ) → n ≤ length us → fits (take n us) ≡ true → parts us n ≡ false →
+    n ≤ shareOf us
 taken-most [] h = absurd (omega arith)
 taken-most (u ∷ us) h = share-most u us
 
 -- where some fit, fewer do
-fits-down : (us : List ℕ) → Each IsUnit us → (k m : ℕ) → m + k ≤ length us → fits (take (m + k) us) ≡ true → fits (take m us) ≡ true
+fits-down :
+    (us : List ℕ) → Each IsUnit us → (k m : ℕ) → m + k ≤ length us → fits (take (m + k) us) ≡ true →
+    fits (take m us) ≡ true
 fits-down us g zero m h e = rw add-zero at e
 fits-down us g (suc k) m h e =
     let q : m + suc k ≡ suc (m + k) = omega arith in
@@ -78,11 +83,14 @@ high-not-low v e =
 
 -- behind the last unit no pair is parted
 parts-end : (us : List ℕ) → parts us (length us) ≡ false
-parts-end us = and-false (isHigh (getD us (length us - 1) 0)) (isLow (getD us (length us) 0)) (rw (List·getD-eq-default us 0 {n = length us} (omega arith)))
+parts-end us =
+    and-false (isHigh (getD us (length us - 1) 0)) (isLow (getD us (length us) 0))
+    (rw (List·getD-eq-default us 0 {n = length us} (omega arith)))
 
 module _ (us : List ℕ) (units : Each IsUnit us) (some : 0 < length us) where
   pub share-all : fits us ≡ true → shareOf us ≡ length us
-  share-all e = omega (arith, few-taken us some, taken-most us some (length us) (omega arith) (rw (take-length us) e) (parts-end us))
+  share-all e =
+      omega (arith, few-taken us some, taken-most us some (length us) (omega arith) (rw (take-length us) e) (parts-end us))
 
   module _ (m : ℕ) (h : m < length us) (fit : fits (take m us) ≡ true) (over : fits (take (m + 1) us) ≡ false) where
     one-fits : m ≡ 0 → ⊥
@@ -105,7 +113,8 @@ module _ (us : List ℕ) (units : Each IsUnit us) (some : 0 < length us) where
             let l = ltb-true m (shareOf us) e in
             let q : m + 1 + (shareOf us - (m + 1)) ≡ shareOf us = omega arith in
             let f : fits (take (m + 1 + (shareOf us - (m + 1))) us) ≡ true = rw q (taken-fits us some) in
-            absurd (false≢true (sym over ∙ fits-down us units (shareOf us - (m + 1)) (m + 1) (omega (arith, few-taken us some)) f))
+            absurd (false≢true (sym over
+            ∙ fits-down us units (shareOf us - (m + 1)) (m + 1) (omega (arith, few-taken us some)) f))
         by false e = ltb-false m (shareOf us) e
 
     -- one less where a pair would be parted
@@ -138,13 +147,15 @@ trailing-by v false false x y e f = f
 trailing-more : (us : List ℕ) (v k : ℕ) → trailing k (us ++ v ∷ []) ≡ runAfter v (trailing k us)
 trailing-more [] v k = refl
 trailing-more (u ∷ us) v k =
-    trailing-by v (own Header u) (eqb u 43) (trailing 0 us) (trailing (k + 1) us) (trailing-more us v 0) (trailing-more us v (k + 1))
+    trailing-by v (own Header u) (eqb u 43) (trailing 0 us) (trailing (k + 1) us) (trailing-more us v 0)
+    (trailing-more us v (k + 1))
 
 trailing-few : (us : List ℕ) (k : ℕ) → trailing k us ≤ k + length us
 trailing-few [] k = omega arith
 trailing-few (u ∷ us) k =
     cond-case (λ (n : ℕ). n ≤ k + suc (length us)) (own Header u) (λ _. omega (arith, trailing-few us 0))
-    (λ _. cond-case (λ (n : ℕ). n ≤ k + suc (length us)) (eqb u 43) (λ _. omega (arith, trailing-few us 0)) (λ _. omega (arith, trailing-few us (k + 1))))
+    (λ _. cond-case (λ (n : ℕ). n ≤ k + suc (length us)) (eqb u 43) (λ _. omega (arith, trailing-few us 0))
+    (λ _. omega (arith, trailing-few us (k + 1))))
 
 -- a word being filled: the characters of the first i units, those without the last, and the units of a run at the end
 pub record Taking (us : List ℕ) (i size before run : ℕ) : Type 0 where
@@ -156,7 +167,8 @@ pub record Taking (us : List ℕ) (i size before run : ℕ) : Type 0 where
 
 pub taking-start : (us : List ℕ) → Taking us 0 0 0 0
 unfolding qSize qText writing spellAll pieces
-taking-start us = record { upto = omega arith; sized = refl; last = λ h. absurd (omega arith); few = omega arith; runs = refl }
+taking-start us =
+    record { upto = omega arith; sized = refl; last = λ h. absurd (omega arith); few = omega arith; runs = refl }
 
 module _ {us : List ℕ} {i size before run : ℕ} (units : Each IsUnit us) (t : Taking us i size before run) where
   pub taking-run : run ≤ i
@@ -232,12 +244,14 @@ regroup : (s q e j l : List ℕ) → (s ++ (q ++ e)) ++ (j ++ l) ≡ (s ++ (q ++
 regroup s q e j l = simp append-assoc
 
 -- a word and the words of the rest
-word-then : (x d : List ℕ) → joined (wordOf x ∷ map wordOf (shares (length d) d)) ≡ wordAnd (ltb 0 (length d)) x ++ lineOf d
+word-then :
+    (x d : List ℕ) → joined (wordOf x ∷ map wordOf (shares (length d) d)) ≡ wordAnd (ltb 0 (length d)) x ++ lineOf d
 unfolding joined shares lineOf wordOf wordAnd
 word-then x [] = sym (append-nil _)
 word-then x (v ∷ vs) =
     let l : ltb 0 (suc (length vs)) ≡ true = lt-ltb 0 (suc (length vs)) (omega arith) in
-    rw l (regroup wordStart (qText (writing Header x)) wordEnd joint (joined (map wordOf (shares (length (v ∷ vs)) (v ∷ vs)))))
+    rw l (regroup wordStart (qText (writing Header x)) wordEnd joint
+    (joined (map wordOf (shares (length (v ∷ vs)) (v ∷ vs)))))
 
 pub line-none : lineOf [] ≡ []
 unfolding lineOf shares joined
@@ -277,11 +291,14 @@ module _ (units : List ℕ) (i : ℕ) (good : Each IsUnit units) (h : i < length
   more-left = ap (ltb 0) (length-drop (i + shareOf rest) units) ∙ by (ltb (i + shareOf rest) (length units)) refl
     where
       by : (t : Bool) → ltb (i + shareOf rest) (length units) ≡ t → ltb 0 (length units - (i + shareOf rest)) ≡ t
-      by true e = lt-ltb 0 (length units - (i + shareOf rest)) (omega (arith, ltb-true (i + shareOf rest) (length units) e))
-      by false e = le-ltb 0 (length units - (i + shareOf rest)) (omega (arith, ltb-false (i + shareOf rest) (length units) e))
+      by true e =
+          lt-ltb 0 (length units - (i + shareOf rest)) (omega (arith, ltb-true (i + shareOf rest) (length units) e))
+      by false e =
+          le-ltb 0 (length units - (i + shareOf rest)) (omega (arith, ltb-false (i + shareOf rest) (length units) e))
 
   pub step-line :
-      lineOf rest ≡ wordAnd (ltb (i + shareOf rest) (length units)) (take (shareOf rest) rest) ++ lineOf (drop (i + shareOf rest) units)
+      lineOf rest ≡ wordAnd (ltb (i + shareOf rest) (length units)) (take (shareOf rest) rest) ++ lineOf (drop
+      (i + shareOf rest) units)
   step-line = line-more rest rest-some ∙ rw (drop-drop (shareOf rest) i units, more-left)
 
 end-size : (more : Bool) → length (endOf more) ≡ 2 + cond more 3 0
@@ -299,7 +316,8 @@ rest-whole units i = take-all (length units - i) (drop i units) (omega (arith, l
 pub step-size :
     (units : List ℕ) (i : ℕ) → Each IsUnit units → i < length units →
     let k = shareOf (drop i units) in
-    length (lineOf (drop i units)) ≡ 12 + qSize (take k (drop i units)) + cond (ltb (i + k) (length units)) 3 0 + length (lineOf (drop (i + k) units))
+    length (lineOf (drop i units))
+    ≡ 12 + qSize (take k (drop i units)) + cond (ltb (i + k) (length units)) 3 0 + length (lineOf (drop (i + k) units))
 step-size units i good h =
     let k : ℕ = shareOf (drop i units) in
     let more : Bool = ltb (i + k) (length units) in

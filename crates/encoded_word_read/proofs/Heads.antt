@@ -22,7 +22,8 @@ pub head-last : (b : ℕ) → partDoes utf7 (head (dueFrom 12)) b ≡ dueDoes 63
 unfolding partDoes
 head-last b = refl
 
-pub head-more : (k b : ℕ) → k < 12 → partDoes utf7 (head (dueFrom k)) b ≡ dueDoes (getD due k 0) b (head (dueFrom (k + 1)))
+pub head-more :
+    (k b : ℕ) → k < 12 → partDoes utf7 (head (dueFrom k)) b ≡ dueDoes (getD due k 0) b (head (dueFrom (k + 1)))
 unfolding partDoes
 head-more k b h =
     let one : drop k due ≡ getD due k 0 ∷ drop (suc k) due = drop-cons due k 0 (omega arith) in

@@ -45,16 +45,20 @@ accepted-ends : (e : Ending) (n : ℕ) → SoundEnd e → numbered 0 n ≡ closi
 accepted-ends accepted n h q = refl
 accepted-ends (fault k place) n h q = absurd (omega (arith, h, ap (λ (v : Verdict). v .number) q))
 
-refused-ends : (e : Ending) (why : Refusal) (place : ℕ) → numbered (numberOf why) place ≡ closing e 0 → bad (numberOf why) ≡ ended {S = Shift} e
+refused-ends :
+    (e : Ending) (why : Refusal) (place : ℕ) → numbered (numberOf why) place ≡ closing e 0 →
+    bad (numberOf why) ≡ ended {S = Shift} e
 refused-ends accepted why place q = absurd (omega (arith, number-pos why, ap (λ (v : Verdict). v .number) q))
 refused-ends (fault k p) why place q = ap bad (ap (λ (v : Verdict). v .number) q)
 
 pub ended-told :
-    (st : Shift) {a : Answer} {n : ℕ} → inNumbers a ≡ closing (endsIn 0 st) 0 → a ≡ Accepted n → go tail ≡ ended {S = Shift} (endsIn 0 st)
+    (st : Shift) {a : Answer} {n : ℕ} → inNumbers a ≡ closing (endsIn 0 st) 0 → a ≡ Accepted n →
+    go tail ≡ ended {S = Shift} (endsIn 0 st)
 ended-told st {n = n} q e = accepted-ends (endsIn 0 st) n (ends-sound 0 st) (ap inNumbers (sym e) ∙ q)
 
 pub ended-refused :
-    (st : Shift) {a : Answer} {why : Refusal} {place : ℕ} → inNumbers a ≡ closing (endsIn 0 st) 0 → a ≡ Refused why place →
+    (st : Shift) {a : Answer} {why : Refusal} {place : ℕ} → inNumbers a ≡ closing (endsIn 0 st) 0 →
+    a ≡ Refused why place →
     bad (numberOf why) ≡ ended {S = Shift} (endsIn 0 st)
 ended-refused st {why = why} {place = place} q e = refused-ends (endsIn 0 st) why place (ap inNumbers (sym e) ∙ q)
 

@@ -17,7 +17,8 @@ use Rattle.utf7.specs.declared.Style.the-variants.{Header}
 use Rattle.encoded_word.specs.Writing.{spelled, qText, wordStart, fits, shareOf, lineOf}
 use Rattle.encoded_word.specs.Inner.{qSize, endOf, wordAnd}
 use Rattle.encoded_word.proofs.Grow.{spelled-some}
-use Rattle.encoded_word.proofs.Shares.{fits-size, word-and-size, step-asked, step-taken, step-fits, step-line, step-size}
+use Rattle.encoded_word.proofs.Shares.{fits-size, word-and-size, step-asked, step-taken, step-fits, step-line}
+use Rattle.encoded_word.proofs.Shares.{step-size}
 use Rattle.encoded_word_write.specs.Inner.{Puts}
 use Rattle.encoded_word_write.proofs.Putting.{puts-on}
 
@@ -53,10 +54,12 @@ module _ (us text text' : List ℕ) (n : ℕ) (h : fits us ≡ true) (room : 63 
     module _ (to : ℕ) (out'' : List ℕ) (went : to ≡ from + length (qText (take n text'))) (same' : length out'' ≡ length out') where
       pub end-asked : to + length (endOf more) ≤ length out''
       unfolding wordAnd
-      end-asked = omega (arith, fit, went, ap (λ (l : List ℕ). length (qText l)) its-text, length-append (qText (writing Header us)) (endOf more))
+      end-asked =
+          omega (arith, fit, went, ap (λ (l : List ℕ). length (qText l)) its-text, length-append (qText (writing Header us)) (endOf more))
 
       pub word-put :
-          (end : ℕ) (last : List ℕ) → Puts wordStart at out out' → Puts (qText (take n text')) from out' out'' → (end ≡ to + length (endOf more)) →
+          (end : ℕ) (last : List ℕ) → Puts wordStart at out out' → Puts (qText (take n text')) from out' out'' →
+          (end ≡ to + length (endOf more)) →
           Puts (endOf more) to out'' last → (end ≡ at + length (wordAnd more us)) × Puts (wordAnd more us) at out last
       unfolding wordAnd
       word-put end last p q stop r =
@@ -90,13 +93,15 @@ module _ (units : List ℕ) (i count : ℕ) (good : Each IsUnit units) (h : i < 
   word-on = let t = step-taken units i good h in (omega (arith, t .0), omega (arith, t .1))
 
   pub word-room :
-      {first out : List ℕ} {at : ℕ} → Put (lineOf units) first out at (lineOf (drop i units)) → at + length (wordAnd more word) ≤ length out
+      {first out : List ℕ} {at : ℕ} → Put (lineOf units) first out at (lineOf (drop i units)) →
+      at + length (wordAnd more word) ≤ length out
   word-room {out = out} {at = at} p =
       let r = put-lent-room (wordAnd more word) (lineOf (drop (i + count) units)) (put-as word-line p) in
       omega (arith, r, length-take (length out - at) (drop at out), length-drop at out, p .upto, p .room, p .same)
 
   -- the bytes of the line so far
   pub word-bytes :
-      (total size : ℕ) → size ≡ qSize (take (shareOf (drop i units)) (drop i units)) → total + length (lineOf (drop i units)) ≡ length (lineOf units) →
+      (total size : ℕ) → size ≡ qSize (take (shareOf (drop i units)) (drop i units)) →
+      total + length (lineOf (drop i units)) ≡ length (lineOf units) →
       total + (12 + size + cond more 3 0) + length (lineOf (drop (i + count) units)) ≡ length (lineOf units)
   word-bytes total size f inv = rw (e, f) (omega (arith, step-size units i good h, inv))

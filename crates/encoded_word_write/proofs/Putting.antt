@@ -20,7 +20,8 @@ puts-one x at out = (simp length-set, λ text first rest p. put-next p)
 
 -- one part, and another behind it
 pub puts-on :
-    (a b : List ℕ) (at to : ℕ) (x y z : List ℕ) → Puts a at x y → to ≡ at + length a → Puts b to y z → Puts (a ++ b) at x z
+    (a b : List ℕ) (at to : ℕ) (x y z : List ℕ) → Puts a at x y → to ≡ at + length a → Puts b to y z →
+    Puts (a ++ b) at x z
 puts-on a b at to x y z f e g =
     let n : at + length (a ++ b) ≡ to + length b = omega (arith, length-append a b) in (
       g .0 ∙ f .0,
@@ -35,7 +36,8 @@ unfolding digits
 puts-pair b at out {h} {l} k e f = (simp length-set, λ text first rest p. three-on text first rest p)
   where
     three-on :
-        (text first rest : List ℕ) → Put text first out at (61 ∷ digit (b / 16 ^ 1 % 16) ∷ digit (b / 16 ^ 0 % 16) ∷ rest) →
+        (text first rest : List ℕ) →
+        Put text first out at (61 ∷ digit (b / 16 ^ 1 % 16) ∷ digit (b / 16 ^ 0 % 16) ∷ rest) →
         Put text first (set (set (set out at 61) (at + 1) h) (at + 2) l) (at + 3) rest
     three-on text first rest p =
         let high : b / 16 % 16 ≡ b / 16 = omega arith in
@@ -46,7 +48,9 @@ puts-pair b at out {h} {l} k e f = (simp length-set, λ text first rest p. three
 
 -- one byte more of a list
 pub puts-next :
-    (l : List ℕ) (i at : ℕ) (x y : List ℕ) → i < length l → Puts (take i l) at x y → Puts (take (i + 1) l) at x (set y (at + i) (getD l i 0))
+    (l : List ℕ) (i at : ℕ) (x y : List ℕ) → i < length l → Puts (take i l) at x y →
+    Puts (take (i + 1) l) at x (set y (at + i) (getD l i 0))
 puts-next l i at x y h p =
     let k : at + i ≡ at + length (take i l) = omega (arith, length-take-le i l (omega arith)) in
-    rw (add-one i, take-suc l i 0 h) (puts-on (take i l) (getD l i 0 ∷ []) at (at + i) x y _ p k (puts-one (getD l i 0) (at + i) y))
+    rw (add-one i, take-suc l i 0 h)
+    (puts-on (take i l) (getD l i 0 ∷ []) at (at + i) x y _ p k (puts-one (getD l i 0) (at + i) y))

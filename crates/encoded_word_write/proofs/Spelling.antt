@@ -85,7 +85,8 @@ pub q-upto : (l : List ℕ) (i k : ℕ) → length (qText (take i l)) ≤ length
 q-upto l i k = rw (take-add i k l) (omega (arith, q-append (take i l) (take k (drop i l))))
 
 pub q-more-size :
-    (l : List ℕ) (i : ℕ) → i < length l → length (qText (take (i + 1) l)) ≡ length (qText (take i l)) + length (spelled (getD l i 0))
+    (l : List ℕ) (i : ℕ) → i < length l →
+    length (qText (take (i + 1) l)) ≡ length (qText (take i l)) + length (spelled (getD l i 0))
 q-more-size l i h = ap length (q-next l i h) ∙ length-append (qText (take i l)) (spelled (getD l i 0))
 
 pub q-room :

@@ -30,7 +30,8 @@ digit-value-requires c κs = search needs
 
 returns : tie.Need-returns
 unfolding partDoes
-returns c = rw (c .before .before .before .p3 .given .1, ← c .before .digit-value .ensures, digit-none _ (c .if1 .taken))
+returns c =
+    rw (c .before .before .before .p3 .given .1, ← c .before .digit-value .ensures, digit-none _ (c .if1 .taken))
 
 enum-known-p-4 : tie.Need-enum-known-p-4
 enum-known-p-4 c = search needs
@@ -63,7 +64,8 @@ returns-4 c = rw (c .before .before .p2 .given .1) (c .in-text .ensures)
 
 returns-5 : tie.Need-returns-5
 unfolding partDoes
-returns-5 c = rw (c .before .before .before .p3 .given .1, ← c .before .digit-value .ensures, digit-some _ (c .if1 .left), digit-small _ (c .if1 .left))
+returns-5 c =
+    rw (c .before .before .before .p3 .given .1, ← c .before .digit-value .ensures, digit-some _ (c .if1 .left), digit-small _ (c .if1 .left))
 
 returns-6 : tie.Need-returns-6
 returns-6 c = rw (c .before .before .p4 .given .1) (c .in-pair .ensures)

@@ -2,7 +2,8 @@ use Prim.Native.Nat.{_-_, _<_}
 use native.Mathlib.Omega.{arith}
 use lib.ListN.{length}
 use borrow.Author.Needs.{needs}
-use Rattle.reading.proofs.Filling.{Filling, filling-start, filling-index, filling-give, filling-go, filling-bad, filling-end}
+use Rattle.reading.proofs.Filling.{Filling, filling-start, filling-index, filling-give, filling-go, filling-bad}
+use Rattle.reading.proofs.Filling.{filling-end}
 use Rattle.encoded_word.specs.Rule.{subject}
 use Rattle.encoded_word.proofs.Kept.{filling-faulty}
 use Rattle.encoded_word_read.specs.Line.{partOf}
@@ -29,7 +30,9 @@ enum-known-value : tie.Need-enum-known-value Inv-loop μ-loop
 enum-known-value c = search needs
 
 -- the next cell has a place
-index : (c : tie.After-known-told Inv-loop μ-loop) → let l = c .before .before .before .before .before .before .loop in l .n < length (l .out)
+index :
+    (c : tie.After-known-told Inv-loop μ-loop) →
+    let l = c .before .before .before .before .before .before .loop in l .n < length (l .out)
 index c =
     let f = c .before .before .before in
     let i = f .before .before in

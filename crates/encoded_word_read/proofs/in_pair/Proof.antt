@@ -33,7 +33,8 @@ unfolding partDoes
 returns-2 c =
     let a = c .before .before .before .before .args in
     let v = c .before .before .before .digit-value .result in
-    let m = byte-moves (a .st) (a .d % 16 * 16 + v) {r = c .before .byte-does .result} (c .before .byte-does .ensures) in
+    let m =
+    byte-moves (a .st) (a .d % 16 * 16 + v) {r = c .before .byte-does .result} (c .before .byte-does .ensures) in
     rw (← c .before .before .before .digit-value .ensures, digit-some _ (c .before .before .if1 .left), mul-comm 16 (a .d % 16), ← m .so) (c .of-pair .ensures)
 
 pub in-pair-spec : {M : Type 1} → statement M

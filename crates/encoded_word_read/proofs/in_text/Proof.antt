@@ -21,18 +21,21 @@ returns-2 c = rw (eq-eqb _ _ (c .before .before .if1 .taken), ne-eqb _ _ (c .bef
 
 returns-3 : tie.Need-returns-3
 unfolding textDoes
-returns-3 c = rw (ne-eqb _ _ (c .before .before .if1 .left), eq-eqb _ _ (c .before .if3 .taken), pair-over _ (c .if4 .taken))
+returns-3 c =
+    rw (ne-eqb _ _ (c .before .before .if1 .left), eq-eqb _ _ (c .before .if3 .taken), pair-over _ (c .if4 .taken))
 
 add-t9 : tie.Need-add-t9
 add-t9 c = search needs
 
 returns-4 : tie.Need-returns-4
 unfolding textDoes
-returns-4 c = rw (ne-eqb _ _ (c .before .before .if1 .left), eq-eqb _ _ (c .before .if3 .taken), pair-in _ (c .if4 .left))
+returns-4 c =
+    rw (ne-eqb _ _ (c .before .before .if1 .left), eq-eqb _ _ (c .before .if3 .taken), pair-in _ (c .if4 .left))
 
 returns-5 : tie.Need-returns-5
 unfolding textDoes
-returns-5 c = rw (ne-eqb _ _ (c .before .before .if1 .left), ne-eqb _ _ (c .before .if3 .left), char-over _ (c .if5 .taken))
+returns-5 c =
+    rw (ne-eqb _ _ (c .before .before .if1 .left), ne-eqb _ _ (c .before .if3 .left), char-over _ (c .if5 .taken))
 
 add-of-char : tie.Need-add-of-char
 add-of-char c = search needs
@@ -46,7 +49,9 @@ of-char-requires c κs = search needs
 returns-6 : tie.Need-returns-6
 unfolding textDoes
 returns-6 c =
-    let m = byte-moves (c .before .before .before .before .before .before .args .st) 32 {r = c .before .byte-does .result} (c .before .byte-does .ensures) in
+    let m =
+    byte-moves (c .before .before .before .before .before .before .args .st) 32 {r = c .before .byte-does .result}
+    (c .before .byte-does .ensures) in
     rw (ne-eqb _ _ (c .before .before .before .before .before .if1 .left), ne-eqb _ _ (c .before .before .before .before .if3 .left), char-in _ (c .before .before .before .if5 .left), eq-eqb _ _ (c .before .before .if6 .taken), ← m .so) (c .of-char .ensures)
 
 is-itself-requires : tie.Need-is-itself-requires
@@ -64,12 +69,16 @@ of-char-requires-2 c κs = search needs
 returns-7 : tie.Need-returns-7
 unfolding textDoes
 returns-7 c =
-    let m = byte-moves (c .before .before .before .before .before .before .before .before .args .st) (c .before .before .before .before .before .before .before .before .args .b) {r = c .before .byte-does2 .result} (c .before .byte-does2 .ensures) in
+    let m =
+    byte-moves (c .before .before .before .before .before .before .before .before .args .st)
+    (c .before .before .before .before .before .before .before .before .args .b) {r = c .before .byte-does2 .result}
+    (c .before .byte-does2 .ensures) in
     rw (ne-eqb _ _ (c .before .before .before .before .before .before .before .if1 .left), ne-eqb _ _ (c .before .before .before .before .before .before .if3 .left), char-in _ (c .before .before .before .before .before .if5 .left), ne-eqb _ _ (c .before .before .before .before .if6 .left), sym (c .before .before .before .is-itself .ensures) ∙ c .before .before .if7 .taken, ← m .so) (c .of-char2 .ensures)
 
 returns-8 : tie.Need-returns-8
 unfolding textDoes
-returns-8 c = rw (ne-eqb _ _ (c .before .before .before .before .before .if1 .left), ne-eqb _ _ (c .before .before .before .before .if3 .left), char-in _ (c .before .before .before .if5 .left), ne-eqb _ _ (c .before .before .if6 .left), sym (c .before .is-itself .ensures) ∙ c .if7 .left)
+returns-8 c =
+    rw (ne-eqb _ _ (c .before .before .before .before .before .if1 .left), ne-eqb _ _ (c .before .before .before .before .if3 .left), char-in _ (c .before .before .before .if5 .left), ne-eqb _ _ (c .before .before .if6 .left), sym (c .before .is-itself .ensures) ∙ c .if7 .left)
 
 pub in-text-spec : {M : Type 1} → statement M
 in-text-spec =

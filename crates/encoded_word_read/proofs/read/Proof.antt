@@ -20,7 +20,9 @@ too-long-requires : tie.Need-too-long-requires
 too-long-requires c κs = search needs
 
 returns : tie.Need-returns
-returns c = into-long subject-kept _ _ (c .too-long .result) (sym (c .before .before .over-limit .ensures) ∙ c .before .if1 .taken) (c .too-long .ensures)
+returns c =
+    into-long subject-kept _ _ (c .too-long .result)
+    (sym (c .before .before .over-limit .ensures) ∙ c .before .if1 .taken) (c .too-long .ensures)
 
 count-requires : tie.Need-count-requires
 count-requires c κs = search needs
@@ -46,7 +48,8 @@ fill-requires : tie.Need-fill-requires
 fill-requires c κs =
     let f = c .before .before .before in
     let p = f .before .before in
-    into-room subject-kept _ (now (p .before .before .before .before .before .args .out)) (within (p .before)) (p .count .ensures) (f .found .given .1) (c .before .if2 .left)
+    into-room subject-kept _ (now (p .before .before .before .before .before .args .out)) (within (p .before))
+    (p .count .ensures) (f .found .given .1) (c .before .if2 .left)
 
 same-length : tie.Need-same-length
 same-length c = search needs
@@ -56,7 +59,8 @@ returns-4 c =
     let r = c .before .before .before .before in
     let f = r .before .before in
     let p = f .before .before in
-    into-filled subject-kept _ _ (within (p .before)) (ap inNumbers (sym (f .found .given .1)) ∙ p .count .ensures) refl (r .if2 .left) (c .before .before .fill .ensures)
+    into-filled subject-kept _ _ (within (p .before)) (ap inNumbers (sym (f .found .given .1)) ∙ p .count .ensures)
+    refl (r .if2 .left) (c .before .before .fill .ensures)
 
 pub read-spec : {M : Type 1} → statement M
 read-spec =

@@ -14,10 +14,14 @@ enum-known-why : tie.Need-enum-known-why
 enum-known-why c = search needs
 
 returns : tie.Need-returns
-returns c = ended-told (shiftOf (c .before .before .before .args .st)) (c .before .before .ends-in .ensures) (c .enum-told .given .1)
+returns c =
+    ended-told (shiftOf (c .before .before .before .args .st)) (c .before .before .ends-in .ensures)
+    (c .enum-told .given .1)
 
 returns-2 : tie.Need-returns-2
-returns-2 c = ended-refused (shiftOf (c .before .before .before .before .args .st)) (c .before .before .before .ends-in .ensures) (c .before .why .given .1)
+returns-2 c =
+    ended-refused (shiftOf (c .before .before .before .before .args .st)) (c .before .before .before .ends-in .ensures)
+    (c .before .why .given .1)
 
 pub word-end-spec : {M : Type 1} → statement M
 word-end-spec = tie.close (tie.spec ends-in-requires enum-told enum-known-why returns returns-2)

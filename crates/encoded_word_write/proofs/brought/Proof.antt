@@ -30,10 +30,12 @@ run-size-requires-2 : tie.Need-run-size-requires-2
 run-size-requires-2 c κs = search needs
 
 sub-result : tie.Need-sub-result
-sub-result c = omega (arith, c .run-size2 .ensures, c .before .run-size .ensures, run-grows (c .before .before .before .before .before .args .run))
+sub-result c =
+    omega (arith, c .run-size2 .ensures, c .before .run-size .ensures, run-grows (c .before .before .before .before .before .args .run))
 
 returns-3 : tie.Need-returns-3
-returns-3 c = rw (sym (c .before .before .before .before .is-own .ensures) ∙ c .before .before .before .if1 .left, ne-eqb _ _ (c .before .before .if2 .left), c .before .run-size .ensures, c .run-size2 .ensures)
+returns-3 c =
+    rw (sym (c .before .before .before .before .is-own .ensures) ∙ c .before .before .before .if1 .left, ne-eqb _ _ (c .before .before .if2 .left), c .before .run-size .ensures, c .run-size2 .ensures)
 
 pub brought-spec : {M : Type 1} → statement M
 brought-spec =

@@ -40,7 +40,9 @@ found :
     (c .share .result .count ≡ shareOf (rest c)) × (c .share .result .size ≡ qSize (take (shareOf (rest c)) (rest c)))
 found c = rw (rest-whole (units c) (at-loop c .loop .i)) at (c .share .ensures)
 
-on : (c : tie.After-share Inv-loop μ-loop) → (0 < c .share .result .count) × (at-loop c .loop .i + c .share .result .count ≤ length (units c))
+on :
+    (c : tie.After-share Inv-loop μ-loop) →
+    (0 < c .share .result .count) × (at-loop c .loop .i + c .share .result .count ≤ length (units c))
 on c = word-on (units c) (at-loop c .loop .i) (c .share .result .count) (at-start c .pre .0) (here c) (found c .0)
 
 loop-holds : tie.Need-loop-holds Inv-loop μ-loop
@@ -62,7 +64,8 @@ share-requires : tie.Need-share-requires Inv-loop μ-loop
 share-requires c κs =
     let s = c .before .before .before .before .before in
     let i = c .before .before .loop .i in
-    rw (rest-whole (s .args .units .now) i) (step-asked (s .args .units .now) i (s .pre .0) (c .before .loop-test .taken) (s .pre .1))
+    rw (rest-whole (s .args .units .now) i)
+    (step-asked (s .args .units .now) i (s .pre .0) (c .before .loop-test .taken) (s .pre .1))
 
 add-j : tie.Need-add-j Inv-loop μ-loop
 unfolding limit
@@ -83,7 +86,9 @@ part-put-word-end c = let w = c .before in omega (arith, on w .1)
 put-word-requires : tie.Need-put-word-requires Inv-loop μ-loop
 put-word-requires c κs =
     let w = c .before .before .before in
-    let a = word-asked (units w) (at-loop w .loop .i) (w .share .result .count) (at-start w .pre .0) (here w) (found w .0) (at-start w .pre .1) in
+    let a =
+    word-asked (units w) (at-loop w .loop .i) (w .share .result .count) (at-start w .pre .0) (here w) (found w .0)
+    (at-start w .pre .1) in
     (a .0, a .1, a .2, word-room (units w) (at-loop w .loop .i) (w .share .result .count) (at-start w .pre .0) (here w) (found w .0) (at-loop w .loop .inv .1))
 
 loop-less : tie.Need-loop-less Inv-loop μ-loop
@@ -101,7 +106,9 @@ same-length c = c .before .loop .inv .1 .same
 
 returns : tie.Need-returns Inv-loop μ-loop
 returns c =
-    let e = ap lineOf (drop-of-length-le (c .before .before .before .before .args .units .now) (c .loop-test .left)) ∙ line-none in
+    let e =
+    ap lineOf (drop-of-length-le (c .before .before .before .before .args .units .now) (c .loop-test .left))
+    ∙ line-none in
     let p = put-as e (c .before .loop .inv .1) in
     (put-end p, put-done p)
 

@@ -1,5 +1,6 @@
 use Rattle.answer.specs.Answer.{limit}
-use Rattle.encoded_word_write.proofs.Spelling.{spelled-space, spelled-itself, spelled-pair, itself-over, pair-three, run-some}
+use Rattle.encoded_word_write.proofs.Spelling.{spelled-space, spelled-itself, spelled-pair, itself-over}
+use Rattle.encoded_word_write.proofs.Spelling.{pair-three, run-some}
 use mathlib.Core.Path.{sym, ap, _∙_}
 use native.Mathlib.Omega.{arith}
 use borrow.Author.Needs.{needs}

@@ -1,5 +1,6 @@
 use Rattle.encoded_word_write.proofs.Spelling.{brings-few}
-use Rattle.encoded_word.proofs.Shares.{Taking, taking-start, taking-run, taking-more, taking-some, taking-cut, taking-all}
+use Rattle.encoded_word.proofs.Shares.{Taking, taking-start, taking-run, taking-more, taking-some, taking-cut}
+use Rattle.encoded_word.proofs.Shares.{taking-all}
 use lib.ListN.{length, getD}
 use Prim.Native.Nat.{_-_}
 use mathlib.Core.Path.{_≡_, refl, sym, ap, _∙_}
@@ -31,7 +32,9 @@ brought-requires c κs =
 add-more : tie.Need-add-more Inv-loop μ-loop
 add-more c =
     let l = c .before .before .before in
-    let h = brings-few (getD (l .before .before .args .units .now) (l .loop .i) 0) (l .loop .run) (omega (arith, taking-run (l .before .before .pre .0) (l .loop .inv), l .loop .inv .upto, l .before .before .pre .2)) in
+    let h =
+    brings-few (getD (l .before .before .args .units .now) (l .loop .i) 0) (l .loop .run)
+    (omega (arith, taking-run (l .before .before .pre .0) (l .loop .inv), l .loop .inv .upto, l .before .before .pre .2)) in
     omega (arith, c .brought .ensures, h, l .loop .inv .few)
 
 cut-requires : tie.Need-cut-requires Inv-loop μ-loop
@@ -44,7 +47,8 @@ returns : tie.Need-returns Inv-loop μ-loop
 returns c =
     let l = c .before .before .before .before .before in
     let over = rw (c .before .before .brought .ensures) at (c .before .if1 .taken) in
-    let k = taking-cut (l .before .before .pre .0) (l .loop .inv) (c .before .before .before .before .loop-test .taken) over in
+    let k =
+    taking-cut (l .before .before .pre .0) (l .loop .inv) (c .before .before .before .before .loop-test .taken) over in
     (c .cut .ensures .0 ∙ k .0, c .cut .ensures .1 ∙ k .1)
 
 run-after-requires : tie.Need-run-after-requires Inv-loop μ-loop
@@ -62,10 +66,13 @@ loop-again : tie.Need-loop-again Inv-loop μ-loop
 loop-again c =
     let l = c .before .before .before .before .before in
     let b = c .before .before .brought .ensures in
-    rw (c .run-after .ensures, b) (taking-more (l .before .before .pre .0) (l .loop .inv) (c .before .before .before .before .loop-test .taken) (rw b at (c .before .if1 .left)))
+    rw (c .run-after .ensures, b)
+    (taking-more (l .before .before .pre .0) (l .loop .inv) (c .before .before .before .before .loop-test .taken)
+    (rw b at (c .before .if1 .left)))
 
 returns-2 : tie.Need-returns-2 Inv-loop μ-loop
-returns-2 c = let s = c .before .before .before .pre in taking-all (s .0) (c .before .loop .inv) (s .1) (c .loop-test .left)
+returns-2 c =
+    let s = c .before .before .before .pre in taking-all (s .0) (c .before .loop .inv) (s .1) (c .loop-test .left)
 
 pub share-spec : {M : Type 1} → statement M
 share-spec =

@@ -43,17 +43,21 @@ found :
     (c .share .result .count ≡ shareOf (rest c)) × (c .share .result .size ≡ qSize (take (shareOf (rest c)) (rest c)))
 found c = rw (rest-whole (units c) (at-loop c .loop .i)) at (c .share .ensures)
 
-on : (c : tie.After-share Inv-loop μ-loop) → (0 < c .share .result .count) × (at-loop c .loop .i + c .share .result .count ≤ length (units c))
+on :
+    (c : tie.After-share Inv-loop μ-loop) →
+    (0 < c .share .result .count) × (at-loop c .loop .i + c .share .result .count ≤ length (units c))
 on c = word-on (units c) (at-loop c .loop .i) (c .share .result .count) (at-start c .pre .0) (here c) (found c .0)
 
 bytes :
     (c : tie.After-share Inv-loop μ-loop) → let i = at-loop c .loop .i in
-    at-loop c .loop .total + (12 + c .share .result .size + cond (ltb (i + c .share .result .count) (length (units c))) 3 0)
+    at-loop c .loop .total
+    + (12 + c .share .result .size + cond (ltb (i + c .share .result .count) (length (units c))) 3 0)
     + length (lineOf (drop (i + c .share .result .count) (units c)))
     ≡ length (lineOf (units c))
 bytes c =
     let l = at-loop c .loop in
-    word-bytes (units c) (l .i) (c .share .result .count) (at-start c .pre .0) (here c) (found c .0) (l .total) (c .share .result .size) (found c .1) (l .inv .1)
+    word-bytes (units c) (l .i) (c .share .result .count) (at-start c .pre .0) (here c) (found c .0) (l .total)
+    (c .share .result .size) (found c .1) (l .inv .1)
 
 few-bytes : (c : tie.After-share Inv-loop μ-loop) → length (lineOf (at-start c .args .units .now)) ≤ 100000000
 unfolding limit
@@ -78,7 +82,8 @@ share-requires : tie.Need-share-requires Inv-loop μ-loop
 share-requires c κs =
     let s = c .before .before .before .before in
     let i = c .before .before .loop .i in
-    rw (rest-whole (s .args .units .now) i) (step-asked (s .args .units .now) i (s .pre .0) (c .before .loop-test .taken) (s .pre .1))
+    rw (rest-whole (s .args .units .now) i)
+    (step-asked (s .args .units .now) i (s .pre .0) (c .before .loop-test .taken) (s .pre .1))
 
 add-i : tie.Need-add-i Inv-loop μ-loop
 unfolding limit
@@ -105,7 +110,9 @@ loop-again c = let w = c .before .before .before in (on w .1, rw (c .gap .ensure
 returns : tie.Need-returns Inv-loop μ-loop
 returns c =
     let l = c .before .loop in
-    let e = ap length (ap lineOf (drop-of-length-le (c .before .before .before .args .units .now) (c .loop-test .left)) ∙ line-none) in
+    let e =
+    ap length (ap lineOf (drop-of-length-le (c .before .before .before .args .units .now) (c .loop-test .left))
+    ∙ line-none) in
     omega (arith, e, l .inv .1)
 
 pub size-spec : {M : Type 1} → statement M

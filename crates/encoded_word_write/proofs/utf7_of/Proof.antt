@@ -20,7 +20,8 @@ returns : tie.Need-returns
 returns c =
     let s = c .before .before .before .before .before .before .before .before .before in
     let w = c .before .before .before .before .before .write in
-    as-accepted (s .args .units .now) (s .args .text .now) _ (s .pre .0) (s .pre .1) (s .pre .2) _ (w .ensures) (c .before .n .given .1)
+    as-accepted (s .args .units .now) (s .args .text .now) _ (s .pre .0) (s .pre .1) (s .pre .2) _ (w .ensures)
+    (c .before .n .given .1)
 
 same-length-2 : tie.Need-same-length-2
 same-length-2 c = search needs
@@ -29,7 +30,8 @@ returns-2 : tie.Need-returns-2
 returns-2 c =
     let s = c .before .before .before .before .before .before .before .before in
     let w = c .before .before .before .before .write in
-    not-refused (s .args .units .now) (s .args .text .now) _ (s .pre .0) (s .pre .1) (s .pre .2) _ (w .ensures) (c .enum-told .given .1)
+    not-refused (s .args .units .now) (s .args .text .now) _ (s .pre .0) (s .pre .1) (s .pre .2) _ (w .ensures)
+    (c .enum-told .given .1)
 
 pub utf7-of-spec : {M : Type 1} → statement M
 utf7-of-spec =

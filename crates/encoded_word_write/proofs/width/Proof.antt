@@ -1,4 +1,5 @@
-use Rattle.encoded_word_write.proofs.Spelling.{spelled-space, spelled-itself, spelled-pair, itself-over, pair-three, run-some}
+use Rattle.encoded_word_write.proofs.Spelling.{spelled-space, spelled-itself, spelled-pair, itself-over}
+use Rattle.encoded_word_write.proofs.Spelling.{pair-three, run-some}
 use mathlib.Core.Path.{sym, ap, _∙_}
 use native.Mathlib.Omega.{arith}
 use borrow.Author.Needs.{needs}
@@ -21,7 +22,8 @@ returns-3 : tie.Need-returns-3
 returns-3 c = rw (spelled-itself _ (sym (c .before .is-itself .ensures) ∙ c .if3 .taken))
 
 returns-4 : tie.Need-returns-4
-returns-4 c = rw (spelled-pair _ (c .before .before .before .if1 .left) (sym (c .before .is-itself .ensures) ∙ c .if3 .left), pair-three _)
+returns-4 c =
+    rw (spelled-pair _ (c .before .before .before .if1 .left) (sym (c .before .is-itself .ensures) ∙ c .if3 .left), pair-three _)
 
 pub width-spec : {M : Type 1} → statement M
 width-spec =

@@ -32,7 +32,9 @@ room :
     length (lineOf (now (a .units))) ≤ length (now (a .out))
 room c =
     let a = c .before .before .before .before .before .before .before .args in
-    ⊎-elim (λ p. omega (arith, p .1 .ensures, p .2 .left)) (λ q. omega (arith, line-few (now (a .units)) (units-all _ (ltb-false _ _ (judged (c .before)))), q .left)) (c .if3 .came)
+    ⊎-elim (λ p. omega (arith, p .1 .ensures, p .2 .left))
+    (λ q. omega (arith, line-few (now (a .units)) (units-all _ (ltb-false _ _ (judged (c .before)))), q .left))
+    (c .if3 .came)
 
 over-limit-requires : tie.Need-over-limit-requires
 over-limit-requires c κs = search needs

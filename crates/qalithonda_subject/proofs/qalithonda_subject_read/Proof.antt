@@ -13,7 +13,9 @@ same-length : tie.Need-same-length
 same-length c = search needs
 
 returns : tie.Need-returns
-returns c = handed-on _ (c .before .before .before .read .result) (c .in-numbers .ensures) (c .before .before .before .read .ensures)
+returns c =
+    handed-on _ (c .before .before .before .read .result) (c .in-numbers .ensures)
+    (c .before .before .before .read .ensures)
 
 pub qalithonda-subject-read-spec : {M : Type 1} → statement M
 qalithonda-subject-read-spec =
