@@ -2,6 +2,7 @@
 //! is on the side that the memory is flush with; so does writing to memory that is lent to be read.
 
 use std::ffi::{c_int, c_void};
+use std::ops::Range;
 use std::{ptr, slice};
 
 use crate::second::LIMIT;
@@ -23,6 +24,9 @@ const OWN_PAGES: c_int = 0x22;
 /// The length of a guard: a multiple of the page size of every machine.
 const GUARD: usize = 65_536;
 
+/// Nothing between the guards.
+const NO_STRETCH: Range<usize> = 0..0;
+
 /// Bytes between the guards: the longest page file, with as many arrived bytes, cells and words as can be, and more.
 const CAPACITY: usize = 20 * LIMIT;
 
@@ -36,7 +40,9 @@ pub enum Side {
 pub struct Guarded {
     /// Where the front guard ends.
     start: *mut u8,
-    /// What may be done with the pages between the guards.
+    /// The stretch behind it whose pages may be touched, and what may be done with them: with no others, so that a short
+    /// list costs little.
+    stretch: Range<usize>,
     access: c_int,
 }
 
@@ -46,7 +52,7 @@ impl Guarded {
         unsafe {
             let whole = mmap(ptr::null_mut(), GUARD + CAPACITY + GUARD, NOTHING, OWN_PAGES, -1, 0);
             assert!(whole.addr() != usize::MAX, "pages are given");
-            Guarded { start: whole.cast::<u8>().add(GUARD), access: NOTHING }
+            Guarded { start: whole.cast::<u8>().add(GUARD), stretch: NO_STRETCH, access: NOTHING }
         }
     }
 
@@ -60,7 +66,7 @@ impl Guarded {
     /// Lends these elements to be read.
     pub fn lend_to_read<T: Copy>(&mut self, contents: &[T], side: Side) -> &[T] {
         let place = self.put(contents, side);
-        self.allow(READ);
+        self.allow(self.stretch.clone(), READ);
         // SAFETY: so many elements were put there, and they are borrowed from this memory.
         unsafe { slice::from_raw_parts(place, contents.len()) }
     }
@@ -74,7 +80,8 @@ impl Guarded {
     /// Copies these elements to the place next to a guard.
     fn put<T: Copy>(&mut self, contents: &[T], side: Side) -> *mut T {
         let place: *mut T = self.place(contents.len(), side);
-        self.allow(READ_AND_WRITE);
+        let offset = place.addr() - self.start.addr();
+        self.allow(offset / GUARD * GUARD..(offset + size_of_val(contents)).next_multiple_of(GUARD), READ_AND_WRITE);
         // SAFETY: there is room for so many elements.
         unsafe { place.copy_from_nonoverlapping(contents.as_ptr(), contents.len()) };
         place
@@ -88,12 +95,21 @@ impl Guarded {
         unsafe { self.start.add(offset) }.cast()
     }
 
-    fn allow(&mut self, access: c_int) {
-        if self.access != access {
-            // SAFETY: these are the pages between the guards.
-            assert_eq!(unsafe { mprotect(self.start.cast(), CAPACITY, access) }, 0, "the access is set");
-            self.access = access;
+    /// Pages of this stretch may be touched so, and no others.
+    fn allow(&mut self, stretch: Range<usize>, access: c_int) {
+        if self.stretch != stretch {
+            self.protect(self.stretch.clone(), NOTHING);
+        } else if self.access == access {
+            return;
         }
+        self.protect(stretch.clone(), access);
+        (self.stretch, self.access) = (stretch, access);
+    }
+
+    fn protect(&self, stretch: Range<usize>, access: c_int) {
+        // SAFETY: these are pages between the guards.
+        let done = unsafe { mprotect(self.start.add(stretch.start).cast(), stretch.len(), access) };
+        assert_eq!(done, 0, "the access is set");
     }
 }
 

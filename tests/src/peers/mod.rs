@@ -21,12 +21,8 @@ fn units(bytes: &[u8]) -> Vec<u32> {
 /// bytes and these, or the largest number if the text is refused.
 fn ask(program: &str, arguments: &[&str], texts: &[Vec<u8>]) -> Answers {
     let missing = |problem: std::io::Error| format!("{program} is not here: {problem}");
-    let mut child = Command::new(program)
-        .args(arguments)
-        .stdin(Stdio::piped())
-        .stdout(Stdio::piped())
-        .spawn()
-        .map_err(missing)?;
+    let mut child =
+        Command::new(program).args(arguments).stdin(Stdio::piped()).stdout(Stdio::piped()).spawn().map_err(missing)?;
     let mut stdin = child.stdin.take().expect("a pipe");
     let output = thread::scope(|scope| {
         scope.spawn(move || {
