@@ -1,11 +1,11 @@
 -- A word by its parts, and a line by its words. Assumes nothing.
 use Prim.Native.Nat.{ℕ, _+_, _-_, _<_, _≤_}
 use mathlib.Core.Path.{_≡_, refl, sym, ap, _∙_}
-use mathlib.Core.Bool.{Bool, true, cond}
+use mathlib.Core.Bool.{Bool, cond}
 use mathlib.Core.List.{List, [], _∷_, _++_}
 use native.Mathlib.Omega.{arith}
 use lib.ListN.{length, take, drop, length-append, length-take, length-drop}
-use lib.Seq.{take-at}
+use lib.Seq.{take-at, drop-at, drop-drop}
 use lib.Dec.{ltb}
 use Rattle.answer.specs.Answer.{limit}
 use Rattle.answer.specs.Lists.{Each}
@@ -14,61 +14,74 @@ use Rattle.answer.proofs.Below.{each-take}
 use Rattle.answer.proofs.Put.{Put, put-as, put-lent-room}
 use Rattle.utf7.specs.Writing.{IsUnit, writing}
 use Rattle.utf7.specs.declared.Style.the-variants.{Header}
-use Rattle.encoded_word.specs.Writing.{spelled, qText, wordStart, fits, shareOf, lineOf}
+use Rattle.encoded_word.specs.Writing.{qText, wordStart, shareOf, lineOf}
 use Rattle.encoded_word.specs.Inner.{qSize, endOf, wordAnd}
-use Rattle.encoded_word.proofs.Grow.{spelled-some}
-use Rattle.encoded_word.proofs.Shares.{fits-size, word-and-size, step-asked, step-taken, step-fits, step-line}
-use Rattle.encoded_word.proofs.Shares.{step-size}
+use Rattle.encoded_word.proofs.Shares.{rest-whole, step-asked, step-taken, step-line, step-size}
 use Rattle.encoded_word_write.specs.Inner.{Puts}
 use Rattle.encoded_word_write.proofs.Putting.{puts-on}
+use Rattle.encoded_word_write.proofs.Spelling.{q-least}
 
--- Q text has a character for every byte
-q-least : (l : List ℕ) → length l ≤ length (qText l)
-unfolding qText
-q-least [] = omega arith
-q-least (b ∷ l) = omega (arith, spelled-some b, q-least l, length-append (spelled b) (qText l))
+-- the Q text of units has its place where they are written as UTF-7, and is what the UTF-7 becomes
+module _ (us out out' : List ℕ) (size n : ℕ) (s : size ≡ qSize us) (room : size ≤ length out) where
+  pub written-room : length (writing Header us) ≤ length out
+  unfolding qSize
+  written-room = omega (arith, q-least (writing Header us))
 
-pub text-few : (us : List ℕ) → fits us ≡ true → length (writing Header us) ≤ 63
-unfolding qSize
-text-few us h = omega (arith, q-least (writing Header us), fits-size us h)
+  module _ (e : n ≡ length (writing Header us)) (f : out' ≡ filled (writing Header us) out) where
+    its-text : take n out' ≡ writing Header us
+    its-text = rw f (take-at (writing Header us) (drop (length (writing Header us)) out) n (sym e))
+
+    same-length : length out' ≡ length out
+    same-length =
+        ap length f ∙ length-append (writing Header us) (drop (length (writing Header us)) out)
+        ∙ omega (arith, length-drop (length (writing Header us)) out, written-room)
+
+    pub text-asked : (n ≤ length out') × (size ≤ length out') × (size ≡ length (qText (take n out')))
+    unfolding qSize
+    text-asked =
+        (omega (arith, same-length, written-room), omega (arith, same-length), s ∙ ap (λ (l : List ℕ). length (qText l)) (sym its-text))
+
+    pub text-filled :
+        {out'' : List ℕ} → out'' ≡ filled (qText (take n out')) out' → out'' ≡ filled (qText (writing Header us)) out
+    unfolding qSize
+    text-filled g =
+        let w = length (writing Header us) in
+        let q = qText (writing Header us) in
+        let k : length q ≡ w + (length q - w) = omega (arith, q-least (writing Header us)) in
+        g
+        ∙ ap (λ (l : List ℕ). qText l ++ drop (length (qText l)) out') its-text
+        ∙ ap (λ (l : List ℕ). q ++ l)
+        (ap (λ (m : ℕ). drop m out') k ∙ sym (drop-drop (length q - w) w out')
+        ∙ ap (drop (length q - w)) (ap (drop w) f ∙ drop-at (writing Header us) (drop w out) w refl)
+        ∙ drop-drop (length q - w) w out ∙ ap (λ (m : ℕ). drop m out) (sym k))
 
 -- a word's parts, one behind another
-module _ (us text text' : List ℕ) (n : ℕ) (h : fits us ≡ true) (room : 63 ≤ length text) (e : n ≡ length (writing Header us)) (f : text' ≡ filled (writing Header us) text) where
-  its-text : take n text' ≡ writing Header us
-  its-text = rw f (take-at (writing Header us) (drop (length (writing Header us)) text) n (sym e))
+module _ (us : List ℕ) (more : Bool) (size at from : ℕ) (out out' : List ℕ) (e : size ≡ qSize us) (fit : at + length (wordAnd more us) ≤ length out)
+    (begun : from ≡ at + 10) (p : Puts wordStart at out out') where
+  text-room : from + length (qText (writing Header us)) + length (endOf more) ≤ length out'
+  unfolding wordAnd
+  text-room = omega (arith, fit, begun, p .0, length-append (qText (writing Header us)) (endOf more))
 
-  module _ (more : Bool) (at from : ℕ) (out out' : List ℕ) (fit : at + length (wordAnd more us) ≤ length out) (begun : from ≡ at + 10) (same : length out' ≡ length out) where
-    pub text-asked : (n ≤ length text') × (from + length (qText (take n text')) ≤ length out')
+  pub text-fits : from + length (qText (writing Header us)) ≤ length out'
+  text-fits = omega (arith, text-room)
+
+  pub rest-asked : size ≤ length (take (length out' - from) (drop from out'))
+  unfolding qSize
+  rest-asked = rw (rest-whole out' from) (omega (arith, text-room, length-drop from out'))
+
+  module _ (out'' : List ℕ) (q : Puts (qText (writing Header us)) from out' out'') where
+    pub end-asked : from + size + length (endOf more) ≤ length out''
     unfolding qSize
-    text-asked = (
-      omega (
-        arith,
-        text-few us h,
-        ap length f,
-        length-append (writing Header us) (drop (length (writing Header us)) text),
-        length-drop (length (writing Header us)) text,
-      ),
-      rw its-text (omega (arith, word-and-size more us)),
-    )
+    end-asked = omega (arith, text-room, q .0)
 
-    module _ (to : ℕ) (out'' : List ℕ) (went : to ≡ from + length (qText (take n text'))) (same' : length out'' ≡ length out') where
-      pub end-asked : to + length (endOf more) ≤ length out''
-      unfolding wordAnd
-      end-asked =
-          omega (arith, fit, went, ap (λ (l : List ℕ). length (qText l)) its-text, length-append (qText (writing Header us)) (endOf more))
-
-      pub word-put :
-          (end : ℕ) (last : List ℕ) → Puts wordStart at out out' → Puts (qText (take n text')) from out' out'' →
-          (end ≡ to + length (endOf more)) →
-          Puts (endOf more) to out'' last → (end ≡ at + length (wordAnd more us)) × Puts (wordAnd more us) at out last
-      unfolding wordAnd
-      word-put end last p q stop r =
-          let w : List ℕ = qText (writing Header us) in
-          let s : qText (take n text') ≡ w = ap qText its-text in
-          let went' : to ≡ from + length w = went ∙ ap (λ (l : List ℕ). from + length l) s in (
-            omega (arith, length-append w (endOf more)),
-            puts-on wordStart (w ++ endOf more) at from out out' last p begun (puts-on w (endOf more) from to out' out'' last (rw s at q) went' r),
-          )
+    pub word-put :
+        (end : ℕ) (last : List ℕ) → (end ≡ from + size + length (endOf more)) →
+        Puts (endOf more) (from + size) out'' last →
+        (end ≡ at + length (wordAnd more us)) × Puts (wordAnd more us) at out last
+    unfolding wordAnd qSize
+    word-put end last stop r =
+        let w : List ℕ = qText (writing Header us) in
+        (omega (arith, length-append w (endOf more)), puts-on wordStart (w ++ endOf more) at from out out' last p begun (puts-on w (endOf more) from (from + size) out' out'' last q (ap (λ (m : ℕ). from + m) e) r))
 
 -- a line's next word, where its share is found
 module _ (units : List ℕ) (i count : ℕ) (good : Each IsUnit units) (h : i < length units) (e : count ≡ shareOf (drop i units)) where
@@ -81,10 +94,12 @@ module _ (units : List ℕ) (i count : ℕ) (good : Each IsUnit units) (h : i < 
   same-count : i + count - i ≡ shareOf (drop i units)
   same-count = omega arith
 
-  pub word-asked : length units ≤ limit → Each IsUnit word × (length word ≤ limit) × (fits word ≡ true)
-  word-asked few =
+  pub word-asked :
+      (size : ℕ) → size ≡ qSize (take (shareOf (drop i units)) (drop i units)) → length units ≤ limit →
+      Each IsUnit word × (length word ≤ limit) × (size ≡ qSize word)
+  word-asked size f few =
       let s = step-asked units i good h few in
-      (each-take IsUnit (drop i units) (i + count - i) (s .0), omega (arith, length-take (i + count - i) (drop i units), s .2), rw same-count (step-fits units i good h))
+      (each-take IsUnit (drop i units) (i + count - i) (s .0), omega (arith, length-take (i + count - i) (drop i units), s .2), rw same-count f)
 
   pub word-line : lineOf (drop i units) ≡ wordAnd more word ++ lineOf (drop (i + count) units)
   word-line = rw (same-count, e) (step-line units i good h)

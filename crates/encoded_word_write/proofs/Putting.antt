@@ -1,15 +1,18 @@
 -- Parts put into an output one after another. Assumes nothing.
-use Prim.Native.Nat.{ℕ, suc, _+_, _/_, _%_, _^_, _≤_, _<_}
+use Prim.Native.Nat.{ℕ, suc, _+_, _-_, _/_, _%_, _^_, _≤_, _<_}
 use mathlib.Core.Path.{_≡_, refl, sym, ap, _∙_}
-use mathlib.Core.List.{List, [], _∷_, _++_, append-assoc}
+use mathlib.Core.List.{List, [], _∷_, _++_, append-assoc, append-nil}
 use native.Mathlib.Omega.{arith}
 use native.Mathlib.Nat.{add-assoc, add-zero}
 use native.Mathlib.Nat.{div-one}
 use native.Mathlib.Numerals.{add-one}
-use lib.ListN.{length, getD, take, set, length-set, length-append}
+use lib.ListN.{length, getD, take, drop, set, length-set, length-append}
 use lib.Seq.{take-suc, length-take-le}
 use Rattle.parsing.specs.Digits.{digit, digits}
-use Rattle.answer.proofs.Put.{Put, put-as, put-next}
+use borrow.Rule.Slice.PartMut.{putMid}
+use Rattle.answer.specs.Output.{filled}
+use Rattle.answer.proofs.Put.{Put, put-as, put-next, put-lent}
+use Rattle.utf7_write.proofs.Several.{put-from}
 use Rattle.encoded_word_write.specs.Inner.{Puts}
 
 pub puts-none : (at : ℕ) (out : List ℕ) → Puts [] at out out
@@ -54,3 +57,10 @@ puts-next l i at x y h p =
     let k : at + i ≡ at + length (take i l) = omega (arith, length-take-le i l (omega arith)) in
     rw (add-one i, take-suc l i 0 h)
     (puts-on (take i l) (getD l i 0 ∷ []) at (at + i) x y _ p k (puts-one (getD l i 0) (at + i) y))
+
+-- a part put into the rest of the output, which was lent as `&mut out[at..]`
+pub puts-lent :
+    (part : List ℕ) (at : ℕ) (out y : List ℕ) → at + length part ≤ length out →
+    y ≡ filled part (take (length out - at) (drop at out)) → Puts part at out (putMid at (length out - at) out y)
+puts-lent part at out y h e =
+    (put-lent part [] (put-as (sym (append-nil part)) (put-from out part at h)) e .same, λ text first rest p. put-lent part rest p e)

@@ -19,7 +19,7 @@ use Rattle.parsing.specs.Digits.{digit, digits}
 use Rattle.encoded_word.specs.Writing.{itself, spelled, qText}
 use Rattle.encoded_word.specs.Inner.{runSize, brings}
 use Rattle.encoded_word.proofs.Greedy.{spelled-few}
-use Rattle.encoded_word.proofs.Grow.{q-append}
+use Rattle.encoded_word.proofs.Grow.{spelled-some, q-append}
 
 pub spelled-space : (b : ℕ) → b ≡ 32 → spelled b ≡ 95 ∷ []
 unfolding spelled
@@ -38,24 +38,9 @@ pub spelled-pair : (b : ℕ) → (b ≡ 32 → ⊥) → itself b ≡ false → s
 unfolding spelled
 spelled-pair b n t = rw (ne-eqb b 32 n, t)
 
-pub itself-over : (b : ℕ) → 126 < b → itself b ≡ false
-unfolding itself
-itself-over b h = rw (lt-leb b 126 h) (by (leb 33 b))
-  where
-    by : (a : Bool) → ((a && false) && not (member (bytes "=?_") b)) ≡ false
-    by true = refl
-    by false = refl
-
 pub pair-three : (b : ℕ) → length (61 ∷ digits 16 2 b) ≡ 3
 unfolding digits
 pair-three b = refl
-
-pub run-some : (k : ℕ) → (k ≡ 0 → ⊥) → 2 + (k * 16 + 5) / 6 ≡ runSize k
-run-some zero h = absurd (h refl)
-run-some (suc k) h = refl
-
-pub pair-end : (b at : ℕ) → at + 3 ≡ at + length (61 ∷ digits 16 2 b)
-pair-end b at = rw (pair-three b)
 
 -- what a unit brings fits every machine word
 pub brings-few : (v k : ℕ) → k ≤ limit → brings v k ≤ 4000000
@@ -67,8 +52,14 @@ brings-few v k h =
     run-few : (k : ℕ) → runSize (k + 1) ≤ 3 * k + 6
     run-few k = rw (add-one k) (omega arith)
 
+-- Q text has a character for every byte
+pub q-least : (l : List ℕ) → length l ≤ length (qText l)
+unfolding qText
+q-least [] = omega arith
+q-least (b ∷ l) = omega (arith, spelled-some b, q-least l, length-append (spelled b) (qText l))
+
 -- Q text, one byte more
-q-both : (a b : List ℕ) → qText (a ++ b) ≡ qText a ++ qText b
+pub q-both : (a b : List ℕ) → qText (a ++ b) ≡ qText a ++ qText b
 unfolding qText
 q-both [] b = refl
 q-both (x ∷ a) b = ap (λ (l : List ℕ). spelled x ++ l) (q-both a b) ∙ sym (append-assoc (spelled x) (qText a) (qText b))
@@ -88,10 +79,3 @@ pub q-more-size :
     (l : List ℕ) (i : ℕ) → i < length l →
     length (qText (take (i + 1) l)) ≡ length (qText (take i l)) + length (spelled (getD l i 0))
 q-more-size l i h = ap length (q-next l i h) ∙ length-append (qText (take i l)) (spelled (getD l i 0))
-
-pub q-room :
-    (l : List ℕ) (i n : ℕ) → i < n → n ≤ length l →
-    length (qText (take i l)) + length (spelled (getD l i 0)) ≤ length (qText (take n l))
-q-room l i n h k =
-    let e : i + 1 + (n - (i + 1)) ≡ n = omega arith in
-    omega (arith, q-more-size l i (omega arith), rw e at (q-upto l (i + 1) (n - (i + 1))))

@@ -5,17 +5,18 @@ use utf7::Style;
 ghost use mathlib.Core.Path.{_≡_};
 ghost use mathlib.Core.Bool.{true, cond};
 ghost use Prim.Native.Nat.{_+_, _-_, _<_, _≤_};
+ghost use mathlib.Core.List.{map};
 ghost use lib.ListN.{length, take};
-ghost use lib.Dec.{ltb};
+ghost use lib.Dec.{ltb, eqb};
 ghost use Rattle.answer.specs.Answer.{limit};
 ghost use Rattle.answer.specs.Lists.{Each};
 ghost use Rattle.answer.specs.Output.{leaves, filled};
 ghost use Rattle.utf7.specs.Writing.{IsUnit, writing};
 ghost use Rattle.utf7.specs.declared.Style.the-variants.{Header};
 ghost use Rattle.parsing.specs.Digits.{digit};
-ghost use Rattle.encoded_word.specs.Writing.{spelled, qText, fits, parts, shareOf, lineOf, writeInto};
-ghost use Rattle.encoded_word.specs.Inner.{runSize, runAfter, brings, qSize, endOf, wordAnd};
-ghost use Rattle.encoded_word_write.specs.Inner.{Puts};
+ghost use Rattle.encoded_word.specs.Writing.{spelled, qText, parts, shareOf, lineOf, writeInto};
+ghost use Rattle.encoded_word.specs.Inner.{qSize, endOf, wordAnd};
+ghost use Rattle.encoded_word_write.specs.Inner.{Puts, aloneOf, bringing, shownAs};
 
 // n units need at most 78 n bytes: a word's 75, and CR, LF and a space.
 pub const PER_CELL: usize = 78;
@@ -27,58 +28,74 @@ struct Taken {
 }
 
 // The characters of a byte in Q text.
-fn width(u: u32) -> usize
-    ensures { λ r. ⌜ r ≡ length (spelled u) ⌝ }
+fn width(b: u8) -> usize
+    ensures { λ r. ⌜ r ≡ length (spelled b) ⌝ }
 {
-    if u == 32 {
+    if b == 32 {
         return 1;
     }
-    if 126 < u {
-        return 3;
-    }
-    if encoded_word::is_itself(u as u8) {
+    if encoded_word::is_itself(b) {
         return 1;
     }
     3
 }
 
-// The characters of a run of k units.
-fn run_size(k: usize) -> usize
-    requires { ⌜ k ≤ limit + 1 ⌝ }
-    ensures { λ r. ⌜ r ≡ runSize k ⌝ }
+// The unit is written as one character: a bit for each of the codes below 64, and of the next 64.
+fn is_plain(u: u32) -> bool
+    requires { ⌜ u < 128 ⌝ }
+    ensures { λ r. ⌜ r ≡ eqb (aloneOf u) 1 ⌝ }
 {
-    if k == 0 {
-        return 0;
+    let mut set: u64 = 0x7fff38100000000;
+    if 63 < u {
+        set = 0x7fffffe07fffffe;
     }
-    2 + (k * 16 + 5) / 6
+    (set >> (u % 64)) % 2 == 1
 }
 
-// The characters that a unit brings, behind so many units of a run.
-fn brought(u: u32, run: usize) -> usize
-    requires { ⌜ run ≤ limit ⌝ }
-    ensures { λ r. ⌜ r ≡ brings u run ⌝ }
+// The characters that a unit brings by itself: 3 for a pair, 2 for '+', 0 for one that belongs to a run.
+fn alone(u: u32) -> usize
+    ensures { λ r. ⌜ r ≡ aloneOf u ⌝ }
 {
-    if utf7::is_own(Style::Header, u) {
-        return width(u);
+    if 127 < u {
+        return 0;
+    }
+    if is_plain(u) {
+        return 1;
     }
     if u == 43 {
         return 2;
     }
-    run_size(run + 1) - run_size(run)
+    if utf7::is_own(Style::Header, u) {
+        return 3;
+    }
+    0
+}
+
+// The characters that a unit brings, behind so many units of a run. A run of k has 2 and 8 k / 3 of them, rounded up.
+fn brought(alone: usize, run: usize) -> usize
+    ensures { λ r. ⌜ r ≡ bringing alone run ⌝ }
+{
+    if alone != 0 {
+        return alone;
+    }
+    if run == 0 {
+        return 5;
+    }
+    if run % 3 == 2 {
+        return 2;
+    }
+    3
 }
 
 // The units of a run that then stand at the end.
-fn run_after(u: u32, run: usize) -> usize
+fn run_after(alone: usize, run: usize) -> usize
     requires { ⌜ run ≤ limit ⌝ }
-    ensures { λ r. ⌜ r ≡ runAfter u run ⌝ }
+    ensures { λ r. ⌜ r ≡ cond (eqb alone 0) (run + 1) 0 ⌝ }
 {
-    if utf7::is_own(Style::Header, u) {
-        return 0;
+    if alone == 0 {
+        return run + 1;
     }
-    if u == 43 {
-        return 0;
-    }
-    run + 1
+    0
 }
 
 // A high surrogate stands directly before a place, and a low one at it.
@@ -118,13 +135,14 @@ fn share(units: &[u32]) -> Taken
     let mut run: usize = 0;
     while i < units.len() {
         let u = units[i];
-        let more = size + brought(u, run);
+        let own = alone(u);
+        let more = size + brought(own, run);
         if 63 < more {
             return cut(units, i, size, before);
         }
         before = size;
         size = more;
-        run = run_after(u, run);
+        run = run_after(own, run);
         i += 1;
     }
     Taken { count: i, size }
@@ -178,39 +196,62 @@ fn figure(d: u8) -> u8
 }
 
 // A byte in Q text.
-fn put_spelled(b: u8, out: &mut [u8], at: usize) -> usize
+fn put_spelled(b: u8, out: &mut [u8], at: usize)
     requires { ⌜ at + length (spelled b) ≤ length (now out) ⌝ }
-    ensures { λ r. ⌜ (r ≡ at + length (spelled b)) × Puts (spelled b) at (now (out .entry)) (now (out .exit)) ⌝ }
+    ensures { λ _. ⌜ Puts (spelled b) at (now (out .entry)) (now (out .exit)) ⌝ }
 {
     if b == 32 {
         out[at] = b'_';
-        return at + 1;
+        return;
     }
     if encoded_word::is_itself(b) {
         out[at] = b;
-        return at + 1;
+        return;
     }
     let high = figure(b / 16);
     let low = figure(b % 16);
     out[at] = b'=';
     out[at + 1] = high;
     out[at + 2] = low;
-    at + 3
 }
 
-// The first n bytes of a text as Q text.
-fn put_text(text: &[u8], n: usize, out: &mut [u8], at: usize) -> usize
-    requires { ⌜ (n ≤ length (now text)) × (at + length (qText (take n (now text))) ≤ length (now out)) ⌝ }
-    ensures { λ r. ⌜ (r ≡ at + length (qText (take n (now (text .entry)))))
-        × Puts (qText (take n (now (text .entry)))) at (now (out .entry)) (now (out .exit)) ⌝ }
+// A space as Q text has it, any other byte as it is.
+fn shown(b: u8) -> u8
+    ensures { λ r. ⌜ r ≡ shownAs b ⌝ }
 {
-    let mut i: usize = 0;
-    let mut to = at;
-    while i < n {
-        to = put_spelled(text[i], &mut *out, to);
-        i += 1;
+    if b == 32 {
+        return b'_';
     }
-    to
+    b
+}
+
+// The first n bytes are shown where they stand. Every byte is stored, so that it compiles to vector code.
+fn show(out: &mut [u8], n: usize)
+    requires { ⌜ n ≤ length (now out) ⌝ }
+    ensures { λ _. ⌜ now (out .exit) ≡ filled (map shownAs (take n (now (out .entry)))) (now (out .entry)) ⌝ }
+{
+    let mut k: usize = 0;
+    while k < n {
+        out[k] = shown(out[k]);
+        k += 1;
+    }
+}
+
+// The first n bytes become Q text of so many characters where they stand: from the last of them back to the first that
+// is a pair, and those before it at once.
+fn spell(out: &mut [u8], n: usize, size: usize)
+    requires { ⌜ (n ≤ length (now out)) × (size ≤ length (now out)) × (size ≡ length (qText (take n (now out)))) ⌝ }
+    ensures { λ _. ⌜ now (out .exit) ≡ filled (qText (take n (now (out .entry)))) (now (out .entry)) ⌝ }
+{
+    let mut i = n;
+    let mut to = size;
+    while i < to {
+        i -= 1;
+        let b = out[i];
+        to -= width(b);
+        put_spelled(b, &mut *out, to);
+    }
+    show(out, i);
 }
 
 // The end of a word, and what stands between it and another.
@@ -237,27 +278,25 @@ fn utf7_of(units: &[u32], text: &mut [u8]) -> usize
     }
 }
 
-// A word, by a text that holds its UTF-7.
-fn put_through(units: &[u32], more: bool, text: &mut [u8], out: &mut [u8], at: usize) -> usize
-    requires { ⌜ Each IsUnit (now units) × (length (now units) ≤ limit) × (fits (now units) ≡ true)
-        × (63 ≤ length (now text)) × (at + length (wordAnd more (now units)) ≤ length (now out)) ⌝ }
-    ensures { λ r. ⌜ (r ≡ at + length (wordAnd more (now (units .entry))))
-        × Puts (wordAnd more (now (units .entry))) at (now (out .entry)) (now (out .exit)) ⌝ }
+// The Q text of units, of so many characters, goes to the front of the output.
+fn put_text(units: &[u32], size: usize, out: &mut [u8])
+    requires { ⌜ Each IsUnit (now units) × (length (now units) ≤ limit) × (size ≡ qSize (now units))
+        × (size ≤ length (now out)) ⌝ }
+    ensures { λ _. ⌜ now (out .exit) ≡ filled (qText (writing Header (now (units .entry)))) (now (out .entry)) ⌝ }
 {
-    let n = utf7_of(units, &mut *text);
-    let from = put_bytes(b"=?utf-7?Q?", &mut *out, at);
-    let to = put_text(text, n, &mut *out, from);
-    put_end(more, out, to)
+    let n = utf7_of(units, &mut *out);
+    spell(out, n, size);
 }
 
-fn put_word(units: &[u32], more: bool, out: &mut [u8], at: usize) -> usize
-    requires { ⌜ Each IsUnit (now units) × (length (now units) ≤ limit) × (fits (now units) ≡ true)
+fn put_word(units: &[u32], size: usize, more: bool, out: &mut [u8], at: usize) -> usize
+    requires { ⌜ Each IsUnit (now units) × (length (now units) ≤ limit) × (size ≡ qSize (now units))
         × (at + length (wordAnd more (now units)) ≤ length (now out)) ⌝ }
     ensures { λ r. ⌜ (r ≡ at + length (wordAnd more (now (units .entry))))
         × Puts (wordAnd more (now (units .entry))) at (now (out .entry)) (now (out .exit)) ⌝ }
 {
-    let mut text = [0u8; 63];
-    put_through(units, more, &mut text, out, at)
+    let from = put_bytes(b"=?utf-7?Q?", &mut *out, at);
+    put_text(units, size, &mut out[from..]);
+    put_end(more, out, from + size)
 }
 
 // The line of units goes to the front of the output; its length.
@@ -272,7 +311,7 @@ fn put_line(units: &[u32], out: &mut [u8]) -> usize
     while i < units.len() {
         let s = share(&units[i..]);
         let j = i + s.count;
-        at = put_word(&units[i..j], j < units.len(), &mut *out, at);
+        at = put_word(&units[i..j], s.size, j < units.len(), &mut *out, at);
         i = j;
     }
     at

@@ -88,7 +88,7 @@ put-word-requires c κs =
     let w = c .before .before .before in
     let a =
     word-asked (units w) (at-loop w .loop .i) (w .share .result .count) (at-start w .pre .0) (here w) (found w .0)
-    (at-start w .pre .1) in
+    (w .share .result .size) (found w .1) (at-start w .pre .1) in
     (a .0, a .1, a .2, word-room (units w) (at-loop w .loop .i) (w .share .result .count) (at-start w .pre .0) (here w) (found w .0) (at-loop w .loop .inv .1))
 
 loop-less : tie.Need-loop-less Inv-loop μ-loop
