@@ -7,7 +7,7 @@ use native.Mathlib.Omega.{arith}
 use native.Mathlib.Nat.{zero-add}
 use lib.ListN.{length}
 use lib.Dec.{ltb, eqb}
-use borrow.Author.Tests.{ltb-true, ltb-false, eqb-true, eqb-false, eq-eqb, ne-eqb}
+use borrow.Author.Tests.{ltb-true, ltb-false, eqb-true, eqb-false, ne-eqb}
 use Rattle.answer.proofs.Below.{allBelow, below}
 use Rattle.utf7.specs.Sets.{alphanumeric, setD, direct, own}
 use Rattle.utf7.specs.declared.Style.the-variants.{Header}

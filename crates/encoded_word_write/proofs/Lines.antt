@@ -2,7 +2,7 @@
 use Prim.Native.Nat.{ℕ, _+_, _-_, _<_, _≤_}
 use mathlib.Core.Path.{_≡_, refl, sym, ap, _∙_}
 use mathlib.Core.Bool.{Bool, cond}
-use mathlib.Core.List.{List, [], _∷_, _++_}
+use mathlib.Core.List.{List, _++_}
 use native.Mathlib.Omega.{arith}
 use lib.ListN.{length, take, drop, length-append, length-take, length-drop}
 use lib.Seq.{take-at, drop-at, drop-drop}
@@ -39,7 +39,8 @@ module _ (us out out' : List ℕ) (size n : ℕ) (s : size ≡ qSize us) (room :
     pub text-asked : (n ≤ length out') × (size ≤ length out') × (size ≡ length (qText (take n out')))
     unfolding qSize
     text-asked =
-        (omega (arith, same-length, written-room), omega (arith, same-length), s ∙ ap (λ (l : List ℕ). length (qText l)) (sym its-text))
+        let q = s ∙ ap (λ (l : List ℕ). length (qText l)) (sym its-text) in
+        (omega (arith, same-length, written-room), omega (arith, same-length), q)
 
     pub text-filled :
         {out'' : List ℕ} → out'' ≡ filled (qText (take n out')) out' → out'' ≡ filled (qText (writing Header us)) out
@@ -56,8 +57,8 @@ module _ (us out out' : List ℕ) (size n : ℕ) (s : size ≡ qSize us) (room :
         ∙ drop-drop (length q - w) w out ∙ ap (λ (m : ℕ). drop m out) (sym k))
 
 -- a word's parts, one behind another
-module _ (us : List ℕ) (more : Bool) (size at from : ℕ) (out out' : List ℕ) (e : size ≡ qSize us) (fit : at + length (wordAnd more us) ≤ length out)
-    (begun : from ≡ at + 10) (p : Puts wordStart at out out') where
+module _ (us : List ℕ) (more : Bool) (size at from : ℕ) (out out' : List ℕ) (e : size ≡ qSize us)
+    (fit : at + length (wordAnd more us) ≤ length out) (begun : from ≡ at + 10) (p : Puts wordStart at out out') where
   text-room : from + length (qText (writing Header us)) + length (endOf more) ≤ length out'
   unfolding wordAnd
   text-room = omega (arith, fit, begun, p .0, length-append (qText (writing Header us)) (endOf more))
@@ -81,10 +82,13 @@ module _ (us : List ℕ) (more : Bool) (size at from : ℕ) (out out' : List ℕ
     unfolding wordAnd qSize
     word-put end last stop r =
         let w : List ℕ = qText (writing Header us) in
-        (omega (arith, length-append w (endOf more)), puts-on wordStart (w ++ endOf more) at from out out' last p begun (puts-on w (endOf more) from (from + size) out' out'' last q (ap (λ (m : ℕ). from + m) e) r))
+        let t = puts-on w (endOf more) from (from + size) out' out'' last q (ap (λ (m : ℕ). from + m) e) r in
+        let u = puts-on wordStart (w ++ endOf more) at from out out' last p begun t in
+        (omega (arith, length-append w (endOf more)), u)
 
 -- a line's next word, where its share is found
-module _ (units : List ℕ) (i count : ℕ) (good : Each IsUnit units) (h : i < length units) (e : count ≡ shareOf (drop i units)) where
+module _ (units : List ℕ) (i count : ℕ) (good : Each IsUnit units) (h : i < length units)
+    (e : count ≡ shareOf (drop i units)) where
   abbrev word : List ℕ
   word = take (i + count - i) (drop i units)
 
@@ -99,7 +103,8 @@ module _ (units : List ℕ) (i count : ℕ) (good : Each IsUnit units) (h : i < 
       Each IsUnit word × (length word ≤ limit) × (size ≡ qSize word)
   word-asked size f few =
       let s = step-asked units i good h few in
-      (each-take IsUnit (drop i units) (i + count - i) (s .0), omega (arith, length-take (i + count - i) (drop i units), s .2), rw same-count f)
+      let k : length word ≤ limit = omega (arith, length-take (i + count - i) (drop i units), s .2) in
+      (each-take IsUnit (drop i units) (i + count - i) (s .0), k, rw same-count f)
 
   pub word-line : lineOf (drop i units) ≡ wordAnd more word ++ lineOf (drop (i + count) units)
   word-line = rw (same-count, e) (step-line units i good h)

@@ -1,9 +1,9 @@
 -- Parts put into an output one after another. Assumes nothing.
-use Prim.Native.Nat.{ℕ, suc, _+_, _-_, _/_, _%_, _^_, _≤_, _<_}
-use mathlib.Core.Path.{_≡_, refl, sym, ap, _∙_}
+use Prim.Native.Nat.{ℕ, _+_, _-_, _/_, _%_, _^_, _≤_, _<_}
+use mathlib.Core.Path.{_≡_, refl, sym, _∙_}
 use mathlib.Core.List.{List, [], _∷_, _++_, append-assoc, append-nil}
 use native.Mathlib.Omega.{arith}
-use native.Mathlib.Nat.{add-assoc, add-zero}
+use native.Mathlib.Nat.{add-zero}
 use native.Mathlib.Nat.{div-one}
 use native.Mathlib.Numerals.{add-one}
 use lib.ListN.{length, getD, take, drop, set, length-set, length-append}
@@ -63,4 +63,5 @@ pub puts-lent :
     (part : List ℕ) (at : ℕ) (out y : List ℕ) → at + length part ≤ length out →
     y ≡ filled part (take (length out - at) (drop at out)) → Puts part at out (putMid at (length out - at) out y)
 puts-lent part at out y h e =
-    (put-lent part [] (put-as (sym (append-nil part)) (put-from out part at h)) e .same, λ text first rest p. put-lent part rest p e)
+    let s = put-lent part [] (put-as (sym (append-nil part)) (put-from out part at h)) e .same in
+    (s, λ text first rest p. put-lent part rest p e)

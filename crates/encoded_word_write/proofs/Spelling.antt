@@ -1,21 +1,20 @@
 -- How many characters a byte of Q text, a run and a unit bring. Assumes nothing.
-use Prim.Native.Nat.{ℕ, zero, suc, _+_, _-_, _*_, _/_, _<_, _≤_}
+use Prim.Native.Nat.{ℕ, _+_, _-_, _*_, _<_, _≤_}
 use mathlib.Core.Path.{_≡_, refl, sym, ap, _∙_}
-use mathlib.Core.Bool.{Bool, true, false, cond, not, _&&_, false≢true}
+use mathlib.Core.Bool.{true, false, not, false≢true}
 use mathlib.Core.List.{List, [], _∷_, _++_, append-assoc, append-nil}
 use native.Mathlib.Omega.{arith}
 use native.Mathlib.Numerals.{add-one}
 use lib.ListN.{length, getD, take, drop, length-append}
 use lib.Seq.{take-suc, take-add}
-use lib.Dec.{leb, eqb}
-use borrow.Author.Tests.{eq-eqb, ne-eqb, lt-leb}
+use lib.Dec.{eqb}
+use borrow.Author.Tests.{eq-eqb, ne-eqb}
 use Rattle.answer.specs.Answer.{limit}
 use Rattle.answer.specs.Bytes.{bytes}
 use Rattle.answer.proofs.Below.{cond-case}
-use Rattle.base64.specs.Letters.{within}
-use Rattle.utf7.specs.Sets.{member, own}
+use Rattle.utf7.specs.Sets.{own}
 use Rattle.utf7.specs.declared.Style.the-variants.{Header}
-use Rattle.parsing.specs.Digits.{digit, digits}
+use Rattle.parsing.specs.Digits.{digits}
 use Rattle.encoded_word.specs.Writing.{itself, spelled, qText}
 use Rattle.encoded_word.specs.Inner.{runSize, brings}
 use Rattle.encoded_word.proofs.Greedy.{spelled-few}

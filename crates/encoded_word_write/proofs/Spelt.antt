@@ -5,8 +5,8 @@ use mathlib.Core.Bool.{Bool, true, false, cond}
 use mathlib.Core.List.{List, [], _∷_, _++_, map, append-assoc, append-nil}
 use native.Mathlib.Omega.{arith}
 use native.Mathlib.Numerals.{add-one}
-use lib.ListN.{length, getD, take, drop, length-append, length-map, length-drop, take-append-drop, drop-of-length-le}
-use lib.Seq.{sets, sets-eq, length-sets, length-take-le, take-take, take-all, take-at, drop-at, drop-drop, drop-cons, getD-take, take-append-le, drop-append-le}
+use lib.ListN.{length, getD, take, drop, length-append, length-map, take-append-drop, drop-of-length-le}
+use lib.Seq.{sets, sets-eq, length-take-le, take-take, drop-at, drop-cons, getD-take, take-append-le}
 use lib.Dec.{eqb}
 use Rattle.answer.specs.Output.{filled}
 use Rattle.answer.proofs.Put.{put-as}
@@ -14,7 +14,7 @@ use Rattle.utf7_write.proofs.Several.{put-from, put-sets}
 use Rattle.parsing.specs.Digits.{digits}
 use Rattle.encoded_word.specs.Writing.{itself, spelled, qText}
 use Rattle.encoded_word_write.specs.Inner.{Puts, shownAs}
-use Rattle.encoded_word_write.proofs.Spelling.{q-both, q-least, q-next, q-upto, q-more-size}
+use Rattle.encoded_word_write.proofs.Spelling.{q-both, q-least, q-upto, q-more-size}
 
 -- a byte spelled, where it is told whether it is a space and whether it stands for itself
 abbrev text : ℕ → Bool → Bool → List ℕ
@@ -26,10 +26,14 @@ unfolding qText spelled digits
 one-each [] h = refl
 one-each (b ∷ l) h = by (eqb b 32) (itself b) refl (one-each l)
   where
-    rest : (s t : Bool) → text b (eqb b 32) (itself b) ≡ text b s t → length (text b s t) ≡ 1 → length (qText l) ≡ length l
+    rest :
+        (s t : Bool) → text b (eqb b 32) (itself b) ≡ text b s t → length (text b s t) ≡ 1 →
+        length (qText l) ≡ length l
     rest s t e n = omega (arith, h, length-append (text b (eqb b 32) (itself b)) (qText l), ap length e)
 
-    by : (s t : Bool) → text b (eqb b 32) (itself b) ≡ text b s t → (length (qText l) ≡ length l → qText l ≡ map shownAs l) →
+    by :
+        (s t : Bool) → text b (eqb b 32) (itself b) ≡ text b s t →
+        (length (qText l) ≡ length l → qText l ≡ map shownAs l) →
         text b s t ++ qText l ≡ cond s 95 b ∷ map shownAs l
     by true t e f = ap (λ (r : List ℕ). 95 ∷ r) (f (rest true t e refl))
     by false true e f = ap (λ (r : List ℕ). b ∷ r) (f (rest false true e refl))
@@ -52,7 +56,12 @@ pub record Spelt (out₀ : List ℕ) (n : ℕ) (out : List ℕ) (i to : ℕ) : T
   pub front : take i out ≡ take i out₀
   pub back : drop to out ≡ qText (drop i (take n out₀)) ++ drop (length (qText (take n out₀))) out₀
 
-module _ (out₀ : List ℕ) (n size : ℕ) (few : n ≤ length out₀) (room : size ≤ length out₀) (e : size ≡ length (qText (take n out₀))) where
+module _ (out₀ : List ℕ) (n size : ℕ) (few : n ≤ length out₀) (room : size ≤ length out₀)
+    (e : size ≡ length (qText (take n out₀))) where
+  -- what stands behind the Q text
+  abbrev rest : List ℕ
+  rest = drop (length (qText (take n out₀))) out₀
+
   pub spelt-start : Spelt out₀ n out₀ n size
   unfolding qText
   spelt-start =
@@ -97,10 +106,10 @@ module _ (out₀ : List ℕ) (n size : ℕ) (few : n ≤ length out₀) (room : 
         q
         ∙ ap (λ (k : ℕ). map shownAs (take i out) ++ drop k out) m
         ∙ ap (λ (r : List ℕ). map shownAs (take i out) ++ r) (s .back)
-        ∙ ap (λ (r : List ℕ). map shownAs r ++ (qText (drop i (take n out₀)) ++ drop (length (qText (take n out₀))) out₀)) (s .front)
-        ∙ ap (λ (r : List ℕ). r ++ (qText (drop i (take n out₀)) ++ drop (length (qText (take n out₀))) out₀)) (sym one)
-        ∙ sym (append-assoc (qText (take i out₀)) (qText (drop i (take n out₀))) (drop (length (qText (take n out₀))) out₀))
-        ∙ ap (λ (r : List ℕ). r ++ drop (length (qText (take n out₀))) out₀) (sym w)
+        ∙ ap (λ (r : List ℕ). map shownAs r ++ (qText (drop i (take n out₀)) ++ rest)) (s .front)
+        ∙ ap (λ (r : List ℕ). r ++ (qText (drop i (take n out₀)) ++ rest)) (sym one)
+        ∙ sym (append-assoc (qText (take i out₀)) (qText (drop i (take n out₀))) rest)
+        ∙ ap (λ (r : List ℕ). r ++ rest) (sym w)
 
   -- the last of them
   module _ {out : List ℕ} {to : ℕ} (i : ℕ) (s : Spelt out₀ n out (i + 1) to) where
@@ -147,8 +156,8 @@ module _ (out₀ : List ℕ) (n size : ℕ) (few : n ≤ length out₀) (room : 
           back =
               ap (drop at) a ∙ drop-at (take at out) (spelled b ++ drop to out) at l
               ∙ ap (λ (r : List ℕ). spelled b ++ r) (s .back)
-              ∙ sym (append-assoc (spelled b) (qText (drop (i + 1) (take n out₀))) (drop (length (qText (take n out₀))) out₀))
-              ∙ ap (λ (r : List ℕ). r ++ drop (length (qText (take n out₀))) out₀) (sym last);
+              ∙ sym (append-assoc (spelled b) (qText (drop (i + 1) (take n out₀))) rest)
+              ∙ ap (λ (r : List ℕ). r ++ rest) (sym last);
         }
       where
         last : qText (drop i (take n out₀)) ≡ spelled b ++ qText (drop (i + 1) (take n out₀))

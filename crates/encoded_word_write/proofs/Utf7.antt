@@ -1,18 +1,18 @@
 -- Writing units as UTF-7 where there is room is accepted. Assumes nothing.
-use Prim.Native.Nat.{ℕ, _<_, _≤_}
-use mathlib.Core.Path.{_≡_, refl, sym, ap, _∙_}
+use Prim.Native.Nat.{ℕ, _≤_}
+use mathlib.Core.Path.{_≡_, ap, _∙_}
 use mathlib.Core.List.{List}
 use native.Mathlib.Omega.{arith}
 use lib.ListN.{length}
 use borrow.Author.Tests.{le-ltb}
-use Rattle.answer.specs.Answer.{limit, numbered, numberOf}
+use Rattle.answer.specs.Answer.{limit, numbered}
 use Rattle.answer.specs.Lists.{Each}
 use Rattle.answer.specs.Output.{Outcome, leaves, filled, deliver}
 use Rattle.answer.specs.declared.Answer.{Answer}
 use Rattle.answer.specs.declared.Answer.the-variants.{Accepted, Refused}
 use Rattle.answer.specs.declared.Refusal.{Refusal}
 use Rattle.answer.proofs.Once.{number-pos}
-use Rattle.utf7.specs.Writing.{IsUnit, writing, firstOver, writeInto}
+use Rattle.utf7.specs.Writing.{IsUnit, writing, writeInto}
 use Rattle.utf7.specs.declared.Style.the-variants.{Header}
 use Rattle.utf7.proofs.Pieces.{over-none}
 

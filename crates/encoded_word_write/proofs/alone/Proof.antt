@@ -21,7 +21,9 @@ is-own-requires : tie.Need-is-own-requires
 is-own-requires c κs = search needs
 
 returns-4 : tie.Need-returns-4
-returns-4 c = alone-pair _ (sym (c .before .is-own .ensures) ∙ c .if4 .taken) (sym (c .before .before .before .before .is-plain .ensures) ∙ c .before .before .before .if2 .left)
+returns-4 c =
+    let e = sym (c .before .before .before .before .is-plain .ensures) ∙ c .before .before .before .if2 .left in
+    alone-pair _ (sym (c .before .is-own .ensures) ∙ c .if4 .taken) e
 
 returns-5 : tie.Need-returns-5
 returns-5 c = alone-run _ (sym (c .before .is-own .ensures) ∙ c .if4 .left) (c .before .before .if3 .left)

@@ -1,6 +1,5 @@
 use Rattle.encoded_word_write.proofs.Bringing.{run-third, run-other}
 use borrow.Author.Tests.{eq-eqb, ne-eqb}
-use borrow.Author.Needs.{needs}
 use Rattle.encoded_word_write.proofs.brought.Statement.{statement}
 use Rattle.encoded_word_write.proofs.brought.Tie as tie
 

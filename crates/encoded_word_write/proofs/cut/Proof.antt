@@ -1,4 +1,4 @@
-use mathlib.Core.Path.{sym, ap, _∙_}
+use mathlib.Core.Path.{sym, _∙_}
 use borrow.Author.Needs.{needs}
 use Rattle.encoded_word_write.proofs.cut.Statement.{statement}
 use Rattle.encoded_word_write.proofs.cut.Tie as tie

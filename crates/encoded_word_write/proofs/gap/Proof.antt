@@ -1,5 +1,4 @@
-use borrow.Author.Tests.{lt-ltb, le-ltb, lt-leb, le-leb, eq-eqb, ne-eqb}
-use borrow.Author.Needs.{needs}
+use borrow.Author.Tests.{lt-ltb, le-ltb}
 use Rattle.encoded_word_write.proofs.gap.Statement.{statement}
 use Rattle.encoded_word_write.proofs.gap.Tie as tie
 

@@ -1,9 +1,8 @@
 use Rattle.encoded_word_write.proofs.Putting.{puts-none, puts-next}
 use Rattle.encoded_word_write.specs.Inner.{Puts}
 use lib.Seq.{take-all}
-use lib.ListN.{length, take, length-set}
+use lib.ListN.{length, take}
 use Prim.Native.Nat.{_-_, _≤_}
-use mathlib.Core.Path.{_≡_, refl, sym, ap, _∙_}
 use native.Mathlib.Omega.{arith}
 use borrow.Author.Needs.{needs}
 use Rattle.encoded_word_write.proofs.put_bytes.Statement.{statement}

@@ -4,7 +4,7 @@ use Rattle.answer.specs.Answer.{limit}
 use Rattle.encoded_word.specs.Inner.{qSize}
 use Rattle.encoded_word.proofs.Shares.{rest-whole, line-none, step-asked}
 use Rattle.encoded_word_write.proofs.Lines.{word-asked, word-line, word-on, word-room}
-use mathlib.Core.Path.{_≡_, refl, sym, ap, _∙_}
+use mathlib.Core.Path.{_≡_, ap, _∙_}
 use native.Mathlib.Omega.{arith}
 use lib.ListN.{length, take, drop, drop-of-length-le}
 use Rattle.answer.proofs.Put.{Put, put-start, put-as, put-end, put-done}
@@ -89,7 +89,10 @@ put-word-requires c κs =
     let a =
     word-asked (units w) (at-loop w .loop .i) (w .share .result .count) (at-start w .pre .0) (here w) (found w .0)
     (w .share .result .size) (found w .1) (at-start w .pre .1) in
-    (a .0, a .1, a .2, word-room (units w) (at-loop w .loop .i) (w .share .result .count) (at-start w .pre .0) (here w) (found w .0) (at-loop w .loop .inv .1))
+    let r =
+    word-room (units w) (at-loop w .loop .i) (w .share .result .count) (at-start w .pre .0) (here w) (found w .0)
+    (at-loop w .loop .inv .1) in
+    (a .0, a .1, a .2, r)
 
 loop-less : tie.Need-loop-less Inv-loop μ-loop
 loop-less c = let w = c .before .before .before .before .before .before in omega (arith, on w .0, on w .1, here w)
@@ -99,7 +102,10 @@ loop-again c =
     let w = c .before .before .before .before .before .before in
     let p = c .before .before .put-word .ensures in
     let l = at-loop w .loop in
-    (on w .1, rw (p .0) (p .1 .1 (lineOf (units w)) (at-start w .args .out .now) (lineOf (drop (l .i + w .share .result .count) (units w))) (put-as (word-line (units w) (at-loop w .loop .i) (w .share .result .count) (at-start w .pre .0) (here w) (found w .0)) (l .inv .1))))
+    let e = word-line (units w) (l .i) (w .share .result .count) (at-start w .pre .0) (here w) (found w .0) in
+    let rest = lineOf (drop (l .i + w .share .result .count) (units w)) in
+    let q = p .1 .1 (lineOf (units w)) (at-start w .args .out .now) rest (put-as e (l .inv .1)) in
+    (on w .1, rw (p .0) q)
 
 same-length : tie.Need-same-length Inv-loop μ-loop
 same-length c = c .before .loop .inv .1 .same

@@ -42,14 +42,20 @@ abbrev spelt : tie.After-put-text → List ℕ
 spelt c =
     let b = word c in putMid (from b) (length (begun b) - from b) (begun b) (c .put-text .last .1 .1 .0)
 
-text-put : (c : tie.After-put-text) → Puts (qText (writing Header (units (word c)))) (from (word c)) (begun (word c)) (spelt c)
-text-put c = puts-lent (qText (writing Header (units (word c)))) (from (word c)) (begun (word c)) _ (room (word c)) (c .put-text .ensures)
+text-put :
+    (c : tie.After-put-text) →
+    let b = word c in Puts (qText (writing Header (units b))) (from b) (begun b) (spelt c)
+text-put c =
+    let b = word c in
+    puts-lent (qText (writing Header (units b))) (from b) (begun b) _ (room b) (c .put-text .ensures)
 
 slice-aggregate-put-bytes : tie.Need-slice-aggregate-put-bytes
 slice-aggregate-put-bytes c = search needs
 
 put-bytes-requires : tie.Need-put-bytes-requires
-put-bytes-requires c κs = omega (arith, word-and-size (c .before .before .before .before .args .more) (c .before .before .before .before .args .units .now), c .before .before .before .before .pre .3)
+put-bytes-requires c κs =
+    let s = (c .before .before .before .before) in
+    omega (arith, word-and-size (s .args .more) (s .args .units .now), s .pre .3)
 
 sub-put-text : tie.Need-sub-put-text
 sub-put-text c = omega (arith, room (c .before .before))
@@ -63,28 +69,33 @@ part-put-text-end c = search needs
 put-text-requires : tie.Need-put-text-requires
 put-text-requires c κs =
     let b = (c .before .before .before) in
-    let s = (c .before .before .before .before .before .before .before .before) in
+    let s = start b in
     let e = c .before .before .before .put-bytes .ensures in
-    (s .pre .0, s .pre .1, s .pre .2, rest-asked (units b) (s .args .more) (s .args .size) (s .args .at) (from b) (s .args .out .now) (begun b) (s .pre .2) (s .pre .3) (e .0) (e .1))
+    let h =
+    rest-asked (units b) (s .args .more) (s .args .size) (s .args .at) (from b) (s .args .out .now) (begun b)
+    (s .pre .2) (s .pre .3) (e .0) (e .1) in
+    (s .pre .0, s .pre .1, s .pre .2, h)
 
 add-put-end : tie.Need-add-put-end
 add-put-end c =
     let b = (c .before .before .before .before .before .before .before) in
-    let s = (c .before .before .before .before .before .before .before .before .before .before .before .before) in
+    let s = start b in
     let e = c .before .before .before .before .before .before .before .put-bytes .ensures in
+    let t = (c .before .before .before) in
     let h =
     end-asked (units b) (s .args .more) (s .args .size) (s .args .at) (from b) (s .args .out .now) (begun b) (s .pre .2)
-    (s .pre .3) (e .0) (e .1) (spelt (c .before .before .before)) (text-put (c .before .before .before)) in
-    let k = text-put (c .before .before .before) .0 in
+    (s .pre .3) (e .0) (e .1) (spelt t) (text-put t) in
+    let k = text-put t .0 in
     search needs
 
 put-end-requires : tie.Need-put-end-requires
 put-end-requires c κs =
     let b = (c .before .before .before .before .before .before .before) in
-    let s = (c .before .before .before .before .before .before .before .before .before .before .before .before) in
+    let s = start b in
     let e = c .before .before .before .before .before .before .before .put-bytes .ensures in
+    let t = (c .before .before .before) in
     end-asked (units b) (s .args .more) (s .args .size) (s .args .at) (from b) (s .args .out .now) (begun b) (s .pre .2)
-    (s .pre .3) (e .0) (e .1) (spelt (c .before .before .before)) (text-put (c .before .before .before))
+    (s .pre .3) (e .0) (e .1) (spelt t) (text-put t)
 
 same-length : tie.Need-same-length
 same-length c = search needs
@@ -92,11 +103,12 @@ same-length c = search needs
 returns : tie.Need-returns
 returns c =
     let b = (c .before .before .before .before .before .before .before .before .before .before) in
-    let s = (c .before .before .before .before .before .before .before .before .before .before .before .before .before .before .before) in
+    let s = start b in
     let e = c .before .before .before .before .before .before .before .before .before .before .put-bytes .ensures in
+    let t = (c .before .before .before .before .before .before) in
     let l = c .before .before .put-end in
     word-put (units b) (s .args .more) (s .args .size) (s .args .at) (from b) (s .args .out .now) (begun b) (s .pre .2)
-    (s .pre .3) (e .0) (e .1) (spelt (c .before .before .before .before .before .before)) (text-put (c .before .before .before .before .before .before)) (l .result) (l .last .1 .0) (l .ensures .0)
+    (s .pre .3) (e .0) (e .1) (spelt t) (text-put t) (l .result) (l .last .1 .0) (l .ensures .0)
     (l .ensures .1)
 
 pub put-word-spec : {M : Type 1} → statement M

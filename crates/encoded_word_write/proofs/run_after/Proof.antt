@@ -1,7 +1,6 @@
 use native.Mathlib.Omega.{arith}
 use borrow.Author.Tests.{eq-eqb, ne-eqb}
 use Rattle.answer.specs.Answer.{limit}
-use borrow.Author.Needs.{needs}
 use Rattle.encoded_word_write.proofs.run_after.Statement.{statement}
 use Rattle.encoded_word_write.proofs.run_after.Tie as tie
 

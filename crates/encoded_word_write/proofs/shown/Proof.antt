@@ -1,5 +1,4 @@
 use borrow.Author.Tests.{eq-eqb, ne-eqb}
-use borrow.Author.Needs.{needs}
 use Rattle.encoded_word_write.proofs.shown.Statement.{statement}
 use Rattle.encoded_word_write.proofs.shown.Tie as tie
 

@@ -8,7 +8,7 @@ use Rattle.encoded_word.specs.Inner.{qSize}
 use Rattle.encoded_word.proofs.Greedy.{line-few}
 use Rattle.encoded_word.proofs.Shares.{rest-whole, line-none, step-asked}
 use Rattle.encoded_word_write.proofs.Lines.{word-on, word-bytes}
-use mathlib.Core.Path.{_≡_, refl, sym, ap, _∙_}
+use mathlib.Core.Path.{_≡_, ap, _∙_}
 use native.Mathlib.Omega.{arith}
 use lib.ListN.{length, take, drop, drop-of-length-le}
 use Rattle.encoded_word.specs.Writing.{shareOf, lineOf}

@@ -43,7 +43,9 @@ sub-i : tie.Need-sub-i Inv-loop μ-loop
 sub-i c = some (c)
 
 slice-read-b : tie.Need-slice-read-b Inv-loop μ-loop
-slice-read-b c = omega (arith, some (c .before), c .before .before .loop .inv .same, c .before .before .loop .inv .upto, c .before .before .before .before .pre .0)
+slice-read-b c =
+    let l = c .before .before .loop in
+    omega (arith, some (c .before), l .inv .same, l .inv .upto, c .before .before .before .before .pre .0)
 
 width-requires : tie.Need-width-requires Inv-loop μ-loop
 width-requires c κs = search needs
@@ -52,7 +54,9 @@ sub-to : tie.Need-sub-to Inv-loop μ-loop
 sub-to c = omega (arith, c .width .ensures, room (c .before .before) .0)
 
 put-spelled-requires : tie.Need-put-spelled-requires Inv-loop μ-loop
-put-spelled-requires c κs = omega (arith, c .before .width .ensures, room (c .before .before .before) .0, room (c .before .before .before) .1)
+put-spelled-requires c κs =
+    let t = (c .before .before .before) in
+    omega (arith, c .before .width .ensures, room t .0, room t .1)
 
 loop-less : tie.Need-loop-less Inv-loop μ-loop
 loop-less c = omega (arith, some (c .before .before .before .before .before .before))
@@ -60,18 +64,25 @@ loop-less c = omega (arith, some (c .before .before .before .before .before .bef
 loop-again : tie.Need-loop-again Inv-loop μ-loop
 loop-again c =
     let p = c .before .before .before .before .before .before .before .before .before .pre in
+    let t = (c .before .before .before .before .before .before) in
     let e = c .before .before .before .before .width .ensures in
-    rw e
-    (spelt-next _ _ _ (p .0) (p .1) (p .2) (c .before .before .before .before .before .before .before .loop .i - 1) (at-last (c .before .before .before .before .before .before)) _ (rw e at (c .before .before .put-spelled .ensures)))
+    let q = rw e at (c .before .before .put-spelled .ensures) in
+    rw e (spelt-next _ _ _ (p .0) (p .1) (p .2) (t .before .loop .i - 1) (at-last t) _ q)
 
 show-requires : tie.Need-show-requires Inv-loop μ-loop
-show-requires c κs = omega (arith, c .before .before .loop .inv .upto, c .before .before .loop .inv .same, c .before .before .before .before .pre .0)
+show-requires c κs =
+    let l = c .before .before .loop in
+    omega (arith, l .inv .upto, l .inv .same, c .before .before .before .before .pre .0)
 
 same-length : tie.Need-same-length Inv-loop μ-loop
 same-length c = search needs
 
 returns : tie.Need-returns Inv-loop μ-loop
-returns c = let p = c .before .before .before .before .before .before .before .pre in spelt-done _ _ _ (p .0) (p .1) (p .2) (c .before .before .before .before .before .loop .inv) (c .before .before .before .before .loop-test .left) (c .before .before .show .ensures)
+returns c =
+    let p = c .before .before .before .before .before .before .before .pre in
+    let l = c .before .before .before .before .before .loop in
+    let e = c .before .before .show .ensures in
+    spelt-done _ _ _ (p .0) (p .1) (p .2) (l .inv) (c .before .before .before .before .loop-test .left) e
 
 pub spell-spec : {M : Type 1} → statement M
 spell-spec =

@@ -1,5 +1,4 @@
 use Rattle.encoded_word_write.proofs.Utf7.{as-accepted, not-refused}
-use mathlib.Core.Path.{sym, ap, _∙_}
 use borrow.Author.Needs.{needs}
 use Rattle.encoded_word_write.proofs.utf7_of.Statement.{statement}
 use Rattle.encoded_word_write.proofs.utf7_of.Tie as tie

@@ -14,7 +14,9 @@ returns-2 : tie.Need-returns-2
 returns-2 c = rw (spelled-itself _ (sym (c .before .is-itself .ensures) ∙ c .if2 .taken))
 
 returns-3 : tie.Need-returns-3
-returns-3 c = rw (spelled-pair _ (c .before .before .if1 .left) (sym (c .before .is-itself .ensures) ∙ c .if2 .left), pair-three _)
+returns-3 c =
+    let e = spelled-pair _ (c .before .before .if1 .left) (sym (c .before .is-itself .ensures) ∙ c .if2 .left) in
+    rw (e, pair-three _)
 
 pub width-spec : {M : Type 1} → statement M
 width-spec =
