@@ -186,7 +186,9 @@ fn first_token(rest: &[u8], open: Open) -> (Token<'_>, usize) {
 
 /// The escape with these bytes and then what is left of a text, and how many bytes it takes from there.
 fn escape<'a>(begun: &[u8], rest: &[u8]) -> (Token<'a>, usize) {
-    let all = [begun, rest].concat();
+    // No escape is longer than this, so what is behind it need not be looked at, or copied.
+    let longest = SETS.iter().map(|set| set.designation.len()).max().unwrap_or(0).max(SHIFT.len());
+    let all = [begun, &rest[..rest.len().min(longest)]].concat();
     // One that is complete before the next byte, as only a cursor made by hand has it, is none.
     let longer = |escape: &[u8]| escape.len() > begun.len();
     if longer(SHIFT) && all.starts_with(SHIFT) {
