@@ -42,7 +42,7 @@ not-member true y z e = absurd (false≢true e)
 not-member false true z e = absurd (false≢true e)
 not-member false false true e = absurd (false≢true e)
 
-itself-apart : (b : ℕ) → itself b ≡ true → (eqb b 61 ≡ false) × (eqb b 63 ≡ false) × (eqb b 95 ≡ false)
+pub itself-apart : (b : ℕ) → itself b ≡ true → (eqb b 61 ≡ false) × (eqb b 63 ≡ false) × (eqb b 95 ≡ false)
 unfolding itself
 itself-apart b t =
     not-member (eqb b 61) (eqb b 63) (eqb b 95) (both (within 33 126 b) (not (member (bytes "=?_") b)) t .1)
@@ -118,19 +118,19 @@ q-walk {end = end} (goes {st = st} {st' = st'} {b = b} {bs = bs} {cs = cs} e w) 
     (λ from c f q. goes (q ∙ ap (fed (n + length (spelled b)) f) e) stay) (q-walk w (n + length (spelled b)))
 
 -- the bytes of `=?utf-7?Q?`, of `?=`, of CR LF SP
-start-walk : Walk subject start wordStart [] (text 0 outside)
+pub start-walk : Walk subject start wordStart [] (text 0 outside)
 unfolding partDoes
 start-walk =
     goes refl (goes refl
     (goes refl (goes refl (goes refl (goes refl (goes refl (goes refl (goes refl (goes refl stay)))))))))
 
-head-walk : Walk subject (head wordStart) wordStart [] (text 0 outside)
+pub head-walk : Walk subject (head wordStart) wordStart [] (text 0 outside)
 unfolding partDoes
 head-walk =
     goes refl (goes refl
     (goes refl (goes refl (goes refl (goes refl (goes refl (goes refl (goes refl (goes refl stay)))))))))
 
-joint-walk : Walk subject behind joint [] (head wordStart)
+pub joint-walk : Walk subject behind joint [] (head wordStart)
 unfolding partDoes
 joint-walk = goes refl (goes refl (goes refl stay))
 

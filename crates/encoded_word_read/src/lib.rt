@@ -1,19 +1,26 @@
-// Reading subject lines: a byte at a time, by the reader of UTF-7.
+// Reading subject lines: good words whole, and what else stands there a byte at a time, by the readers of UTF-7.
 use answer::Answer;
 use answer::Refusal;
 use utf7_read::Move;
 use utf7_read::State;
+use scan::Found;
 ghost use mathlib.Core.Path.{_≡_};
-ghost use Prim.Native.Nat.{_-_, _<_, _≤_};
-ghost use lib.ListN.{length, getD};
+ghost use mathlib.Core.Bool.{true};
+ghost use mathlib.Core.List.{[], _++_};
+ghost use Prim.Native.Nat.{_+_, _-_, _<_, _≤_};
+ghost use lib.ListN.{length, getD, take, drop};
 ghost use Rattle.answer.specs.Answer.{inNumbers};
 ghost use Rattle.answer.specs.Output.{leaves, filled};
 ghost use Rattle.reading.specs.Reading.{bad, closing, verdictOf, reading, readInto};
-ghost use Rattle.utf7.specs.Rule.{utf7};
+ghost use Rattle.reading.specs.Inner.{Left, Filling};
+ghost use Rattle.utf7.specs.Rule.{outside, utf7};
 ghost use Rattle.utf7.specs.Rule.{endsIn as utf7EndsIn};
 ghost use Rattle.utf7_read.specs.Cursor.{shiftOf};
 ghost use Rattle.utf7_read.specs.Cursor.{doesOf as moveDoes};
 ghost use Rattle.encoded_word.specs.Rule.{head, fed, atEquals, ended, dueDoes, textDoes, partDoes, endsIn, subject};
+ghost use Rattle.encoded_word.specs.Rule.{text as inText};
+ghost use Rattle.encoded_word.specs.Writing.{wordEnd};
+ghost use Rattle.encoded_word_read.specs.Words.{SpellsAt, Unspells, partAt, Strides, ReadsBy, Strode};
 ghost use Rattle.encoded_word_read.specs.Line.{dueFrom, due, partOf, doesOf};
 ghost use Rattle.encoded_word_read.specs.declared.Part.the-variants.{Half};
 
@@ -193,13 +200,214 @@ fn equals_before(at: usize) -> usize
     at - 3
 }
 
-// The answer of reading a line with room enough.
-fn count(line: &[u8]) -> Answer
-    ensures { λ r. ⌜ inNumbers r ≡ verdictOf (reading subject (now (line .entry))) ⌝ }
+// The byte that a character or a pair spells, and its length; none has the length 0.
+struct Character {
+    byte: u8,
+    size: usize,
+}
+
+// How many bytes or cells were found, and the place behind what they were read from.
+struct Reached {
+    count: usize,
+    end: usize,
+}
+
+// The pair at a place where an `=` stands.
+fn pair_at(line: &[u8], at: usize) -> Character
+    requires { ⌜ (at < length (now line)) × (getD (now line) at 0 ≡ 61) ⌝ }
+    ensures { λ r. ⌜ (0 < r .size → SpellsAt (now (line .entry)) at (r .size) (r .byte)) ⌝ }
+{
+    if line.len() - at < 3 {
+        return Character { byte: 0, size: 0 };
+    }
+    let d = scan::digit_value(line[at + 1]);
+    let e = scan::digit_value(line[at + 2]);
+    if 15 < d {
+        return Character { byte: 0, size: 0 };
+    }
+    if 15 < e {
+        return Character { byte: 0, size: 0 };
+    }
+    Character {
+        byte: d * 16 + e,
+        size: 3,
+    }
+}
+
+// What stands at a place of a word's text.
+fn char_at(line: &[u8], at: usize) -> Character
+    requires { ⌜ at < length (now line) ⌝ }
+    ensures { λ r. ⌜ (0 < r .size → SpellsAt (now (line .entry)) at (r .size) (r .byte)) ⌝ }
+{
+    let b = line[at];
+    if encoded_word::is_itself(b) {
+        return Character { byte: b, size: 1 };
+    }
+    if b == b'_' {
+        return Character { byte: 32, size: 1 };
+    }
+    if b == b'=' {
+        return pair_at(line, at);
+    }
+    Character { byte: 0, size: 0 }
+}
+
+// The bytes that a word's text spells go to the front of a buffer: as many as stand there, of at most 63 characters.
+fn unspell(line: &[u8], from: usize, bytes: &mut [u8]) -> Reached
+    requires { ⌜ (from ≤ length (now line)) × (63 ≤ length (now bytes)) ⌝ }
+    ensures { λ r. ⌜ Unspells (now (line .entry)) from (r .end) (now (bytes .exit)) (r .count) ⌝ }
+{
+    let mut at = from;
+    let mut n: usize = 0;
+    while at < line.len() {
+        let c = char_at(line, at);
+        let size = c.size;
+        if size == 0 {
+            return Reached { count: n, end: at };
+        }
+        if 63 < at - from + size {
+            return Reached { count: n, end: at };
+        }
+        bytes[n] = c.byte;
+        n += 1;
+        at += size;
+    }
+    Reached { count: n, end: at }
+}
+
+// The bytes before a word's text stand at a place: behind the first word, CR, LF and a space before `=?utf-7?Q?`.
+fn lead(line: &[u8], at: usize) -> Found
+    requires { ⌜ at ≤ length (now line) ⌝ }
+    ensures { λ r. ⌜ (r .ok ≡ true → Strides (now (line .entry)) at (partAt at) (r .at) (inText 0 outside) []) ⌝ }
+{
+    if at == 0 {
+        return scan::word(line, at, b"=?utf-7?Q?");
+    }
+    scan::word(line, at, b"\r\n =?utf-7?Q?")
+}
+
+// The end of a word stands at a place.
+fn is_end(line: &[u8], at: usize) -> bool
+    requires { ⌜ at ≤ length (now line) ⌝ }
+    ensures { λ r. ⌜ (r ≡ true → drop at (now (line .entry)) ≡ wordEnd ++ drop (at + 2) (now (line .entry))) ⌝ }
+{
+    if line.len() - at < 2 {
+        return false;
+    }
+    (line[at] == b'?') & (line[at + 1] == b'=')
+}
+
+// The bytes of the word at a place go to the front of a buffer; where none is found, the place behind it is its own.
+fn word_at(line: &[u8], at: usize, bytes: &mut [u8]) -> Reached
+    requires { ⌜ (at ≤ length (now line)) × (63 ≤ length (now bytes)) ⌝ }
+    ensures { λ r. ⌜ (r .count ≤ length (now (bytes .exit)))
+        × (at < r .end → ReadsBy (now (line .entry)) at (r .end) (take (r .count) (now (bytes .exit)))) ⌝ }
+{
+    let found = lead(line, at);
+    if !found.ok {
+        return Reached { count: 0, end: at };
+    }
+    let u = unspell(line, found.at, bytes);
+    let count = u.count;
+    let end = u.end;
+    if count == 0 {
+        return Reached { count: 0, end: at };
+    }
+    if is_end(line, end) {
+        return Reached { count, end: end + 2 };
+    }
+    Reached { count: 0, end: at }
+}
+
+// The cells of the word at a place go to the front of an output, where the word is good and there is room for them.
+fn word_cells(line: &[u8], at: usize, bytes: &mut [u8], out: &mut [u32]) -> Reached
+    requires { ⌜ (at ≤ length (now line)) × (63 ≤ length (now bytes)) ⌝ }
+    ensures { λ r. ⌜ Strode (now (line .entry)) at (now (out .entry)) (now (out .exit)) (r .count) (r .end) ⌝ }
+{
+    let w = word_at(line, at, &mut *bytes);
+    let count = w.count;
+    let end = w.end;
+    if end <= at {
+        return Reached { count: 0, end: at };
+    }
+    match utf7_whole::read(&bytes[..count], out) {
+        Answer::Accepted(n) => Reached { count: n, end },
+        Answer::Refused(_, _) => Reached { count: 0, end: at },
+    }
+}
+
+// The good words that a line begins with are counted, by way of buffers for the bytes and cells of one.
+fn count_through(line: &[u8], bytes: &mut [u8], cells: &mut [u32]) -> Reached
+    requires { ⌜ 63 ≤ length (now bytes) ⌝ }
+    ensures { λ r. ⌜ Left subject (now (line .entry)) (r .end) (partAt (r .end)) (r .count) ⌝ }
 {
     let mut at: usize = 0;
     let mut n: usize = 0;
-    let mut p = Part::Start;
+    while at < line.len() {
+        let w = word_cells(line, at, &mut *bytes, &mut *cells);
+        let end = w.end;
+        if end <= at {
+            return Reached { count: n, end: at };
+        }
+        n += w.count;
+        at = end;
+    }
+    Reached { count: n, end: at }
+}
+
+fn count_words(line: &[u8]) -> Reached
+    ensures { λ r. ⌜ Left subject (now (line .entry)) (r .end) (partAt (r .end)) (r .count) ⌝ }
+{
+    let mut bytes = [0u8; 63];
+    let mut cells = [0u32; 63];
+    count_through(line, &mut bytes, &mut cells)
+}
+
+// The same, and their cells go to the front of the output.
+fn fill_through(line: &[u8], bytes: &mut [u8], out: &mut [u32]) -> Reached
+    requires { ⌜ (63 ≤ length (now bytes)) × (length (reading subject (now line) .cells) ≤ length (now out)) ⌝ }
+    ensures { λ r. ⌜ Filling subject (now (line .entry)) (r .end) (partAt (r .end)) (r .count) (now (out .entry)) (now (out .exit)) ⌝ }
+{
+    let mut at: usize = 0;
+    let mut n: usize = 0;
+    while at < line.len() {
+        let w = word_cells(line, at, &mut *bytes, &mut out[n..]);
+        let end = w.end;
+        if end <= at {
+            return Reached { count: n, end: at };
+        }
+        n += w.count;
+        at = end;
+    }
+    Reached { count: n, end: at }
+}
+
+fn fill_words(line: &[u8], out: &mut [u32]) -> Reached
+    requires { ⌜ length (reading subject (now line) .cells) ≤ length (now out) ⌝ }
+    ensures { λ r. ⌜ Filling subject (now (line .entry)) (r .end) (partAt (r .end)) (r .count) (now (out .entry)) (now (out .exit)) ⌝ }
+{
+    let mut bytes = [0u8; 63];
+    fill_through(line, &mut bytes, out)
+}
+
+// Where a byte stands behind good words, or before any.
+fn part_at(at: usize) -> Part
+    ensures { λ r. ⌜ partOf r ≡ partAt at ⌝ }
+{
+    if at == 0 {
+        return Part::Start;
+    }
+    Part::Behind
+}
+
+// The answer of reading a line with room enough: good words whole, and what else stands there a byte at a time.
+fn count(line: &[u8]) -> Answer
+    ensures { λ r. ⌜ inNumbers r ≡ verdictOf (reading subject (now (line .entry))) ⌝ }
+{
+    let w = count_words(line);
+    let mut at: usize = w.end;
+    let mut n: usize = w.count;
+    let mut p = part_at(at);
     while at < line.len() {
         match feed(p, line[at]) {
             Turn::Give(_, next) => {
@@ -227,9 +435,10 @@ fn fill(line: &[u8], out: &mut [u32])
     requires { ⌜ length (reading subject (now line) .cells) ≤ length (now out) ⌝ }
     ensures { λ _. ⌜ now (out .exit) ≡ filled (reading subject (now (line .entry)) .cells) (now (out .entry)) ⌝ }
 {
-    let mut at: usize = 0;
-    let mut n: usize = 0;
-    let mut p = Part::Start;
+    let w = fill_words(line, &mut *out);
+    let mut at: usize = w.end;
+    let mut n: usize = w.count;
+    let mut p = part_at(at);
     while at < line.len() {
         match feed(p, line[at]) {
             Turn::Give(value, next) => {

@@ -2,7 +2,7 @@ use Prim.Native.Nat.{_-_}
 use mathlib.Core.Path.{_∙_}
 use lib.ListN.{length}
 use borrow.Author.Needs.{needs}
-use Rattle.reading.proofs.Laws.{Left, left-start, left-give, left-go, left-bad, left-end}
+use Rattle.reading.proofs.Laws.{Left, left-give, left-go, left-bad, left-end}
 use Rattle.encoded_word.specs.Rule.{subject}
 use Rattle.encoded_word.proofs.Kept.{left-faulty}
 use Rattle.encoded_word_read.specs.Line.{partOf}
@@ -16,8 +16,14 @@ Inv-loop line at₀ n₀ p₀ at n p = Left subject line at (partOf p) n
 abbrev μ-loop : tie.MeasureT-loop
 μ-loop line at₀ n₀ p₀ at n p = length line - at
 
+count-words-requires : tie.Need-count-words-requires Inv-loop μ-loop
+count-words-requires c κs = search needs
+
+part-at-requires : tie.Need-part-at-requires Inv-loop μ-loop
+part-at-requires c κs = search needs
+
 loop-holds : tie.Need-loop-holds Inv-loop μ-loop
-loop-holds c = left-start subject _
+loop-holds c = rw (c .part-at .ensures) (c .before .count-words .ensures)
 
 shared-slice-read-feed : tie.Need-shared-slice-read-feed Inv-loop μ-loop
 shared-slice-read-feed c = search needs
@@ -98,6 +104,8 @@ count-spec =
     (tie.spec
     Inv-loop
     μ-loop
+    count-words-requires
+    part-at-requires
     loop-holds
     shared-slice-read-feed
     feed-requires

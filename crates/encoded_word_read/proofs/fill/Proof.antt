@@ -2,12 +2,14 @@ use Prim.Native.Nat.{_-_, _<_}
 use native.Mathlib.Omega.{arith}
 use lib.ListN.{length}
 use borrow.Author.Needs.{needs}
-use Rattle.reading.proofs.Filling.{Filling, filling-start, filling-index, filling-give, filling-go, filling-bad}
+use Rattle.reading.proofs.Filling.{Filling, filling-index, filling-give, filling-go, filling-bad}
 use Rattle.reading.proofs.Filling.{filling-end}
 use Rattle.encoded_word.specs.Rule.{subject}
 use Rattle.encoded_word.proofs.Kept.{filling-faulty}
 use Rattle.encoded_word_read.specs.Line.{partOf}
 use Rattle.encoded_word_read.proofs.Texts.{turned}
+use Rattle.encoded_word_read.proofs.Words.{filling-anew, filled-anew}
+use mathlib.Core.Path.{_∙_}
 use Rattle.encoded_word_read.proofs.fill.Statement.{statement}
 use Rattle.encoded_word_read.proofs.fill.Tie as tie
 
@@ -17,8 +19,14 @@ Inv-loop line out₀ at₀ n₀ p₀ out at n p = Filling subject line at (partO
 abbrev μ-loop : tie.MeasureT-loop
 μ-loop line out₀ at₀ n₀ p₀ out at n p = length line - at
 
+fill-words-requires : tie.Need-fill-words-requires Inv-loop μ-loop
+fill-words-requires c κs = c .before .before .before .pre
+
+part-at-requires : tie.Need-part-at-requires Inv-loop μ-loop
+part-at-requires c κs = search needs
+
 loop-holds : tie.Need-loop-holds Inv-loop μ-loop
-loop-holds c = filling-start subject _ _ (c .before .before .pre)
+loop-holds c = rw (c .part-at .ensures) (filling-anew (c .before .before .before .fill-words .ensures))
 
 shared-slice-read-feed : tie.Need-shared-slice-read-feed Inv-loop μ-loop
 shared-slice-read-feed c = search needs
@@ -87,6 +95,7 @@ returns c =
     let f = c .before .before in
     let i = f .before .before in
     filling-bad (i .before .loop .inv) (i .loop-test .taken) (turned (f .feed .ensures) (c .enum-told .given .1))
+    ∙ filled-anew (i .before .before .before .before .before .fill-words .ensures)
 
 enum-told-2 : tie.Need-enum-told-2 Inv-loop μ-loop
 enum-told-2 c = search needs
@@ -100,12 +109,15 @@ returns-2 c =
     let i = f .before .before in
     let m = turned (f .feed .ensures) (c .enum-told2 .given .1) in
     filling-faulty (filling-go (i .before .loop .inv) (i .loop-test .taken) m)
+    ∙ filled-anew (i .before .before .before .before .before .fill-words .ensures)
 
 same-length-3 : tie.Need-same-length-3 Inv-loop μ-loop
 same-length-3 c = search needs
 
 returns-3 : tie.Need-returns-3 Inv-loop μ-loop
-returns-3 c = filling-end (c .before .loop .inv) (c .loop-test .left)
+returns-3 c =
+    filling-end (c .before .loop .inv) (c .loop-test .left)
+    ∙ filled-anew (c .before .before .before .before .before .fill-words .ensures)
 
 pub fill-spec : {M : Type 1} → statement M
 fill-spec =
@@ -113,6 +125,8 @@ fill-spec =
     (tie.spec
     Inv-loop
     μ-loop
+    fill-words-requires
+    part-at-requires
     loop-holds
     shared-slice-read-feed
     feed-requires

@@ -1,0 +1,37 @@
+use Rattle.encoded_word_read.proofs.Words.{lead-first, lead-next}
+use borrow.Author.Needs.{needs}
+use Rattle.encoded_word_read.proofs.lead.Statement.{statement}
+use Rattle.encoded_word_read.proofs.lead.Tie as tie
+
+slice-aggregate-word : tie.Need-slice-aggregate-word
+slice-aggregate-word c = search needs
+
+word-requires : tie.Need-word-requires
+word-requires c κs = search needs
+
+returns : tie.Need-returns
+returns c =
+    let s = (c .before .before .before .before) in
+    λ ok. lead-first (s .args .line .now) (s .args .at) (s .pre) (c .word .result) ok (c .before .before .if1 .taken) (c .word .ensures)
+
+slice-aggregate-word-2 : tie.Need-slice-aggregate-word-2
+slice-aggregate-word-2 c = search needs
+
+word-requires-2 : tie.Need-word-requires-2
+word-requires-2 c κs = search needs
+
+returns-2 : tie.Need-returns-2
+returns-2 c =
+    let s = (c .before .before .before .before) in
+    λ ok. lead-next (s .args .line .now) (s .args .at) (s .pre) (c .word2 .result) ok (c .before .before .if1 .left) (c .word2 .ensures)
+
+pub lead-spec : {M : Type 1} → statement M
+lead-spec =
+    tie.close
+    (tie.spec
+    slice-aggregate-word
+    word-requires
+    returns
+    slice-aggregate-word-2
+    word-requires-2
+    returns-2)
