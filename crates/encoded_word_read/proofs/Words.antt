@@ -1,5 +1,5 @@
 -- Good words of a line, read whole: strides of the line's rule. Assumes nothing.
-use Prim.Native.Nat.{ℕ, zero, suc, _+_, _-_, _*_, _<_, _≤_}
+use Prim.Native.Nat.{ℕ, suc, _+_, _-_, _*_, _<_, _≤_}
 use mathlib.Core.Path.{_≡_, refl, sym, ap, _∙_}
 use mathlib.Core.Bool.{Bool, true, false, cond, not, _&&_, false≢true}
 use mathlib.Core.List.{List, [], _∷_, _++_, append-assoc, append-nil}
@@ -32,9 +32,11 @@ use Rattle.parsing.specs.Digits.{valueOf}
 use Rattle.scan.specs.Found.{passedIn}
 use Rattle.scan.specs.declared.Found.{Found}
 use Rattle.encoded_word.specs.Writing.{itself, wordStart, wordEnd, joint}
-use Rattle.encoded_word.specs.Rule.{Part, start, text, equals, half, tail, behind, most, fed, atEquals, textDoes, partDoes, subject}
+use Rattle.encoded_word.specs.Rule.{Part, start, text, equals, half, tail, behind, most, fed, atEquals}
+use Rattle.encoded_word.specs.Rule.{textDoes, partDoes, subject}
 use Rattle.encoded_word.proofs.Round.{itself-apart, start-walk, head-walk, joint-walk}
-use Rattle.encoded_word_read.specs.Words.{Spells, none, space, self, pair, SpellsAt, Unspells, partAt, Strides, ReadsBy, Read}
+use Rattle.encoded_word_read.specs.Words.{Spells, none, space, self, pair, SpellsAt, Unspells, partAt}
+use Rattle.encoded_word_read.specs.Words.{Strides, ReadsBy, Read}
 
 -- spellings one after another
 spells-on : {q q' bs bs' : List ℕ} → Spells q bs → Spells q' bs' → Spells (q ++ q') (bs ++ bs')
@@ -66,11 +68,12 @@ spells-walk none stay n h = rw add-zero stay
 spells-walk (space {q = q} s) w n h =
     let i : n + suc (length q) ≡ n + 1 + length q = omega arith in
     rw i (one-byte bad w (rw (le-leb (n + 1) 63 (omega arith))) (λ st' cs' v. spells-walk s v (n + 1) (omega arith)))
-spells-walk (self {b = b} {q = q} t s) w n h =
+spells-walk {st = st} (self {b = b} {q = q} t s) w n h =
     let i : n + suc (length q) ≡ n + 1 + length q = omega arith in
     let a = itself-apart b t in
-    rw i
-    (one-byte bad w (rw (a .1, a .0, le-leb (n + 1) 63 (omega arith), a .2, t)) (λ st' cs' v. spells-walk s v (n + 1) (omega arith)))
+    let one : partDoes utf7 (text n st) b ≡ fed (n + 1) bad (utf7 .byte st b) =
+    rw (a .1, a .0, le-leb (n + 1) 63 (omega arith), a .2, t) in
+    rw i (one-byte bad w one (λ st' cs' v. spells-walk s v (n + 1) (omega arith)))
 spells-walk {st = st} (pair {d = d} {e = e} {q = q} hd he s) w n h =
     let i : n + suc (suc (suc (length q))) ≡ n + 3 + length q = omega arith in
     let one : partDoes utf7 (text n st) 61 ≡ go (equals (n + 3) st) = rw (le-leb (n + 3) 63 (omega arith)) in
@@ -102,7 +105,8 @@ text-walk :
     Walk subject (text 0 outside) (q ++ wordEnd) (reading utf7 bs .cells) behind
 text-walk {q} {bs} s some few e =
     let r = accepted-walk utf7 bs e in
-    let t = tail-walk (0 + length q) (r .end) (omega (arith, spells-some s some)) (ends-any (r .end) (length bs) (r .last)) in
+    let z = ends-any (r .end) (length bs) (r .last) in
+    let t = tail-walk (0 + length q) (r .end) (omega (arith, spells-some s some)) z in
     rw append-nil at (walk-on (spells-walk s (r .walk) 0 (omega (arith, few))) t)
 
 -- strides, as the contracts say them
@@ -217,7 +221,9 @@ module _ (line buffer : List ℕ) (from : ℕ) where
         few = omega (arith, u .after);
         count = omega (arith, u .count, u .after);
         room = simp length-set (u .room);
-        so = rw (k, take-add (at - from) size (drop from line), d, add-one n, take-suc-set buffer n b c) (spells-on (u .so) (s .so));
+        so =
+            rw (k, take-add (at - from) size (drop from line), d, add-one n, take-suc-set buffer n b c)
+            (spells-on (u .so) (s .so));
       }
 
 -- a word
@@ -281,7 +287,8 @@ module _ (bs out o : List ℕ) (a : Answer) (q : leaves a o ≡ readInto utf7 bs
   pub untouched : {why : Refusal} {place : ℕ} → a ≡ Refused why place → o ≡ out
   unfolding readInto
   untouched {why} {place} e =
-      left-by (ltb limit (length bs)) (ltb (length out) (length its)) (reading utf7 bs .ending) why place refl (rw e at q)
+      left-by (ltb limit (length bs)) (ltb (length out) (length its)) (reading utf7 bs .ending) why place refl
+      (rw e at q)
 
 -- a word's end
 pub end-at :
@@ -326,7 +333,8 @@ module _ {line : List ℕ} {at n : ℕ} where
     filling-same e = rw (e, put-same n (length out - n) out) f
 
 -- an output that is filled in part, taken for the one that the rest is filled into
-module _ {line : List ℕ} {at n : ℕ} {st : Part Shift} {out₀ out : List ℕ} (f : Filling subject line at st n out₀ out) where
+module _ {line : List ℕ} {at n : ℕ} {st : Part Shift} {out₀ out : List ℕ}
+    (f : Filling subject line at st n out₀ out) where
   behind-same : drop n out ≡ drop n out₀
   behind-same =
       let t = reading subject line .cells in
@@ -352,4 +360,5 @@ module _ {line : List ℕ} {at n : ℕ} {st : Part Shift} {out₀ out : List ℕ
       let t = reading subject line .cells in
       let k : n + (length t - n) ≡ length t = omega (arith, f .put .upto) in
       ap (λ (r : List ℕ). t ++ r)
-      (ap (λ (m : ℕ). drop m out) (sym k) ∙ sym (drop-drop (length t - n) n out) ∙ ap (drop (length t - n)) behind-same ∙ drop-drop (length t - n) n out₀ ∙ ap (λ (m : ℕ). drop m out₀) k)
+      (ap (λ (m : ℕ). drop m out) (sym k) ∙ sym (drop-drop (length t - n) n out)
+      ∙ ap (drop (length t - n)) behind-same ∙ drop-drop (length t - n) n out₀ ∙ ap (λ (m : ℕ). drop m out₀) k)

@@ -1,9 +1,9 @@
 // Reading subject lines: good words whole, and what else stands there a byte at a time, by the readers of UTF-7.
 use answer::Answer;
 use answer::Refusal;
+use scan::Found;
 use utf7_read::Move;
 use utf7_read::State;
-use scan::Found;
 ghost use mathlib.Core.Path.{_≡_};
 ghost use mathlib.Core.Bool.{true};
 ghost use mathlib.Core.List.{[], _++_};
@@ -314,7 +314,10 @@ fn word_at(line: &[u8], at: usize, bytes: &mut [u8]) -> Reached
         return Reached { count: 0, end: at };
     }
     if is_end(line, end) {
-        return Reached { count, end: end + 2 };
+        return Reached {
+            count,
+            end: end + 2,
+        };
     }
     Reached { count: 0, end: at }
 }
@@ -366,7 +369,8 @@ fn count_words(line: &[u8]) -> Reached
 // The same, and their cells go to the front of the output.
 fn fill_through(line: &[u8], bytes: &mut [u8], out: &mut [u32]) -> Reached
     requires { ⌜ (63 ≤ length (now bytes)) × (length (reading subject (now line) .cells) ≤ length (now out)) ⌝ }
-    ensures { λ r. ⌜ Filling subject (now (line .entry)) (r .end) (partAt (r .end)) (r .count) (now (out .entry)) (now (out .exit)) ⌝ }
+    ensures { λ r. ⌜ Filling subject (now (line .entry)) (r .end) (partAt (r .end)) (r .count)
+        (now (out .entry)) (now (out .exit)) ⌝ }
 {
     let mut at: usize = 0;
     let mut n: usize = 0;
@@ -384,7 +388,8 @@ fn fill_through(line: &[u8], bytes: &mut [u8], out: &mut [u32]) -> Reached
 
 fn fill_words(line: &[u8], out: &mut [u32]) -> Reached
     requires { ⌜ length (reading subject (now line) .cells) ≤ length (now out) ⌝ }
-    ensures { λ r. ⌜ Filling subject (now (line .entry)) (r .end) (partAt (r .end)) (r .count) (now (out .entry)) (now (out .exit)) ⌝ }
+    ensures { λ r. ⌜ Filling subject (now (line .entry)) (r .end) (partAt (r .end)) (r .count)
+        (now (out .entry)) (now (out .exit)) ⌝ }
 {
     let mut bytes = [0u8; 63];
     fill_through(line, &mut bytes, out)

@@ -14,7 +14,8 @@ is-itself-requires c κs = search needs
 returns : tie.Need-returns
 returns c =
     let s = (c .before .before .before .before) in
-    λ _. self-at (s .args .line .now) (s .args .at) _ (s .pre) refl (sym (c .before .is-itself .ensures) ∙ c .if1 .taken)
+    let t = sym (c .before .is-itself .ensures) ∙ c .if1 .taken in
+    λ _. self-at (s .args .line .now) (s .args .at) _ (s .pre) refl t
 
 returns-2 : tie.Need-returns-2
 returns-2 c =

@@ -1,7 +1,7 @@
-use Prim.Native.Nat.{_+_, _-_, _≤_}
+use Prim.Native.Nat.{_+_, _-_}
 use lib.ListN.{length}
 use native.Mathlib.Omega.{arith}
-use mathlib.Core.Path.{_≡_, refl, _∙_}
+use mathlib.Core.Path.{_≡_, refl}
 use Rattle.reading.specs.Inner.{Left}
 use Rattle.reading.proofs.Laws.{left-start}
 use Rattle.encoded_word.specs.Rule.{subject}
@@ -23,7 +23,8 @@ next :
     (c : tie.Else1 Inv-loop μ-loop) →
     let w = c .before .before .before .before .before .word-cells in
     let l = c .before .before .before .before .before .before .before .before .before in
-    Left subject (l .before .before .before .before .args .line .now) (w .result .end) (partAt (w .result .end)) (l .loop .n + w .result .count)
+    let a = l .before .before .before .before .args in
+    Left subject (a .line .now) (w .result .end) (partAt (w .result .end)) (l .loop .n + w .result .count)
 next c =
     let w = c .before .before .before .before .before .word-cells in
     let l = c .before .before .before .before .before .before .before .before .before in
@@ -33,7 +34,9 @@ loop-holds : tie.Need-loop-holds Inv-loop μ-loop
 loop-holds c = (left-start subject _, refl, refl)
 
 word-cells-requires : tie.Need-word-cells-requires Inv-loop μ-loop
-word-cells-requires c κs = (c .before .before .before .loop .inv .0 .within, omega (arith, c .before .before .before .loop .inv .1, c .before .before .before .before .before .before .before .pre))
+word-cells-requires c κs =
+    let l = c .before .before .before .loop in
+    (l .inv .0 .within, omega (arith, l .inv .1, c .before .before .before .before .before .before .before .pre))
 
 same-length : tie.Need-same-length Inv-loop μ-loop
 same-length c = search needs

@@ -1,4 +1,4 @@
-use Rattle.encoded_word.specs.Rule.{textDoes, partDoes}
+use Rattle.encoded_word.specs.Rule.{partDoes}
 use Rattle.encoded_word_read.proofs.Texts.{digit-none, digit-some, digit-small}
 use borrow.Author.Needs.{needs}
 use Rattle.encoded_word_read.proofs.feed.Statement.{statement}

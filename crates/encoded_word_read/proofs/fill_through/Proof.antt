@@ -1,7 +1,8 @@
-use Prim.Native.Nat.{_-_, _≤_}
+use Prim.Native.Nat.{_+_, _-_}
+use borrow.Rule.Slice.PartMut.{putMid}
 use lib.ListN.{length}
 use native.Mathlib.Omega.{arith}
-use mathlib.Core.Path.{_≡_, refl, _∙_}
+use mathlib.Core.Path.{_≡_, refl}
 use Rattle.reading.specs.Inner.{Filling}
 use Rattle.reading.proofs.Filling.{filling-start}
 use Rattle.encoded_word.specs.Rule.{subject}
@@ -17,6 +18,21 @@ Inv-loop line bytes₀ out₀ at₀ n₀ bytes out at n =
 
 abbrev μ-loop : tie.MeasureT-loop
 μ-loop line bytes₀ out₀ at₀ n₀ bytes out at n = length line - at
+
+-- behind the word
+abbrev at-loop : tie.Else1 Inv-loop μ-loop → tie.At-loop Inv-loop μ-loop
+at-loop c = c .before .before .before .before .before .before .before .before .before
+
+next :
+    (c : tie.Else1 Inv-loop μ-loop) →
+    let w = c .before .before .before .before .before .word-cells in
+    let l = at-loop c .loop in
+    let a = at-loop c .before .before .before .before .args in
+    Filling subject (a .line .now) (w .result .end) (partAt (w .result .end)) (l .n + w .result .count) (a .out .now)
+    (putMid (l .n) (length (l .out) - l .n) (l .out) (w .last .1 .1 .1 .0))
+next c =
+    let w = c .before .before .before .before .before .word-cells in
+    filling-word (at-loop c .loop .inv .0) (c .if1 .left) (w .ensures .0 (c .if1 .left))
 
 loop-holds : tie.Need-loop-holds Inv-loop μ-loop
 loop-holds c = (filling-start subject _ _ (c .before .before .before .pre .1), refl)
@@ -34,7 +50,10 @@ part-word-cells-end : tie.Need-part-word-cells-end Inv-loop μ-loop
 part-word-cells-end c = search needs
 
 word-cells-requires : tie.Need-word-cells-requires Inv-loop μ-loop
-word-cells-requires c κs = (c .before .before .before .loop .inv .0 .left .within, omega (arith, c .before .before .before .loop .inv .1, c .before .before .before .before .before .before .before .pre .0))
+word-cells-requires c κs =
+    let l = c .before .before .before .loop in
+    let p = c .before .before .before .before .before .before .before .pre in
+    (l .inv .0 .left .within, omega (arith, l .inv .1, p .0))
 
 same-length : tie.Need-same-length Inv-loop μ-loop
 same-length c = search needs
@@ -43,20 +62,22 @@ same-length-2 : tie.Need-same-length-2 Inv-loop μ-loop
 same-length-2 c = search needs
 
 returns : tie.Need-returns Inv-loop μ-loop
-returns c = filling-same (c .before .before .before .before .before .before .before .before .before .loop .inv .0) (c .before .before .before .before .before .word-cells .ensures .1 (c .if1 .taken))
+returns c =
+    let l = c .before .before .before .before .before .before .before .before .before .loop in
+    filling-same (l .inv .0) (c .before .before .before .before .before .word-cells .ensures .1 (c .if1 .taken))
 
 add-n : tie.Need-add-n Inv-loop μ-loop
 add-n c =
-    let f = filling-word (c .before .before .before .before .before .before .before .before .before .before .loop .inv .0) (c .before .if1 .left) (c .before .before .before .before .before .before .word-cells .ensures .0 (c .before .if1 .left)) .left in
+    let f = next (c .before) .left in
     search needs
 
 loop-less : tie.Need-loop-less Inv-loop μ-loop
 loop-less c =
-    let f = filling-word (c .before .before .before .before .before .before .before .before .before .before .loop .inv .0) (c .before .if1 .left) (c .before .before .before .before .before .before .word-cells .ensures .0 (c .before .if1 .left)) .left in
+    let f = next (c .before) .left in
     omega (arith, c .before .if1 .left, f .within)
 
 loop-again : tie.Need-loop-again Inv-loop μ-loop
-loop-again c = (filling-word (c .before .before .before .before .before .before .before .before .before .before .loop .inv .0) (c .before .if1 .left) (c .before .before .before .before .before .before .word-cells .ensures .0 (c .before .if1 .left)), search needs)
+loop-again c = (next (c .before), search needs)
 
 same-length-3 : tie.Need-same-length-3 Inv-loop μ-loop
 same-length-3 c = search needs

@@ -1,9 +1,8 @@
 use Rattle.encoded_word_read.proofs.Heads.{head-on-last, head-on}
-use mathlib.Core.Path.{sym, ap, _∙_}
-use Rattle.encoded_word_read.proofs.Heads.{head-none, head-off, head-last, head-more}
+use mathlib.Core.Path.{sym, _∙_}
+use Rattle.encoded_word_read.proofs.Heads.{head-none, head-off}
 use mathlib.Core.Path.{sym, _∙_}
 use native.Mathlib.Omega.{arith}
-use borrow.Author.Tests.{lt-ltb, le-ltb, lt-leb, le-leb, eq-eqb, ne-eqb}
 use borrow.Author.Needs.{needs}
 use Rattle.encoded_word_read.proofs.in_head.Statement.{statement}
 use Rattle.encoded_word_read.proofs.in_head.Tie as tie

@@ -2,9 +2,7 @@ use Prim.Native.Nat.{_+_, _*_, _%_}
 use Rattle.utf7_read.proofs.Moves.{byte-moves}
 use native.Mathlib.Nat.{mul-comm}
 use Rattle.encoded_word_read.proofs.Texts.{digit-none, digit-some}
-use Rattle.encoded_word.specs.Rule.{textDoes, partDoes}
-use native.Mathlib.Omega.{arith}
-use borrow.Author.Tests.{lt-ltb, le-ltb, lt-leb, le-leb, eq-eqb, ne-eqb}
+use Rattle.encoded_word.specs.Rule.{partDoes}
 use borrow.Author.Needs.{needs}
 use Rattle.encoded_word_read.proofs.in_pair.Statement.{statement}
 use Rattle.encoded_word_read.proofs.in_pair.Tie as tie

@@ -1,9 +1,8 @@
-use Rattle.encoded_word_read.proofs.Texts.{pair-over, pair-in, char-over, char-in, ended-told, ended-refused}
-use mathlib.Core.Path.{sym, ap, _∙_}
+use Rattle.encoded_word_read.proofs.Texts.{pair-over, pair-in, char-over, char-in}
+use mathlib.Core.Path.{sym, _∙_}
 use Rattle.utf7_read.proofs.Moves.{byte-moves}
-use Rattle.encoded_word.specs.Rule.{textDoes, partDoes}
-use native.Mathlib.Omega.{arith}
-use borrow.Author.Tests.{lt-ltb, le-ltb, lt-leb, le-leb, eq-eqb, ne-eqb}
+use Rattle.encoded_word.specs.Rule.{textDoes}
+use borrow.Author.Tests.{eq-eqb, ne-eqb}
 use borrow.Author.Needs.{needs}
 use Rattle.encoded_word_read.proofs.in_text.Statement.{statement}
 use Rattle.encoded_word_read.proofs.in_text.Tie as tie

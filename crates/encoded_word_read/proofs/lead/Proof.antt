@@ -12,7 +12,9 @@ word-requires c κs = search needs
 returns : tie.Need-returns
 returns c =
     let s = (c .before .before .before .before) in
-    λ ok. lead-first (s .args .line .now) (s .args .at) (s .pre) (c .word .result) ok (c .before .before .if1 .taken) (c .word .ensures)
+    let a = s .args in
+    let z = c .before .before .if1 .taken in
+    λ ok. lead-first (a .line .now) (a .at) (s .pre) (c .word .result) ok z (c .word .ensures)
 
 slice-aggregate-word-2 : tie.Need-slice-aggregate-word-2
 slice-aggregate-word-2 c = search needs
@@ -23,7 +25,9 @@ word-requires-2 c κs = search needs
 returns-2 : tie.Need-returns-2
 returns-2 c =
     let s = (c .before .before .before .before) in
-    λ ok. lead-next (s .args .line .now) (s .args .at) (s .pre) (c .word2 .result) ok (c .before .before .if1 .left) (c .word2 .ensures)
+    let a = s .args in
+    let z = c .before .before .if1 .left in
+    λ ok. lead-next (a .line .now) (a .at) (s .pre) (c .word2 .result) ok z (c .word2 .ensures)
 
 pub lead-spec : {M : Type 1} → statement M
 lead-spec =

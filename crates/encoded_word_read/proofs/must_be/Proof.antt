@@ -1,5 +1,4 @@
-use borrow.Author.Tests.{lt-ltb, le-ltb, lt-leb, le-leb, eq-eqb, ne-eqb}
-use borrow.Author.Needs.{needs}
+use borrow.Author.Tests.{eq-eqb, ne-eqb}
 use Rattle.encoded_word_read.proofs.must_be.Statement.{statement}
 use Rattle.encoded_word_read.proofs.must_be.Tie as tie
 

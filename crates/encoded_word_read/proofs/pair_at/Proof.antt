@@ -46,7 +46,9 @@ returns-4 c =
     let s = (c .before .before .before .before .before .before .before .before) in
     let d = c .before .before .before .before .digit-value in
     let e = c .before .before .digit-value2 in
-    λ _. pair-at (s .args .line .now) (s .args .at) (d .result) (e .result) _ (omega (arith, c .before .before .before .before .before .before .if1 .left, s .pre .0)) (s .pre .1) (sym (d .ensures)) (sym (e .ensures)) (c .before .if2 .left) (c .if3 .left) refl
+    let i = c .before .before .before .before .before .before .if1 .left in
+    λ _. pair-at (s .args .line .now) (s .args .at) (d .result) (e .result) _ (omega (arith, i, s .pre .0)) (s .pre .1)
+    (sym (d .ensures)) (sym (e .ensures)) (c .before .if2 .left) (c .if3 .left) refl
 
 pub pair-at-spec : {M : Type 1} → statement M
 pair-at-spec =

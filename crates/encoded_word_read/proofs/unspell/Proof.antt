@@ -2,7 +2,7 @@ use Prim.Native.Nat.{_-_}
 use lib.ListN.{length, length-set}
 use native.Mathlib.Omega.{arith}
 use mathlib.Core.Path.{_≡_, refl}
-use Prim.Native.Nat.{_<_, _+_, _≤_}
+use Prim.Native.Nat.{_<_}
 use Rattle.encoded_word_read.specs.Words.{Unspells, SpellsAt}
 use Rattle.encoded_word_read.proofs.Words.{unspells-start, unspells-next}
 use borrow.Author.Needs.{needs}
@@ -22,7 +22,8 @@ some c = omega (arith, c .if1 .left)
 spelt :
     (c : tie.Else1 Inv-loop μ-loop) →
     let l = c .before .before .before in
-    SpellsAt (l .before .before .before .args .line .now) (l .loop .at) (c .before .char-at .result .size) (c .before .char-at .result .byte)
+    let r = c .before .char-at .result in
+    SpellsAt (l .before .before .before .args .line .now) (l .loop .at) (r .size) (r .byte)
 spelt c = c .before .char-at .ensures (some c)
 
 loop-holds : tie.Need-loop-holds Inv-loop μ-loop
@@ -68,7 +69,8 @@ loop-less c = omega (arith, spelt (c .before) .within, some (c .before), c .befo
 loop-again : tie.Need-loop-again Inv-loop μ-loop
 loop-again c =
     let l = c .before .before .before .before .loop in
-    (unspells-next _ _ _ _ _ (l .inv .0) (spelt (c .before)) (some (c .before)) (c .if2 .left), simp length-set (l .inv .1))
+    let e = (c .before) in
+    (unspells-next _ _ _ _ _ (l .inv .0) (spelt e) (some e) (c .if2 .left), simp length-set (l .inv .1))
 
 same-length-3 : tie.Need-same-length-3 Inv-loop μ-loop
 same-length-3 c = c .before .loop .inv .1

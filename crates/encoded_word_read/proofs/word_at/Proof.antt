@@ -1,5 +1,4 @@
 use native.Mathlib.Omega.{arith}
-use mathlib.Core.Path.{_∙_, sym}
 use Rattle.encoded_word_read.proofs.Words.{word-reads, so-then}
 use borrow.Author.Needs.{needs}
 use Rattle.encoded_word_read.proofs.word_at.Statement.{statement}
@@ -36,9 +35,11 @@ same-length-2 c = search needs
 returns-3 : tie.Need-returns-3
 returns-3 c =
     let s = (c .before .before .before .before .before .before .before .before .before .before .before .before) in
-    let a = c .before .before .before .before .before .before .before .before .before .lead .ensures (so-then _ (c .before .before .before .before .before .before .before .if1 .left)) in
+    let f = (c .before .before .before .before .before .before .before) in
+    let a = f .before .before .lead .ensures (so-then _ (f .if1 .left)) in
     let u = c .before .before .before .before .before .unspell .ensures in
-    let w = word-reads (s .args .line .now) (s .args .at) _ _ _ _ a u (c .before .before .if2 .left) (c .before .is-end .ensures (c .if3 .taken)) in
+    let e = c .before .is-end .ensures (c .if3 .taken) in
+    let w = word-reads (s .args .line .now) (s .args .at) _ _ _ _ a u (c .before .before .if2 .left) e in
     (omega (arith, u .count, u .few, u .room, u .after), λ _. w)
 
 same-length-3 : tie.Need-same-length-3

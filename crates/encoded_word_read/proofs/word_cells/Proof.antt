@@ -41,8 +41,7 @@ same-length-3 c = search needs
 returns-2 : tie.Need-returns-2
 returns-2 c =
     let w = c .before .before .before .before .before .before .before .before .before .before .before .word-at in
-    let t = took _ _ _ _ (c .before .before .before .before .before .read .ensures) (c .before .n .given .1) in
-    (
+    let t = took _ _ _ _ (c .before .before .before .before .before .read .ensures) (c .before .n .given .1) in (
       λ h. record { cells = _; stride = w .ensures .1 h (t .0); so = t .1; size = t .2 },
       λ h. absurd (omega (arith, h, c .before .before .before .before .before .before .before .before .if1 .left)),
     )
@@ -54,7 +53,9 @@ same-length-5 : tie.Need-same-length-5
 same-length-5 c = search needs
 
 returns-3 : tie.Need-returns-3
-returns-3 c = (λ h. absurd (omega (arith, h)), λ _. untouched _ _ _ _ (c .before .before .before .before .read .ensures) (c .enum-told .given .1))
+returns-3 c =
+    let u = untouched _ _ _ _ (c .before .before .before .before .read .ensures) (c .enum-told .given .1) in
+    (λ h. absurd (omega (arith, h)), λ _. u)
 
 pub word-cells-spec : {M : Type 1} → statement M
 word-cells-spec =

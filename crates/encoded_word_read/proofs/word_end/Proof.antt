@@ -1,5 +1,5 @@
 use Rattle.utf7_read.specs.Cursor.{shiftOf}
-use Rattle.encoded_word_read.proofs.Texts.{pair-over, pair-in, char-over, char-in, ended-told, ended-refused}
+use Rattle.encoded_word_read.proofs.Texts.{ended-told, ended-refused}
 use borrow.Author.Needs.{needs}
 use Rattle.encoded_word_read.proofs.word_end.Statement.{statement}
 use Rattle.encoded_word_read.proofs.word_end.Tie as tie
