@@ -5,9 +5,11 @@
 
 #include "desk.h"
 
-// The plain pass: the sum of the text and of the used history. Out of line, so that it is made each time.
+// The plain pass: the sum of the text and of the used history. Out of line, so that it is made each time; unrolled, so
+// that it is as fast wherever the linker puts it.
 [[gnu::noinline]] static uint32_t sum(const uint32_t *words, size_t length) {
     uint32_t all = 0;
+#pragma GCC unroll 8
     for (size_t i = 0; i < length; i++) all += words[i];
     return all;
 }

@@ -1,16 +1,17 @@
 //! Memory between two stretches of pages that nothing may touch. An access beside what is lent ends the process, if it
 //! is on the side that the memory is flush with; so does writing to memory that is lent to be read.
 
-use std::ffi::{c_int, c_void};
-use std::ops::Range;
+use std::ffi::{c_char, c_int, c_uint, c_void};
 use std::{ptr, slice};
 
 use crate::second::LIMIT;
 
 extern "C" {
     fn mmap(address: *mut c_void, length: usize, access: c_int, flags: c_int, file: c_int, offset: i64) -> *mut c_void;
-    fn mprotect(address: *mut c_void, length: usize, access: c_int) -> c_int;
     fn munmap(address: *mut c_void, length: usize) -> c_int;
+    fn memfd_create(name: *const c_char, flags: c_uint) -> c_int;
+    fn ftruncate(file: c_int, length: i64) -> c_int;
+    fn close(file: c_int) -> c_int;
 }
 
 /// What may be done with pages.
@@ -21,11 +22,11 @@ const READ_AND_WRITE: c_int = 3;
 /// MAP_PRIVATE and MAP_ANONYMOUS: pages of this process alone, of no file.
 const OWN_PAGES: c_int = 0x22;
 
+/// MAP_SHARED and MAP_FIXED: the pages of a file, in the place of others.
+const IN_PLACE: c_int = 0x11;
+
 /// The length of a guard: a multiple of the page size of every machine.
 const GUARD: usize = 65_536;
-
-/// Nothing between the guards.
-const NO_STRETCH: Range<usize> = 0..0;
 
 /// Bytes between the guards: the longest page file, with as many arrived bytes, cells and words as can be, and more.
 const CAPACITY: usize = 20 * LIMIT;
@@ -37,87 +38,82 @@ pub enum Side {
     Back,
 }
 
+/// The same memory twice, each time between guards of its own: to be read and written to, and to be read. So no access
+/// has to be changed from one call to the next.
 pub struct Guarded {
-    /// Where the front guard ends.
-    start: *mut u8,
-    /// The stretch behind it whose pages may be touched, and what may be done with them: with no others, so that a short
-    /// list costs little.
-    stretch: Range<usize>,
-    access: c_int,
+    /// Where the front guard of each ends.
+    to_write: *mut u8,
+    to_read: *mut u8,
 }
 
 impl Guarded {
     pub fn new() -> Guarded {
-        // SAFETY: the pages are new, and the part between the guards lies within them.
+        // SAFETY: the file is new, and closed once its pages stand between the guards.
         unsafe {
-            let whole = mmap(ptr::null_mut(), GUARD + CAPACITY + GUARD, NOTHING, OWN_PAGES, -1, 0);
-            assert!(whole.addr() != usize::MAX, "pages are given");
-            Guarded { start: whole.cast::<u8>().add(GUARD), stretch: NO_STRETCH, access: NOTHING }
+            let file = memfd_create(c"guarded".as_ptr(), 0);
+            assert!(file >= 0 && ftruncate(file, CAPACITY as i64) == 0, "a file in memory");
+            let memory =
+                Guarded { to_write: between_guards(file, READ_AND_WRITE), to_read: between_guards(file, READ) };
+            close(file);
+            memory
         }
     }
 
     /// Lends these elements to be read and written to.
     pub fn lend<T: Copy>(&mut self, contents: &[T], side: Side) -> &mut [T] {
-        let place = self.put(contents, side);
+        self.put(contents, side);
         // SAFETY: so many elements were put there, and they are borrowed from this memory.
-        unsafe { slice::from_raw_parts_mut(place, contents.len()) }
+        unsafe { slice::from_raw_parts_mut(place(self.to_write, contents.len(), side), contents.len()) }
     }
 
     /// Lends these elements to be read.
     pub fn lend_to_read<T: Copy>(&mut self, contents: &[T], side: Side) -> &[T] {
-        let place = self.put(contents, side);
-        self.allow(self.stretch.clone(), READ);
+        self.put(contents, side);
         // SAFETY: so many elements were put there, and they are borrowed from this memory.
-        unsafe { slice::from_raw_parts(place, contents.len()) }
+        unsafe { slice::from_raw_parts(place(self.to_read, contents.len(), side), contents.len()) }
     }
 
     /// So many elements as they stand there now.
     pub fn contents<T: Copy>(&self, length: usize, side: Side) -> Vec<T> {
         // SAFETY: so many elements were lent there before.
-        unsafe { slice::from_raw_parts(self.place(length, side), length) }.to_vec()
+        unsafe { slice::from_raw_parts(place(self.to_read, length, side), length) }.to_vec()
     }
 
     /// Copies these elements to the place next to a guard.
-    fn put<T: Copy>(&mut self, contents: &[T], side: Side) -> *mut T {
-        let place: *mut T = self.place(contents.len(), side);
-        let offset = place.addr() - self.start.addr();
-        self.allow(offset / GUARD * GUARD..(offset + size_of_val(contents)).next_multiple_of(GUARD), READ_AND_WRITE);
+    fn put<T: Copy>(&mut self, contents: &[T], side: Side) {
+        let place: *mut T = place(self.to_write, contents.len(), side);
         // SAFETY: there is room for so many elements.
         unsafe { place.copy_from_nonoverlapping(contents.as_ptr(), contents.len()) };
-        place
-    }
-
-    /// The place of so many elements next to a guard; both ends are aligned for elements that are shorter than a page.
-    fn place<T>(&self, length: usize, side: Side) -> *mut T {
-        let free = CAPACITY.checked_sub(length * size_of::<T>()).expect("a list that fits");
-        let offset = if side == Side::Front { 0 } else { free };
-        // SAFETY: it lies between the guards.
-        unsafe { self.start.add(offset) }.cast()
-    }
-
-    /// Pages of this stretch may be touched so, and no others.
-    fn allow(&mut self, stretch: Range<usize>, access: c_int) {
-        if self.stretch != stretch {
-            self.protect(self.stretch.clone(), NOTHING);
-        } else if self.access == access {
-            return;
-        }
-        self.protect(stretch.clone(), access);
-        (self.stretch, self.access) = (stretch, access);
-    }
-
-    fn protect(&self, stretch: Range<usize>, access: c_int) {
-        // SAFETY: these are pages between the guards.
-        let done = unsafe { mprotect(self.start.add(stretch.start).cast(), stretch.len(), access) };
-        assert_eq!(done, 0, "the access is set");
     }
 }
 
 impl Drop for Guarded {
     fn drop(&mut self) {
-        // SAFETY: these are the pages that `new` was given, and what was borrowed of them is gone.
-        unsafe { munmap(self.start.sub(GUARD).cast(), GUARD + CAPACITY + GUARD) };
+        for start in [self.to_write, self.to_read] {
+            // SAFETY: these are the pages that `new` was given, and what was borrowed of them is gone.
+            unsafe { munmap(start.sub(GUARD).cast(), GUARD + CAPACITY + GUARD) };
+        }
     }
+}
+
+/// A file's bytes between two guards: where the first guard ends.
+fn between_guards(file: c_int, access: c_int) -> *mut u8 {
+    // SAFETY: the pages are new, and the part between the guards lies within them.
+    unsafe {
+        let whole = mmap(ptr::null_mut(), GUARD + CAPACITY + GUARD, NOTHING, OWN_PAGES, -1, 0);
+        assert!(whole.addr() != usize::MAX, "pages are given");
+        let start = whole.cast::<u8>().add(GUARD);
+        assert_eq!(mmap(start.cast(), CAPACITY, access, IN_PLACE, file, 0), start.cast(), "they are the file's");
+        start
+    }
+}
+
+/// The place of so many elements next to a guard; both ends are aligned for elements that are shorter than a page.
+fn place<T>(start: *mut u8, length: usize, side: Side) -> *mut T {
+    let free = CAPACITY.checked_sub(length * size_of::<T>()).expect("a list that fits");
+    let offset = if side == Side::Front { 0 } else { free };
+    // SAFETY: it lies between the guards.
+    unsafe { start.add(offset) }.cast()
 }
 
 #[cfg(test)]
