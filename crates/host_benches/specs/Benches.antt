@@ -99,8 +99,8 @@ noHostBench kind = record { kind = kind; opening = 0; length = 0; standing = 0; 
 abbrev pub unopened : ℕ → ℕ → HostBenches
 unopened kind0 kind1 = record { bench0 = noHostBench kind0; bench1 = noHostBench kind1; used = 0 }
 
--- an open whose kinds came from a host as numbers; where one is no kind, nothing is read or changed: 14, but 16 over the
--- five lists comes first
+-- an open whose kinds came from a host as numbers; where one is no kind, nothing is read or changed: 14, but 16
+-- over the five lists comes first
 unfoldable pub openedOn : ℕ → ℕ → List ℕ → List ℕ → List ℕ → List ℕ → List ℕ → HostOutcome
 openedOn kind0 kind1 arrived0 arrived1 text0 text1 history =
     cond (noKindIn (unopened kind0 kind1))

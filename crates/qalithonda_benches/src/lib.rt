@@ -1,5 +1,5 @@
-// The C interface, its benches. They are an object of their own in the archive, as the comparers are: beside a second user
-// of the readers and of the page, LLVM would inline those otherwise for hosts.
+// The C interface, its benches. They are an object of their own in the archive, as the comparers are: beside
+// a second user of the readers and of the page, LLVM would inline those otherwise for hosts.
 use host_benches::HostBenches;
 use host_benches::HostBenchesEdited;
 use host_pages::HostAsked;
