@@ -1,11 +1,13 @@
 // Set B: the letters of Base64 (RFC 2045) and their values, as the rule that they follow: capitals, small letters, digits, two signs.
 // The first sign is '+' in every alphabet, and an alphabet is given by the second, its last letter: '/' in UTF-7, ',' in mailbox names.
 #![tactic(auto)]
+
 ghost use Rattle.std.specs.Prelude.{◌≡◌};
 ghost use Rattle.alphabet.specs.Letters.{value_of, letter_of};
 
 // The value of a letter, or 64 for a byte that is none. One value is chosen by tests in the rule's order and no arm returns:
 // so it compiles to selects, with no branch.
+#[tactic(auto, unfolding(crate::specs::Letters::value_of, crate::specs::Letters::within))]
 pub fn value_of(last: u8, b: u8) -> u32
     ensures { result ≡ value_of last b }
 {
@@ -33,6 +35,7 @@ pub fn value_of(last: u8, b: u8) -> u32
 }
 
 // The letter of a value; any number from 63 on has the last.
+#[tactic(auto, unfolding(crate::specs::Letters::letter_of, crate::specs::Letters::within))]
 pub fn letter_of(last: u8, x: u32) -> u8
     ensures { result ≡ letter_of last x }
 {

@@ -1,5 +1,6 @@
 // What a call answers: document 01, "Numbers given back".
 #![tactic(auto)]
+
 ghost use Rattle.std.specs.Prelude.{◌≡◌, ltb};
 ghost use Rattle.answer.specs.Answer.{limit, too_long, in_numbers, number_of};
 

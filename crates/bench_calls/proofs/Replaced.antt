@@ -19,7 +19,7 @@ use Rattle.editor.specs.Layout as layout
 use Rattle.ledger.specs.Words as page
 use Rattle.benches.specs.declared.Bench.{Bench}
 use Rattle.benches.specs.Words.{Side, first, second, number_of, side_of, at, Record, words, size_of, sizes, own, kept}
-use Rattle.benches.specs.Benches.{State, Outcome, records}
+use Rattle.benches.specs.Benches.{State, Outcome}
 use Rattle.benches.specs.Layout.{editor_of, editor_for, these, lying_in, space_in, records_after, bench}
 use Rattle.benches.specs.Calls.{outcome_at, replace_of}
 use Rattle.benches.proofs.Words.{words_append}

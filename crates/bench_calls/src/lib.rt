@@ -1,5 +1,6 @@
 // The calls of two benches that share one history. Each is judged whole before anything is changed.
 #![tactic(auto)]
+
 mod gap;
 
 ghost use Rattle.std.specs.Prelude.{◌≡◌, true, false, [], ◌+◌, ◌-◌, ◌≤◌, ◌<◌, length, take};

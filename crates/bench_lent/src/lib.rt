@@ -1,6 +1,7 @@
 // Both benches lent: document 01's thin functions, for order 13's calls. Each takes the benches by &mut, calls the
 // by-value form and stores the result.
 #![tactic(auto)]
+
 ghost use Rattle.std.specs.Prelude.{◌≡◌, []};
 ghost use Rattle.benches.specs.Benches.{state_of};
 ghost use Rattle.benches.specs.Calls.{replace_of, undo_of, redo_of, save_of};

@@ -1,5 +1,6 @@
 // One open for two benches: both are judged before either text is changed.
 #![tactic(auto)]
+
 ghost use Rattle.std.specs.Prelude.{◌≡◌, true, [], ◌+◌, ◌≤◌};
 ghost use Rattle.answer.specs.Answer.{limit, in_numbers};
 ghost use Rattle.answer.specs.declared.Answer.TheVariants.{Accepted};

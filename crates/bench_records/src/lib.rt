@@ -1,5 +1,6 @@
 // Whether two benches are sound: what every call asks first. One pass for each bench over all records.
 #![tactic(auto)]
+
 ghost use Rattle.std.specs.Prelude.{◌≡◌, ◌+◌, ◌≤◌, ◌<◌, ◌^◌, length, take};
 ghost use Rattle.answer.specs.Answer.{limit};
 ghost use Rattle.bench_records.specs.Passing.{onward, begun};

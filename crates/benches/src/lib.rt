@@ -1,5 +1,6 @@
 // Master and apprentice: two benches that share one history. Types, definitions and proofs, no code.
 #![tactic(auto)]
+
 use answer::Answer;
 use codec::Kind;
 use editor::Mark;

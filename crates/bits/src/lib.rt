@@ -1,5 +1,6 @@
 // Numbers as lists of bits: definitions in specs/, laws in proofs/, and the power of two that code computes with.
 #![tactic(auto)]
+
 ghost use Rattle.std.specs.Prelude.{◌≡◌, ◌%◌, ◌^◌};
 
 // The power of two, for any exponent what it leaves by 32.

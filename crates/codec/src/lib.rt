@@ -1,5 +1,6 @@
 // The formats side by side, and by the kind of a page: what the page stands on.
 #![tactic(auto)]
+
 ghost use Rattle.std.specs.Prelude.{◌≡◌};
 ghost use Rattle.answer.specs.Output.{leaves};
 ghost use Rattle.codec.specs.Kinds.{format_of, bytes_per_cell, bytes_at_end, most_bytes};
@@ -97,6 +98,7 @@ pub fn reads_as(format: Format, text: &[u8], cells: &[u32]) -> bool
 }
 
 // The index of the first cell that is not writable in a kind, or the length.
+#[tactic(auto, unfolding(crate::specs::Kinds::first_unwritable))]
 pub fn first_unwritable(kind: Kind, cells: &[u32]) -> usize
     ensures { result ≡ first_unwritable kind cells.now }
 {

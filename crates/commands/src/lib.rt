@@ -1,6 +1,7 @@
 // What a desk is told: a line's command, and the numbers that follow a replace or a squeeze. And the kinds of texts by
 // their names.
 #![tactic(auto)]
+
 pub mod numbers;
 
 ghost use Rattle.std.specs.Prelude.{◌≡◌, cond, not, ◌+◌, ◌≤◌, length, drop};

@@ -1,5 +1,6 @@
 // Whether two arrived texts of one format read as the same cells: document 02, order 11.
 #![tactic(auto)]
+
 mod blocks;
 
 ghost use Rattle.std.specs.Prelude.{◌≡◌, true};

@@ -12,8 +12,6 @@ use Rattle.page_file.specs.Calls.{read_of}
 use Rattle.desk_lines.specs.Desk.{line_room, file_room, Desk, begun, after_line, Turns}
 use Rattle.desk.specs.declared.lines.Hand.{Hand}
 use Rattle.desk.specs.declared.orders.Done.{Done}
-use Rattle.desk.specs.declared.files.Got.{Got}
-use Rattle.desk.specs.declared.files.Got.TheVariants.{Bytes, Failed}
 use Rattle.desk.specs.declared.Source.{Source}
 use Rattle.desk.specs.declared.Source.TheVariants.{Letter, Kept}
 use Rattle.desk.specs.declared.Found.{Found}
@@ -23,11 +21,6 @@ use Rattle.desk.specs.declared.Sat.TheVariants.{Through, Never}
 
 abbrev pub Holds : Hand → List ℕ → Type 0
 Holds h buf = (h.from ≤ h.to) × (h.to ≤ length buf) × (length buf ≤ line_room)
-
--- the bytes in a buffer after a read behind its first `at`
-abbrev pub Within : Got → ℕ → List ℕ → Type 0
-Within (Bytes n) at buf = (at ≤ n) × (n ≤ length buf)
-Within Failed at buf = Unit
 
 -- the line that ends with the LF at a place
 abbrev pub line_in : List ℕ → ℕ → ℕ → List ℕ

@@ -3,9 +3,10 @@ ghost use Rattle.std.specs.Prelude.{◌≤◌, ◌<◌, ◌≡◌, false, length
 ghost use Rattle.desk_lines.specs.Desk.{Turn};
 ghost use Rattle.desk.specs.Hands.{Holds, line_in, desk_in, sitting, Took, closed, Worked};
 
-use crate::{orders, replies, streams};
+use crate::{orders, replies, rooms};
 use ledger::Page;
-use libc::STDIN_FILENO;
+use std::rt::HostRuntime;
+use whole_file::Got;
 
 // A proved loop has to end, and nothing says that the input does: so it counts down from a number that no run uses up.
 const ROUNDS: u64 = 18446744073709551615;
@@ -57,16 +58,17 @@ fn settle(buf: &mut [u8], from: usize, to: usize) -> usize
 }
 
 // Reads once behind the bytes in hand, and says how many there are then: no more at the end of the input.
-fn read_more(buf: &mut [u8], held: usize) -> usize
+fn read_more(rt: &HostRuntime, buf: &mut [u8], held: usize) -> usize
     requires { held ≤ length buf.old }
     ensures { (held ≤ result) × (result ≤ length buf.new) × (length buf.new ≡ length buf.old) }
 {
-    let got = streams::read(STDIN_FILENO, &mut buf[held..]);
-    if got < 0 {
-        replies::fail(b"standard input");
-        return held;
+    match whole_file::read_on(&mut rt.stdin(), buf, held) {
+        Got::Bytes(to) => to,
+        Got::Failed(e) => {
+            replies::fail(rt, b"standard input", e);
+            held
+        }
     }
-    held + io::count(got, &buf[held..])
 }
 
 // The desk with some bytes at the front of the buffer in hand.
@@ -86,7 +88,7 @@ pub fn holding(page: Page, to: usize, passing: bool, ended: bool, warned: bool) 
 }
 
 // Gets more of the line in hand. A last line without LF is given one.
-fn fetch(hand: Hand, buf: &mut [u8]) -> Hand
+fn fetch(rt: &HostRuntime, hand: Hand, buf: &mut [u8]) -> Hand
     requires { Holds hand buf.old }
     ensures { Holds result buf.new × (length buf.new ≡ length buf.old)
         × (result.page ≡ hand.page) × (result.warned ≡ hand.warned) × (result.left ≡ false) }
@@ -99,10 +101,10 @@ fn fetch(hand: Hand, buf: &mut [u8]) -> Hand
     let from = if hand.passing { hand.to } else { hand.from };
     let held = settle(&mut *buf, from, hand.to);
     if held == buf.len() {
-        replies::complain(b"a line is longer than 65535 bytes");
+        replies::complain(rt, b"a line is longer than 65535 bytes");
         return holding(page, 0, true, false, warned);
     }
-    let to = read_more(&mut *buf, held);
+    let to = read_more(rt, &mut *buf, held);
     if held < to {
         return holding(page, to, hand.passing, false, warned);
     }
@@ -139,6 +141,7 @@ fn past(hand: Hand, page: Page, from: usize, warned: bool, left: bool) -> Hand
 
 // Obeys the line that ends at a place, unless it is the rest of one that was too long.
 fn take(
+    rt: &HostRuntime,
     hand: Hand,
     end: usize,
     buf: &[u8],
@@ -159,6 +162,7 @@ fn take(
     }
     let from = hand.from;
     let done = orders::obey(
+        rt,
         page,
         hand.warned,
         &buf[from..next],
@@ -171,7 +175,14 @@ fn take(
 }
 
 // A line is obeyed, or more of it is got.
-fn turn(hand: Hand, buf: &mut [u8], letter: &[u8], text: &mut [u32], history: &mut [u32]) -> Hand
+fn turn(
+    rt: &HostRuntime,
+    hand: Hand,
+    buf: &mut [u8],
+    letter: &[u8],
+    text: &mut [u32],
+    history: &mut [u32],
+) -> Hand
     requires { Holds hand buf.old }
     ensures { Holds result buf.new
         × Turn letter.now (sitting hand.page hand.warned text.old history.old)
@@ -179,9 +190,9 @@ fn turn(hand: Hand, buf: &mut [u8], letter: &[u8], text: &mut [u32], history: &m
 {
     let end = line_end(&*buf, hand.from, hand.to);
     if end < hand.to {
-        return take(hand, end, &*buf, letter, &mut *text, &mut *history);
+        return take(rt, hand, end, &*buf, letter, &mut *text, &mut *history);
     }
-    fetch(hand, &mut *buf)
+    fetch(rt, hand, &mut *buf)
 }
 
 // No more is obeyed: a line left the desk, or the input has ended and nothing of it is in hand.
@@ -198,17 +209,23 @@ fn is_closed(hand: Hand) -> bool
 }
 
 // Obeys line after line, until quit or the end of the input.
-pub fn work(page: Page, letter: &[u8], text: &mut [u32], history: &mut [u32]) -> Hand
+pub fn work(
+    rt: &HostRuntime,
+    page: Page,
+    letter: &[u8],
+    text: &mut [u32],
+    history: &mut [u32],
+) -> Hand
     ensures { Worked letter.now (sitting page false text.old history.old)
         (desk_in result text.new history.new) result }
 {
-    let mut space = io::large_buffer();
+    let mut space = rooms::lines();
     let buf: &mut [u8] = &mut space;
     let mut hand = holding(page, 0, false, false, false);
     let mut rounds = ROUNDS;
     while 0 < rounds {
         rounds -= 1;
-        let next = turn(hand, &mut *buf, letter, &mut *text, &mut *history);
+        let next = turn(rt, hand, &mut *buf, letter, &mut *text, &mut *history);
         hand = next;
         if is_closed(hand) {
             return hand;
@@ -218,9 +235,9 @@ pub fn work(page: Page, letter: &[u8], text: &mut [u32], history: &mut [u32]) ->
 }
 
 // Says that the input ended on a page that is not saved. A line that left the desk was asked already.
-pub fn see_out(hand: Hand, text: &[u32], history: &[u32]) {
+pub fn see_out(rt: &HostRuntime, hand: Hand, text: &[u32], history: &[u32]) {
     let page = hand.page;
     if !orders::may_leave(page, hand.left, text, history) {
-        replies::complain(b"the input has ended, and the page is not saved");
+        replies::complain(rt, b"the input has ended, and the page is not saved");
     }
 }

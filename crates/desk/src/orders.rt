@@ -12,6 +12,7 @@ use crate::{files, replies, rooms};
 use answer::Answer;
 use commands::{Verb, numbers};
 use ledger::{Edited, Page};
+use std::rt::HostRuntime;
 
 // The page after a command, and what became of its file and of the desk.
 #[derive(Clone, Copy)]
@@ -26,17 +27,23 @@ pub struct Done {
 }
 
 // Tells the answer of a call, and goes on with its page.
-fn told(edited: Edited) -> Page
+fn told(rt: &HostRuntime, edited: Edited) -> Page
     ensures { result ≡ edited.page }
 {
     let answer = edited.answer;
     let page = edited.page;
-    replies::tell(answer);
+    replies::tell(rt, answer);
     page
 }
 
 // Replaces as some numbers say: a place, a count, and the cells.
-fn replace_by(p: Page, numbers: &[u32], text: &mut [u32], history: &mut [u32]) -> Page
+fn replace_by(
+    rt: &HostRuntime,
+    p: Page,
+    numbers: &[u32],
+    text: &mut [u32],
+    history: &mut [u32],
+) -> Page
     ensures { state_of result text.new history.new
         ≡ after_call (replacing accepted numbers.now) (state_of p text.old history.old) }
 {
@@ -45,11 +52,14 @@ fn replace_by(p: Page, numbers: &[u32], text: &mut [u32], history: &mut [u32]) -
     }
     let place = records::wide(numbers[0]);
     let count = records::wide(numbers[1]);
-    told(page::replace(p, place, count, &numbers[2..], &mut *text, &mut *history))
+    told(
+        rt,
+        page::replace(p, place, count, &numbers[2..], &mut *text, &mut *history),
+    )
 }
 
 // `replace PLACE COUNT CELL..`
-fn replace(p: Page, words: &[u8], text: &mut [u32], history: &mut [u32]) -> Page
+fn replace(rt: &HostRuntime, p: Page, words: &[u8], text: &mut [u32], history: &mut [u32]) -> Page
     requires { length words.now ≤ line_room }
     ensures { state_of result text.new history.new
         ≡ after_call (asked none Replace words.now) (state_of p text.old history.old) }
@@ -60,12 +70,13 @@ fn replace(p: Page, words: &[u8], text: &mut [u32], history: &mut [u32]) -> Page
     match read {
         Answer::Accepted(_) => {
             if n <= 65536 {
-                return replace_by(p, &found[..n], &mut *text, &mut *history);
+                return replace_by(rt, p, &found[..n], &mut *text, &mut *history);
             }
             p
         }
         Answer::Refused(_, _) => {
             replies::complain(
+                rt,
                 b"replace PLACE COUNT CELL..: two decimal numbers, then cells in hex, none over FFFFFFFF",
             );
             p
@@ -74,40 +85,40 @@ fn replace(p: Page, words: &[u8], text: &mut [u32], history: &mut [u32]) -> Page
 }
 
 // Whether nothing follows a command; what does is complained of.
-fn alone(words: &[u8]) -> bool
+fn alone(rt: &HostRuntime, words: &[u8]) -> bool
     ensures { result ≡ eqb (length words.now) 0 }
 {
     if words.len() == 0 {
         return true;
     }
-    replies::complain(b"nothing may follow this command");
+    replies::complain(rt, b"nothing may follow this command");
     false
 }
 
 // `undo`
-fn undo(p: Page, words: &[u8], text: &mut [u32], history: &[u32]) -> Page
+fn undo(rt: &HostRuntime, p: Page, words: &[u8], text: &mut [u32], history: &[u32]) -> Page
     ensures { state_of result text.new history.now
         ≡ after_call (asked none Undo words.now) (state_of p text.old history.now) }
 {
-    if !alone(words) {
+    if !alone(rt, words) {
         return p;
     }
-    told(lent::undo_kept(p, &mut *text, history))
+    told(rt, lent::undo_kept(p, &mut *text, history))
 }
 
 // `redo`
-fn redo(p: Page, words: &[u8], text: &mut [u32], history: &[u32]) -> Page
+fn redo(rt: &HostRuntime, p: Page, words: &[u8], text: &mut [u32], history: &[u32]) -> Page
     ensures { state_of result text.new history.now
         ≡ after_call (asked none Redo words.now) (state_of p text.old history.now) }
 {
-    if !alone(words) {
+    if !alone(rt, words) {
         return p;
     }
-    told(lent::redo_kept(p, &mut *text, history))
+    told(rt, lent::redo_kept(p, &mut *text, history))
 }
 
 // `squeeze K`
-fn squeeze(p: Page, words: &[u8], text: &[u32], history: &mut [u32]) -> Page
+fn squeeze(rt: &HostRuntime, p: Page, words: &[u8], text: &[u32], history: &mut [u32]) -> Page
     ensures { state_of result text.now history.new
         ≡ after_call (asked none Squeeze words.now) (state_of p text.now history.old) }
 {
@@ -117,23 +128,23 @@ fn squeeze(p: Page, words: &[u8], text: &[u32], history: &mut [u32]) -> Page
         Answer::Accepted(_) => {
             let k = records::wide(found[0]);
             let mut work = [0u32; 262144];
-            told(squeeze::squeeze(p, k, text, &mut *history, &mut work))
+            told(rt, squeeze::squeeze(p, k, text, &mut *history, &mut work))
         }
         Answer::Refused(_, _) => {
-            replies::complain(b"squeeze K: one decimal number, not over 4294967295");
+            replies::complain(rt, b"squeeze K: one decimal number, not over 4294967295");
             p
         }
     }
 }
 
 // `show`
-fn show(p: Page, words: &[u8], text: &[u32]) {
-    if !alone(words) {
+fn show(rt: &HostRuntime, p: Page, words: &[u8], text: &[u32]) {
+    if !alone(rt, words) {
         return;
     }
     let n = p.length;
     if n <= text.len() {
-        replies::show(&text[..n]);
+        replies::show(rt, &text[..n]);
     }
 }
 
@@ -166,6 +177,7 @@ fn stays(p: Page) -> Done
 // Saves under a name, by way of an output. The desk goes on with the page that save gave only where the file is in its
 // place: otherwise the mark is as it was.
 fn save_in(
+    rt: &HostRuntime,
     p: Page,
     name: &[u8],
     letter: &[u8],
@@ -184,8 +196,8 @@ fn save_in(
     match answer {
         Answer::Accepted(_) => {
             if n <= out.len() {
-                if files::put(name, &out[..n]) {
-                    replies::tell(answer);
+                if files::put(rt, name, &out[..n]) {
+                    replies::tell(rt, answer);
                     return Done {
                         page: marked,
                         put: true,
@@ -197,52 +209,67 @@ fn save_in(
             stays(p)
         }
         Answer::Refused(_, _) => {
-            replies::tell(answer);
+            replies::tell(rt, answer);
             stays(p)
         }
     }
 }
 
 // `save FILE`: the name goes to the end of the line and may hold spaces. The answer is told when the file is in its place.
-fn save(p: Page, words: &[u8], letter: &[u8], text: &[u32], history: &[u32]) -> Done
+fn save(
+    rt: &HostRuntime,
+    p: Page,
+    words: &[u8],
+    letter: &[u8],
+    text: &[u32],
+    history: &[u32],
+) -> Done
     ensures { desk_at result text.now history.now
         ≡ begun (after_call (saving letter.now room result.put)
         (state_of p text.now history.now)) }
 {
     let end = name_end(words);
     if end == 0 {
-        replies::complain(b"save FILE: the name is missing");
+        replies::complain(rt, b"save FILE: the name is missing");
         return stays(p);
     }
     let mut out = rooms::output();
-    save_in(p, &words[..end], letter, text, history, &mut out)
+    save_in(rt, p, &words[..end], letter, text, history, &mut out)
 }
 
 // Keeps a page under a name, by way of an output. The page is as it was.
-fn keep_in(p: Page, name: &[u8], letter: &[u8], text: &[u32], history: &[u32], out: &mut [u8]) {
+fn keep_in(
+    rt: &HostRuntime,
+    p: Page,
+    name: &[u8],
+    letter: &[u8],
+    text: &[u32],
+    history: &[u32],
+    out: &mut [u8],
+) {
     let answer = page_keep::keep(p, text, history, letter, &mut *out);
     let n = answer::place(answer);
     match answer {
         Answer::Accepted(_) => {
             if n <= out.len() {
-                if files::put(name, &out[..n]) {
-                    replies::tell(answer);
+                if files::put(rt, name, &out[..n]) {
+                    replies::tell(rt, answer);
                 }
             }
         }
-        Answer::Refused(_, _) => replies::tell(answer),
+        Answer::Refused(_, _) => replies::tell(rt, answer),
     }
 }
 
 // `keep FILE`: the name is as a save's.
-fn keep(p: Page, words: &[u8], letter: &[u8], text: &[u32], history: &[u32]) {
+fn keep(rt: &HostRuntime, p: Page, words: &[u8], letter: &[u8], text: &[u32], history: &[u32]) {
     let end = name_end(words);
     if end == 0 {
-        replies::complain(b"keep FILE: the name is missing");
+        replies::complain(rt, b"keep FILE: the name is missing");
         return;
     }
     let mut out = rooms::output();
-    keep_in(p, &words[..end], letter, text, history, &mut out);
+    keep_in(rt, p, &words[..end], letter, text, history, &mut out);
 }
 
 // Whether a page may be left: it is saved, or whoever leaves it was warned.
@@ -258,11 +285,18 @@ pub fn may_leave(p: Page, warned: bool, text: &[u32], history: &[u32]) -> bool
 }
 
 // `quit`: a page that is not saved is left only by a second one.
-fn quit(p: Page, words: &[u8], warned: bool, text: &[u32], history: &[u32]) -> Done
+fn quit(
+    rt: &HostRuntime,
+    p: Page,
+    words: &[u8],
+    warned: bool,
+    text: &[u32],
+    history: &[u32],
+) -> Done
     ensures { desk_at result text.now history.now
         ≡ after_command none (sitting p warned text.now history.now) Quit words.now }
 {
-    if !alone(words) {
+    if !alone(rt, words) {
         return stays(p);
     }
     if may_leave(p, warned, text, history) {
@@ -273,7 +307,10 @@ fn quit(p: Page, words: &[u8], warned: bool, text: &[u32], history: &[u32]) -> D
             left: true,
         };
     }
-    replies::complain(b"the page is not saved: save FILE, or quit again to leave it");
+    replies::complain(
+        rt,
+        b"the page is not saved: save FILE, or quit again to leave it",
+    );
     Done {
         page: p,
         put: false,
@@ -284,6 +321,7 @@ fn quit(p: Page, words: &[u8], warned: bool, text: &[u32], history: &[u32]) -> D
 
 // A command with what follows its name.
 fn act(
+    rt: &HostRuntime,
     p: Page,
     warned: bool,
     verb: Verb,
@@ -306,29 +344,31 @@ fn act(
         },
         Verb::Unknown => {
             replies::complain(
+                rt,
                 b"no such command: show, replace PLACE COUNT CELL.., undo, redo, squeeze K, save FILE, keep FILE, quit",
             );
             stays(p)
         }
         Verb::Show => {
-            show(p, words, &*text);
+            show(rt, p, words, &*text);
             stays(p)
         }
-        Verb::Save => save(p, words, letter, &*text, &*history),
-        Verb::Replace => stays(replace(p, words, &mut *text, &mut *history)),
-        Verb::Undo => stays(undo(p, words, &mut *text, &*history)),
-        Verb::Redo => stays(redo(p, words, &mut *text, &*history)),
-        Verb::Squeeze => stays(squeeze(p, words, &*text, &mut *history)),
+        Verb::Save => save(rt, p, words, letter, &*text, &*history),
+        Verb::Replace => stays(replace(rt, p, words, &mut *text, &mut *history)),
+        Verb::Undo => stays(undo(rt, p, words, &mut *text, &*history)),
+        Verb::Redo => stays(redo(rt, p, words, &mut *text, &*history)),
+        Verb::Squeeze => stays(squeeze(rt, p, words, &*text, &mut *history)),
         Verb::Keep => {
-            keep(p, words, letter, &*text, &*history);
+            keep(rt, p, words, letter, &*text, &*history);
             stays(p)
         }
-        Verb::Quit => quit(p, words, warned, &*text, &*history),
+        Verb::Quit => quit(rt, p, words, warned, &*text, &*history),
     }
 }
 
 // Obeys a line. The letter is lent again to save.
 pub fn obey(
+    rt: &HostRuntime,
     p: Page,
     warned: bool,
     line: &[u8],
@@ -345,6 +385,7 @@ pub fn obey(
     let verb = said.verb;
     let rest = said.rest;
     act(
+        rt,
         p,
         warned,
         verb,

@@ -1,33 +1,40 @@
 // What the desk says: answers on standard output, in the listers' style, and complaints on standard error.
 ghost use Rattle.std.specs.Prelude.{◌≤◌, ◌<◌};
 
-use crate::streams;
 use answer::Answer;
-use libc::{STDERR_FILENO, STDOUT_FILENO};
+use std::io::{Error, Write};
+use std::rt::HostRuntime;
 
 // How many cells are listed at a time.
 const PART: usize = 4096;
 
 // An answer in its two lines.
-pub fn tell(given: Answer) {
+pub fn tell(rt: &HostRuntime, given: Answer) {
     let mut lines = [0u8; 64];
     let told = listing::tell(given, &mut lines);
     if let Answer::Accepted(size) = told {
         if size <= 64 {
-            streams::write_all(STDOUT_FILENO, &lines[..size]);
+            let _ = rt.stdout().write_all(&lines[..size]);
         }
     }
 }
 
 // Lists cells after a count, and writes what is listed from a place on, but for some last bytes.
-fn list_part(count: usize, cells: &[u32], from: usize, less: usize, lines: &mut [u8]) -> bool {
+fn list_part(
+    rt: &HostRuntime,
+    count: usize,
+    cells: &[u32],
+    from: usize,
+    less: usize,
+    lines: &mut [u8],
+) -> bool {
     let listed = listing::list(Answer::Accepted(count), cells, &mut *lines);
     if let Answer::Accepted(size) = listed {
         if less <= size {
             let to = size - less;
             if from <= to {
                 if to <= lines.len() {
-                    return streams::write_all(STDOUT_FILENO, &lines[from..to]);
+                    return rt.stdout().write_all(&lines[from..to]).is_ok();
                 }
             }
         }
@@ -48,16 +55,16 @@ fn part_end(from: usize, length: usize) -> usize
 
 // The cells of a text from a place on, each part behind a space. The lines before the cells, which are not written,
 // have 23 bytes; the LF is written behind the last part.
-fn show_from(cells: &[u32], first: usize, lines: &mut [u8]) {
+fn show_from(rt: &HostRuntime, cells: &[u32], first: usize, lines: &mut [u8]) {
     let n = cells.len();
     let mut at = first;
     while at < n {
         let to = part_end(at, n);
         let less: usize = if to < n { 1 } else { 0 };
-        if !streams::write_all(STDOUT_FILENO, b" ") {
+        if rt.stdout().write_all(b" ").is_err() {
             return;
         }
-        if !list_part(0, &cells[at..to], 23, less, &mut *lines) {
+        if !list_part(rt, 0, &cells[at..to], 23, less, &mut *lines) {
             return;
         }
         at = to;
@@ -65,43 +72,28 @@ fn show_from(cells: &[u32], first: usize, lines: &mut [u8]) {
 }
 
 // The length of a text and its cells, part by part, so that no buffer is as long as the listing.
-pub fn show(cells: &[u32]) {
+pub fn show(rt: &HostRuntime, cells: &[u32]) {
     let mut lines = [0u8; 40960];
     if cells.len() <= PART {
-        list_part(cells.len(), cells, 0, 0, &mut lines);
+        list_part(rt, cells.len(), cells, 0, 0, &mut lines);
         return;
     }
-    if list_part(cells.len(), &cells[..PART], 0, 1, &mut lines) {
-        show_from(cells, PART, &mut lines);
+    if list_part(rt, cells.len(), &cells[..PART], 0, 1, &mut lines) {
+        show_from(rt, cells, PART, &mut lines);
     }
 }
 
 // A line on standard error.
-pub fn complain(what: &[u8]) {
-    streams::write_all(STDERR_FILENO, b"desk: ");
-    streams::write_all(STDERR_FILENO, what);
-    streams::write_all(STDERR_FILENO, b"\n");
+pub fn complain(rt: &HostRuntime, what: &[u8]) {
+    complain::line(&mut rt.stderr(), b"desk", what);
 }
 
-// A line on standard error: what failed, and errno's text.
-pub fn fail(what: &[u8]) {
-    streams::write_all(STDERR_FILENO, b"desk: ");
-    os::fail(what);
+// A line on standard error: what failed, and the system's text.
+pub fn fail(rt: &HostRuntime, what: &[u8], e: Error) {
+    complain::fail(&mut rt.stderr(), b"desk", what, e);
 }
 
 // A line on standard error: why nothing was done to what has a name.
-pub fn refuse(name: &[u8], why: &[u8]) {
-    streams::write_all(STDERR_FILENO, b"desk: ");
-    streams::write_all(STDERR_FILENO, name);
-    streams::write_all(STDERR_FILENO, b": ");
-    streams::write_all(STDERR_FILENO, why);
-    streams::write_all(STDERR_FILENO, b"\n");
-}
-
-// A line on standard error: a name, what failed, and errno's text.
-pub fn fail_at(name: &[u8], what: &[u8]) {
-    streams::write_all(STDERR_FILENO, b"desk: ");
-    streams::write_all(STDERR_FILENO, name);
-    streams::write_all(STDERR_FILENO, b": ");
-    os::fail(what);
+pub fn refuse(rt: &HostRuntime, name: &[u8], why: &[u8]) {
+    save_file::replies::refuse(&mut rt.stderr(), name, why);
 }

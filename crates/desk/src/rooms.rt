@@ -33,3 +33,10 @@ pub fn page_file() -> [u8; 1572865]
 {
     [0; 1572865]
 }
+
+// A line, with its LF.
+pub fn lines() -> [u8; 65536]
+    ensures { 65536 ≡ length result }
+{
+    [0; 65536]
+}

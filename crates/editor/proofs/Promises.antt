@@ -169,7 +169,7 @@ module _ {S : Type 0} {layout : Layout S} {Lies : ℕ → S → Editor → Type 
         {s : S} {l : Ledger} → Kept arrived s l → (calls : List Call) →
         Kept arrived (after layout s calls) (heard layout l s calls)
     kept-calls k [] = k
-    kept-calls k (c ∷ calls) = kept-calls (kept-call k c) calls
+    kept-calls {s = s} {l = l} k (c ∷ calls) = kept-calls {s = (outcome_of layout s c).state} (kept-call k c) calls
 
   reading-heard : (l : Ledger) (s : S) (calls : List Call) → (heard layout l s calls).reading ≡ l.reading
   reading-heard l s [] = refl
@@ -211,7 +211,7 @@ module _ {S : Type 0} {layout : Layout S} {Lies : ℕ → S → Editor → Type 
         {s : S} (back undone : List Step) → LiesAt o s back undone → Good o weigh (reverse_aux back undone) →
         (outcome_of layout (undone-by layout (length back) s) undo).verdict ≡ numbered 13 0
     undo-all [] undone lies good = (undo-answers [] undone lies good).0.1 refl
-    undo-all (x ∷ back) undone lies good = undo-all back (x ∷ undone) (undo-lies back x undone lies good) good
+    undo-all {s = s} (x ∷ back) undone lies good = undo-all {s = (outcome_of layout s undo).state} back (x ∷ undone) (undo-lies back x undone lies good) good
 
     -- bytes that are filled in are those that the save gives
     fills-give :

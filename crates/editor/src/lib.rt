@@ -2,6 +2,7 @@
 
 // The saved mark: what was done "at the last accepted save, or none".
 #![tactic(auto)]
+
 #[derive(Clone, Copy)]
 pub enum Mark {
     None,

@@ -1,5 +1,6 @@
 // Subject lines: RFC 2047's encoded words over UTF-7. Definitions, laws, and the test that tells Q text's bytes apart.
 #![tactic(auto)]
+
 ghost use Rattle.std.specs.Prelude.{◌≡◌};
 ghost use Rattle.encoded_word.specs.Writing.{itself};
 

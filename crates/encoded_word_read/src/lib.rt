@@ -1,5 +1,6 @@
 // Reading subject lines: good words whole, and what else stands there a byte at a time, by the readers of UTF-7.
 #![tactic(auto)]
+
 ghost use Rattle.std.specs.Prelude.{◌≡◌, true, [], ◌++◌, ◌+◌, ◌-◌, ◌<◌, ◌≤◌, length, get_or, take, drop};
 ghost use Rattle.answer.specs.Answer.{in_numbers};
 ghost use Rattle.answer.specs.Output.{leaves, filled};

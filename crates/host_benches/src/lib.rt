@@ -1,5 +1,6 @@
 // Two benches for hosts: their five calls and the question, with the kinds and the marks as numbers.
 #![tactic(auto)]
+
 ghost use Rattle.std.specs.Prelude.{◌≡◌, cond, ◌||◌, [], ltb};
 ghost use Rattle.answer.specs.Answer.{in_numbers, numbered, limit, too_long};
 ghost use Rattle.host_numbers.specs.Numbers.{verdict_in};

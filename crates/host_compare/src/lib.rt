@@ -1,5 +1,6 @@
 // Comparing for hosts: what the comparer finds, in plain numbers.
 #![tactic(auto)]
+
 ghost use Rattle.std.specs.Prelude.{◌≡◌};
 ghost use Rattle.comparer.specs.Compare.{compared_as, compare_of};
 ghost use Rattle.host_compare.specs.Compared.{in_host, hears, text_number};

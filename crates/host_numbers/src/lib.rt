@@ -1,5 +1,6 @@
 // An answer in plain numbers, as it crosses to C.
 #![tactic(auto)]
+
 ghost use Rattle.std.specs.Prelude.{◌≡◌};
 ghost use Rattle.answer.specs.Answer.{in_numbers};
 ghost use Rattle.host_numbers.specs.Numbers.{verdict_in};

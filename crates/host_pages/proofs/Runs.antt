@@ -112,7 +112,7 @@ module _ {arrived : List ℕ} where
   host-after k [] = refl
   host-after {s} k (c ∷ cs) =
       ap (λ (o : HostOutcome). host_after (left_by o) cs) (host-call s (mark-lies k.lies) c)
-      ∙ host-after (kept-call page-lays k c) cs
+      ∙ host-after {s = (outcome_of s c).state} (kept-call page-lays k c) cs
 
   pub host-heard :
       {s : State} {l : Ledger} → Kept page-lays arrived s l → (calls : List Call) →
@@ -121,7 +121,7 @@ module _ {arrived : List ℕ} where
   host-heard {s} {l} k (c ∷ cs) =
       ap (λ (o : HostOutcome). host_heard (fed in_words l c (host_taken o)) (left_by o) cs)
       (host-call s (mark-lies k.lies) c)
-      ∙ host-heard (kept-call page-lays k c) cs
+      ∙ host-heard {s = (outcome_of s c).state} (kept-call page-lays k c) cs
 
   -- what is in hand
   pub host-here : {s : State} {l : Ledger} → Kept page-lays arrived s l → HostPromised arrived (host_state s) l

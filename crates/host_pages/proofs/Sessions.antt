@@ -48,17 +48,17 @@ module _ {bytes : List ℕ} where
       {r : Session} {b : Books} → Together bytes r b → (actions : List Action) →
       host_acted (host_session r) actions ≡ host_session (after r actions)
   host-acted t [] = refl
-  host-acted t (a ∷ actions) =
+  host-acted {r = r} {b = b} t (a ∷ actions) =
       ap (λ (d : HostDone). host_acted d.session actions) (host-act t a)
-      ∙ host-acted (together bytes t (a ∷ [])) actions
+      ∙ host-acted {r = after r (a ∷ [])} (together bytes t (a ∷ [])) actions
 
   host-told :
       {r : Session} {b : Books} → Together bytes r b → (actions : List Action) →
       host_told b (host_session r) actions ≡ heard b r actions
   host-told t [] = refl
-  host-told {b = b} t (a ∷ actions) =
+  host-told {r = r} {b = b} t (a ∷ actions) =
       ap (λ (d : HostDone). host_told (told b a d.accepted) d.session actions) (host-act t a)
-      ∙ host-told (together bytes t (a ∷ [])) actions
+      ∙ host-told {r = after r (a ∷ [])} (together bytes t (a ∷ [])) actions
 
   host-on : {r : Session} {b : Books} → Together bytes r b → HostGoesOn bytes (host_session r) b.ledger
   host-on {r} t =

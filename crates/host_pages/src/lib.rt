@@ -1,5 +1,6 @@
 // The page for hosts: its six calls, the question and the page file, with the kind and the mark as numbers.
 #![tactic(auto)]
+
 ghost use Rattle.std.specs.Prelude.{◌≡◌, cond, ◌||◌, ltb, []};
 ghost use Rattle.answer.specs.Answer.{in_numbers, numbered, limit, too_long};
 ghost use Rattle.ledger.specs.Page.{replies};

@@ -1,5 +1,6 @@
 // Stepping for hosts: a cursor of plain numbers for each format. Every cursor is taken, whatever its numbers.
 #![tactic(auto)]
+
 ghost use Rattle.std.specs.Prelude.{◌≡◌};
 ghost use Rattle.host_steps.specs.Steps.{host_start, host_step, shift_in, utf7_in, utf7_out, utf7_host, utf7_told, name_shift_in, mailbox_in, mailbox_out, mailbox_host, mailbox_told, phase_in, jp2_in, phased_at, jp2_out, jp2_host, jp2_told};
 

@@ -1,5 +1,6 @@
 // ISO-2022-JP-2 (RFC 1554) as document 01 states it: definitions, laws, and the table of the nine designations.
 #![tactic(auto)]
+
 ghost use Rattle.std.specs.Prelude.{◌≡◌, ◌<◌};
 ghost use Rattle.jp2.specs.Table.{designations, row_at, sent, begins, is_list, row_of_number, row_of_escape, row_begun_by};
 ghost use Rattle.jp2.specs.Rule.{graphic};
@@ -74,6 +75,7 @@ const TABLE: [Designation; 9] = [
 ];
 
 // A row of the table, or an empty one past its end.
+#[tactic(auto, unfolding(crate::specs::Table::designations))]
 pub fn row_at(i: usize) -> Designation
     ensures { result ≡ row_at i }
 {
@@ -170,6 +172,7 @@ fn is_row(bytes: &[u8], i: usize) -> bool
     false
 }
 
+#[tactic(auto, unfolding(crate::specs::Rule::graphic))]
 pub fn is_graphic(b: u32) -> bool
     ensures { result ≡ graphic b }
 {
@@ -195,6 +198,7 @@ fn is_ascii(c: u32) -> bool
     c != 27
 }
 
+#[tactic(auto, unfolding(crate::specs::Writable::pair_set))]
 pub fn is_pair_set(n: u32) -> bool
     ensures { result ≡ pair_set n }
 {
@@ -213,6 +217,7 @@ pub fn is_pair_set(n: u32) -> bool
     n == 159
 }
 
+#[tactic(auto, unfolding(crate::specs::Writable::shift_set))]
 pub fn is_shift_set(n: u32) -> bool
     ensures { result ≡ shift_set n }
 {
@@ -222,6 +227,7 @@ pub fn is_shift_set(n: u32) -> bool
     n == 126
 }
 
+#[tactic(auto, unfolding(crate::specs::Writable::codes, crate::specs::Writable::writable))]
 pub fn is_writable(v: u32) -> bool
     ensures { result ≡ writable v }
 {

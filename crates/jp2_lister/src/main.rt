@@ -1,14 +1,15 @@
 // Lists the cells of a JP-2 text that comes on standard input.
 #![tactic(auto)]
-use codec::Format;
-use libc::{STDIN_FILENO, STDOUT_FILENO};
 
-// There is room for a byte more than a lister takes, so that a longer text is known.
-fn main() {
+use codec::Format;
+use std::io::Write;
+
+// There is room for a byte more than a lister takes, so that a longer text is known. What cannot be written is not told.
+fn main(rt: HostRuntime) {
     let mut text = [0u8; 16385];
-    let got = io::read_full(STDIN_FILENO, &mut text);
+    let (got, _) = whole_file::read_full(&mut rt.stdin(), &mut text);
     let mut lines = [0u8; 147483];
     let printed = lister::print(Format::Jp2, &text[..got], &mut lines);
     let size = answer::place(printed);
-    io::write_all(STDOUT_FILENO, &lines[..size]);
+    let _ = rt.stdout().write_all(&lines[..size]);
 }

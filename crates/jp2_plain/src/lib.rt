@@ -1,6 +1,7 @@
 // Document 02, order 12: a second reader of ISO-2022-JP-2, for texts of at most 512 bytes. It is written from RFC 1554,
 // "Formal Syntax", to be read beside it: a function for each production. It shares no code with the main reader.
 #![tactic(auto)]
+
 ghost use Rattle.std.specs.Prelude.{◌≡◌, true, ◌&&◌, ℕ, ◌+◌, ◌*◌, ◌<◌, length, leb};
 ghost use Rattle.answer.specs.Answer.{in_numbers, number_of};
 ghost use Rattle.answer.specs.Bytes.{bytes};
@@ -283,6 +284,7 @@ fn is_one_of_96(b: u8) -> bool
 }
 
 // single-byte-char = <any 7BIT, including bare CR & bare LF, but NOT including CRLF, and not including ESC, SI, SO>
+#[tactic(auto, unfolding(jp2::specs::Writable::ascii))]
 fn is_single_byte_char(b: u8) -> bool
     ensures { result ≡ ascii b }
 {

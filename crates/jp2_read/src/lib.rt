@@ -1,5 +1,6 @@
 // Reading ISO-2022-JP-2: a byte and a cell at a time.
 #![tactic(auto)]
+
 pub mod escapes;
 mod past;
 

@@ -1,5 +1,6 @@
 // The tally of a list of JP-2 cells.
 #![tactic(auto)]
+
 ghost use Rattle.std.specs.Prelude.{◌≡◌, ◌+◌, ◌<◌, ◌^◌, get_or, set, eqb};
 ghost use Rattle.answer.specs.Answer.{in_numbers};
 ghost use Rattle.jp2.specs.Table.{first_where};

@@ -1,5 +1,6 @@
 // Reading ISO-2022-JP-2 texts whole.
 #![tactic(auto)]
+
 mod quick;
 
 ghost use Rattle.std.specs.Prelude.{◌≡◌, ◌≤◌, length, take};

@@ -1,5 +1,6 @@
 // Writing ISO-2022-JP-2.
 #![tactic(auto)]
+
 ghost use Rattle.std.specs.Prelude.{◌≡◌, true, false, cond, map, ◌<◌, ◌≤◌, length, get_or};
 ghost use Rattle.answer.specs.Answer.{limit};
 ghost use Rattle.answer.specs.Inner.{Put};

@@ -100,7 +100,7 @@ module _ (s : State) where
       Whole (Sound s) x → Left k work x
   found_left k work short none w f = absurd (false≢true f)
   found_left k work short (some v) w f =
-      editor-found _ _ (records (squeeze_of s k work).state)
+      editor-found (squeeze_of s k work).state _ (records (squeeze_of s k work).state)
       (page-lays.sees (squeezed-lies page-lays (sound-lies v w short) (sound-legal v w) k work))
 
 pub squeeze-sound : SqueezeSound

@@ -1,5 +1,6 @@
 // The page: what its words mean, what its calls do, the ledger, and demand 3. Definitions and proofs; the calls' code is in the crate page.
 #![tactic(auto)]
+
 use answer::Answer;
 use codec::Kind;
 use editor::Mark;

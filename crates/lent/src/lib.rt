@@ -1,5 +1,6 @@
 // The page lent: document 01, "thin functions take the page by &mut, call the by-value form and store the result".
 #![tactic(auto)]
+
 ghost use Rattle.std.specs.Prelude.{◌≡◌};
 ghost use Rattle.ledger.specs.Page.{state_of, leaves, keeps};
 ghost use Rattle.ledger.specs.Calls.{undo_of, redo_of, save_of};

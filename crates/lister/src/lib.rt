@@ -1,5 +1,6 @@
 // What a lister prints of the bytes that came, in every format.
 #![tactic(auto)]
+
 ghost use Rattle.std.specs.Prelude.{◌≡◌};
 ghost use Rattle.answer.specs.Output.{leaves};
 ghost use Rattle.lister.specs.Printed.{print_into};

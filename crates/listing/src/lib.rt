@@ -1,5 +1,6 @@
 // The listers' output, byte for byte as document 01 lays it down.
 #![tactic(auto)]
+
 ghost use Rattle.std.specs.Prelude.{◌≡◌, [], ◌∷◌, ◌++◌, ◌<◌, ◌≤◌, length, drop};
 ghost use Rattle.answer.specs.Answer.{limit, numbered, in_numbers};
 ghost use Rattle.answer.specs.Output.{leaves, filled};

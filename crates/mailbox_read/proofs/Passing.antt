@@ -90,11 +90,6 @@ no-letter : set_b comma 45 ≡ false
 unfolding set_b value_of
 no-letter = refl
 
--- a choice that is turned round
-pub turned : (t : Bool) → not t ≡ true → t ≡ false
-turned true e = absurd (false≢true e)
-turned false e = refl
-
 module _ {text : List ℕ} {at : ℕ} (h : at < length text) where
   pub gets-alone :
       (st : State) → Between st → get_or text at 0 ≢ 38 → printable (get_or text at 0) ≡ true →

@@ -1,5 +1,6 @@
 // Reading mailbox names: a byte and a cell at a time.
 #![tactic(auto)]
+
 ghost use Rattle.std.specs.Prelude.{◌≡◌, ◌≢◌, true, ◌++◌, ◌+◌, ◌<◌, ◌≤◌, ◌^◌, length, get_or};
 ghost use Rattle.bits.specs.Bits.{bits};
 ghost use Rattle.answer.specs.Answer.{in_numbers};

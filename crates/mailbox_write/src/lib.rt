@@ -1,5 +1,6 @@
 // Writing mailbox names.
 #![tactic(auto)]
+
 ghost use Rattle.std.specs.Prelude.{◌≡◌};
 ghost use Rattle.answer.specs.Output.{leaves};
 ghost use Rattle.utf7.specs.Writing.{write_into};

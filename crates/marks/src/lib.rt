@@ -1,5 +1,6 @@
 // Marks of bytes, 0 for those of a set: how many stand ahead, told by a count of a word's bits and not byte by byte.
 #![tactic(auto)]
+
 ghost use Rattle.std.specs.Prelude.{◌≡◌, cond, ℕ, ◌+◌, ◌≤◌, ◌<◌, length, get_or};
 ghost use Rattle.marks.specs.Marks.{ahead_in, joined, leading};
 

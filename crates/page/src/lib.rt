@@ -1,5 +1,6 @@
 // The five calls on a page: open, replace, undo, redo, save; and the question whether it is unchanged. Each is judged whole before anything is changed.
 #![tactic(auto)]
+
 mod output;
 
 ghost use Rattle.std.specs.Prelude.{◌≡◌, ◌+◌, ◌-◌, ◌≤◌, ◌<◌, ◌^◌, [], ◌++◌, length, take, replicate};

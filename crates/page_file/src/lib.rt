@@ -1,6 +1,7 @@
 // The page file: its ten lines, reading them, and what keeping a page and reading a file answer and leave. Definitions
 // and laws; in code only which of the two forms is due.
 #![tactic(auto)]
+
 ghost use Rattle.std.specs.Prelude.{◌≡◌, max, ltb};
 ghost use Rattle.page_file.specs.File.{mark_number, greatest};
 

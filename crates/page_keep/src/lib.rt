@@ -1,5 +1,6 @@
 // Keeping a page: its file, put into an output.
 #![tactic(auto)]
+
 mod opened;
 mod put;
 

@@ -1,5 +1,6 @@
 // Reading a page's file. Nothing is written before everything is judged.
 #![tactic(auto)]
+
 mod hex;
 mod lines;
 mod opened;

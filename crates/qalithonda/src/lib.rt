@@ -1,5 +1,6 @@
 // The C interface, for hosts in other languages: each function hands a call on and gives its answer in numbers.
 #![tactic(auto)]
+
 pub mod pages;
 pub mod steps;
 

@@ -1,6 +1,7 @@
 // The C interface, its benches. They are an object of their own in the archive, as the comparers are: beside
 // a second user of the readers and of the page, LLVM would inline those otherwise for hosts.
 #![tactic(auto)]
+
 ghost use Rattle.std.specs.Prelude.{◌≡◌, []};
 ghost use Rattle.benches.specs.Calls.{replace_of, undo_of, redo_of, save_of};
 ghost use Rattle.host_pages.specs.Pages.{hears};

@@ -1,6 +1,7 @@
 // The C interface, its comparers. They are an object of their own in the archive: beside a second user of the steps, LLVM
 // would no longer inline those into the steps for hosts, which would take twice as long.
 #![tactic(auto)]
+
 ghost use Rattle.std.specs.Prelude.{◌≡◌};
 ghost use Rattle.codec.specs.declared.Format.TheVariants.{Utf7, Jp2, Mailbox};
 ghost use Rattle.comparer.specs.Compare.{compare_of};

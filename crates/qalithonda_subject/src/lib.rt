@@ -1,6 +1,7 @@
 // The C interface, its subject lines. They are an object of their own in the archive, so that what else is exported is
 // compiled as it was: with a second user of UTF-7's bytes and writer LLVM would inline these elsewhere.
 #![tactic(auto)]
+
 ghost use Rattle.std.specs.Prelude.{◌≡◌};
 ghost use Rattle.reading.specs.Reading.{read_into};
 ghost use Rattle.encoded_word.specs.Rule.{subject};

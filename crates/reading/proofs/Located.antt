@@ -222,9 +222,9 @@ module _
       AllLocated rest at st
   unfolding marked_from
   located-from [] h = tt
-  located-from {base = base} {st = st} (b ∷ rest) h =
-      located-does (rule.byte st b) h refl (kept.keeps st b h.sound)
-      (making.makes base st b h.sound h.from) (λ _ _ _ _. located-from rest)
+  located-from {before = before} {made = made} {base = base} {st = st} {at = at} (b ∷ rest) h =
+      located-does (rule.byte st b) h refl (kept.keeps st b h.sound) (making.makes base st b h.sound h.from)
+      (λ before' made' base' st'. located-from {before = before'} {made = made'} {base = base'} {st = st'} {at = at + 1} rest)
 
   -- the bytes of a text's cells outside runs make those cells
   pub located : LocatedIn rule between in_run marking text

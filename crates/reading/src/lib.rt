@@ -1,6 +1,7 @@
 // What reading a text byte by byte means, over any rule: definitions in specs/, laws in proofs/. The code is that of a
 // cell with its bytes, and of where a cursor of any numbers stands.
 #![tactic(auto)]
+
 ghost use Rattle.std.specs.Prelude.{◌≡◌};
 ghost use Rattle.reading.specs.Spans.{marked_as, last_bytes};
 ghost use Rattle.reading.specs.Stepping.{least};

@@ -1,58 +1,83 @@
 // same_letter KIND FILE FILE: whether two letters that arrived are the same, as document 02, order 11 asks.
 #![tactic(auto)]
-ghost use Rattle.std.specs.Prelude.{◌≡◌, length};
+
+ghost use Rattle.std.specs.Prelude.{◌≡◌, ◌≤◌, length};
 ghost use Rattle.whole_file.specs.Got.{Within};
 ghost use Rattle.same_letter.specs.Room.{letter_room};
 
 use codec::Format;
 use commands::Called;
-use libc::{STDERR_FILENO, STDOUT_FILENO};
+use std::env::{Env, FillError};
+use std::io::{Error, Write};
+use std::rt::HostRuntime;
 use whole_file::Got;
 
-// A line on standard error.
-fn complain(what: &[u8]) {
-    io::write_all(STDERR_FILENO, b"same_letter: ");
-    io::write_all(STDERR_FILENO, what);
-    io::write_all(STDERR_FILENO, b"\n");
+const NAME: &[u8] = b"same_letter";
+
+// The system's numbers for an argument that is not there, and for one that is too long.
+const EINVAL: i32 = 22;
+
+const ENAMETOOLONG: i32 = 36;
+
+// An argument of the program: how many bytes of the buffer it has, or why it is not there.
+fn argument(rt: &HostRuntime, i: usize, buf: &mut [u8]) -> Got
+    ensures { Within result 0 buf.new }
+{
+    match rt.arg(i, buf) {
+        Ok(n) => Got::Bytes(n),
+        Err(FillError::TooLong) => Got::Failed(Error::from_raw_os_error(ENAMETOOLONG)),
+        Err(FillError::NotPresent) => Got::Failed(Error::from_raw_os_error(EINVAL)),
+    }
 }
 
-// A line on standard error: what failed, and errno's text.
-fn fail(what: &[u8]) {
-    io::write_all(STDERR_FILENO, b"same_letter: ");
-    os::fail(what);
+// Whether the program has an argument.
+fn has(rt: &HostRuntime, i: usize) -> bool {
+    let mut none = [0u8; 1];
+    match rt.arg(i, &mut none) {
+        Err(FillError::NotPresent) => false,
+        _ => true,
+    }
 }
 
 // The kind and the two files that the program was started with.
-fn main() {
-    if os::arg_count() != 4 {
-        complain(b"use: same_letter KIND FILE FILE, where KIND is utf7, jp2 or mailbox");
+fn main(rt: HostRuntime) {
+    if !has(&rt, 3) || has(&rt, 4) {
+        complain::line(
+            &mut rt.stderr(),
+            NAME,
+            b"use: same_letter KIND FILE FILE, where KIND is utf7, jp2 or mailbox",
+        );
         return;
     }
     let mut word = [0u8; 8];
-    let n = os::arg(1, &mut word);
-    let named = commands::format_named(&word[..n]);
-    match named {
-        Called::As(format) => compare(format),
-        Called::NoFormat => complain(b"KIND is utf7, jp2 or mailbox"),
+    let n = match rt.arg(1, &mut word) {
+        Ok(n) => n,
+        Err(_) => 0,
+    };
+    match commands::format_named(&word[..n]) {
+        Called::As(format) => compare(&rt, format),
+        Called::NoFormat => {
+            complain::line(&mut rt.stderr(), NAME, b"KIND is utf7, jp2 or mailbox")
+        }
     }
 }
 
 // Reads the letter that an argument names; one that cannot be read is told of.
-fn letter(argument: usize, buf: &mut [u8]) -> Got
+fn letter(rt: &HostRuntime, i: usize, buf: &mut [u8]) -> Got
     ensures { Within result 0 buf.new }
 {
-    let mut path = io::buffer();
-    let n = os::arg(argument, &mut path);
-    if os::errno() != 0 {
-        fail(b"FILE");
-        return Got::Failed;
-    }
-    let got = whole_file::read(&path[..n], &mut *buf);
-    match got {
-        Got::Bytes(_) => got,
-        Got::Failed => {
-            fail(&path[..n]);
+    let mut path = [0u8; 4096];
+    match argument(rt, i, &mut path) {
+        Got::Bytes(n) => {
+            let got = whole_file::read(rt, &path[..n], buf);
+            if let Got::Failed(e) = got {
+                complain::fail(&mut rt.stderr(), NAME, &path[..n], e);
+            }
             got
+        }
+        Got::Failed(e) => {
+            complain::fail(&mut rt.stderr(), NAME, b"FILE", e);
+            Got::Failed(e)
         }
     }
 }
@@ -64,45 +89,28 @@ fn room() -> [u8; 1048577]
     [0; 1048577]
 }
 
-fn compare(format: Format) {
+fn compare(rt: &HostRuntime, format: Format) {
     let mut first = room();
     let mut second = room();
-    compare_in(format, &mut first, &mut second);
+    compare_in(rt, format, &mut first, &mut second);
 }
 
 // Reads both letters, and compares them where both could be read.
-fn compare_in(format: Format, first: &mut [u8], second: &mut [u8]) {
-    let one = letter(2, &mut *first);
-    let two = letter(3, &mut *second);
+fn compare_in(rt: &HostRuntime, format: Format, first: &mut [u8], second: &mut [u8]) {
+    let one = letter(rt, 2, first);
+    let two = letter(rt, 3, second);
     if let Got::Bytes(n) = one {
         if let Got::Bytes(m) = two {
-            compare_front(format, &*first, n, &*second, m);
+            tell(rt, format, &first[..n], &second[..m]);
         }
     }
 }
 
-// So many bytes of each came.
-fn compare_front(format: Format, first: &[u8], n: usize, second: &[u8], m: usize) {
-    if first.len() < n {
-        return;
-    }
-    if second.len() < m {
-        return;
-    }
-    tell(format, &first[..n], &second[..m]);
-}
-
-fn tell(format: Format, first: &[u8], second: &[u8]) {
+fn tell(rt: &HostRuntime, format: Format, first: &[u8], second: &[u8]) {
     let lines = same_lines::print(comparer::compare(format, first, second));
     let size = lines.size;
     let bytes = lines.bytes;
-    write_front(&bytes, size);
-}
-
-// So many of the bytes go to standard output.
-fn write_front(bytes: &[u8], size: usize) {
-    if bytes.len() < size {
-        return;
+    if size <= bytes.len() {
+        let _ = rt.stdout().write_all(&bytes[..size]);
     }
-    io::write_all(STDOUT_FILENO, &bytes[..size]);
 }

@@ -1,5 +1,6 @@
 // What same_letter prints.
 #![tactic(auto)]
+
 ghost use Rattle.std.specs.Prelude.{◌≡◌, List, ◌++◌, ℕ, ◌+◌, ◌-◌, ◌≤◌, length};
 ghost use Rattle.comparer.specs.Compare.{compared_as};
 ghost use Rattle.same_lines.specs.Told.{says, text_number, printed, laid};

@@ -1,6 +1,7 @@
 // Parts of a text, found as the parsers of the crate parsing find them: bytes that must stand there, decimal numbers,
 // and lines of hex digits.
 #![tactic(auto)]
+
 ghost use Rattle.std.specs.Prelude.{◌≡◌, ◌+◌, ◌-◌, ◌*◌, ◌/◌, ◌<◌, ◌≤◌, ◌^◌, min, length, get_or, drop, leb};
 ghost use mathlib.Core.Bool.{true, cond, ◌&&◌};
 ghost use Rattle.answer.specs.Ahead.{Ahead};

@@ -151,7 +151,7 @@ module _ (bytes : List ℕ) where
       {r :
       Session} {b : Books} → Together r b → (actions : List Action) → Together (after r actions) (heard b r actions)
   together t [] = t
-  together t (a ∷ actions) = together (next t a) actions
+  together {r = r} {b = b} t (a ∷ actions) = together {r = (act r a).session} (next t a) actions
 
 pub calls_alone : CallsAlone
 unfolding told

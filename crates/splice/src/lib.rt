@@ -1,5 +1,6 @@
 // An edit of a buffer in place, each element moved at most once. The first elements of a buffer are in use.
 #![tactic(auto)]
+
 ghost use Rattle.std.specs.Prelude.{◌≡◌, ◌++◌, ◌+◌, ◌-◌, ◌≤◌, length, take, drop};
 ghost use Rattle.std.proofs.Math.Seq.{paste};
 ghost use Rattle.ledger.specs.Words.{pad};

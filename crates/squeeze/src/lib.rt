@@ -1,6 +1,7 @@
 // Squeeze: the oldest standing steps of a page folded into one. No text is undone in place: the cells of the texts
 // before are followed through the records to where they stand, in a record or in the present text, a stretch at a time.
 #![tactic(auto)]
+
 ghost use Rattle.std.specs.Prelude.{◌≡◌, false, ◌+◌, ◌≤◌, ◌<◌, length, get_or, take, drop};
 ghost use Rattle.std.proofs.Math.Seq.{paste};
 ghost use Rattle.answer.specs.Answer.{limit, numbered, in_numbers};

@@ -1,5 +1,6 @@
 // A reader that remembers its text, over the steps of utf7_read, jp2_read and mailbox_read: document 01, "step through a lent text one cell at a time".
 #![tactic(auto)]
+
 ghost use Rattle.std.specs.Prelude.{◌≡◌};
 ghost use Rattle.stepper.specs.Stepper.{told, start_of, given_at, place_after, opened, given_by, moved_of};
 

@@ -13,6 +13,8 @@ use Rattle.utf7.specs.Rule.{Shift, outside, utf7}
 use Rattle.utf7.specs.Writing.{IsUnit, Piece, self, sign, stretch, pieces, letters, spell, spell_all, writing}
 use Rattle.utf7.specs.Lines.{line_end, LinesClosed}
 use Rattle.utf7.specs.declared.Style.{Style}
+use Rattle.utf7.specs.declared.Style.TheVariants.{Header, Body, Name}
+use Rattle.bits.specs.Bits.{bits_of}
 use Rattle.utf7.proofs.Sets.{own-direct, mail-sign, mail-last}
 use Rattle.utf7.proofs.Round.{Good, AllGood, shifted-units, xs, xs-below, self-walk, piece-walk, pieces-good}
 
@@ -43,6 +45,12 @@ letters-inner : (xs : List ℕ) → Each (λ x. x < 64) xs → Inner (map (lette
 letters-inner [] h = tt
 letters-inner (x ∷ xs) h = (letter-inner x h.0, letters-inner xs h.1)
 
+stretch-inner : (style : Style) → Mail style → (us : List ℕ) → Inner (letters slash (bits_of 16 us) ++ 45 ∷ []) → Inner (spell style (stretch us))
+unfolding spell
+stretch-inner Header m us q = (refl, q)
+stretch-inner Body m us q = (refl, q)
+stretch-inner Name m us q = absurd m
+
 module _ (style : Style) (m : Mail style) where
   piece-lines : (p : Piece) → Good style p → (rest : List ℕ) → LinesClosed rest outside → LinesClosed (spell style p ++ rest) outside
   unfolding LinesClosed spell letters
@@ -52,7 +60,7 @@ module _ (style : Style) (m : Mail style) where
       let ls = xs us g.0 (shifted-units style us g.1) in
       let i = letters-inner ls (xs-below us g.0 (shifted-units style us g.1)) in
       let q = inner-append (map (letter_of slash) ls) (45 ∷ []) i (refl, tt) in
-      walk-lines (piece-walk style m (stretch us) g) (rw (mail-sign style m, mail-last style m) (refl, q)) rest h
+      walk-lines (piece-walk style m (stretch us) g) (stretch-inner style m us q) rest h
 
   all_lines : (ps : List Piece) → AllGood style ps → LinesClosed (spell_all style ps) outside
   unfolding spell_all LinesClosed

@@ -1,5 +1,6 @@
 // UTF-7 (RFC 2152) as document 01 states it: definitions, laws, and the tests that tell its sets apart.
 #![tactic(auto)]
+
 ghost use Rattle.std.specs.Prelude.{◌≡◌, true, ◌+◌, ◌≤◌, length, drop};
 ghost use Rattle.answer.specs.Ahead.{Ahead};
 ghost use Rattle.utf7.specs.declared.Style.TheVariants.{Header, Name};

@@ -457,7 +457,7 @@ pub units-front :
     take (length (units_between last s at to)) (units_of m x) ≡ units_between last s at to
 units-front {last = last} zero p h v = rw (no-unit last p (omega arith))
 units-front {last} {s} {at} {to} {x} (suc m) p h v =
-    eight (λ g. units-front m (span-from (at + 8) p (omega arith) g) (omega arith) (known-shift v)) (leb (at + 8) to) refl
+    eight (λ g. units-front {at = at + 8} m (span-from (at + 8) p (omega arith) g) (omega arith) (known-shift v)) (leb (at + 8) to) refl
   where
     three : (t : Bool) → leb (at + 3) to ≡ t → to < at + 6 → take (length (units_between last s at to)) (units_of (suc m) x) ≡ units_between last s at to
     three true e l = rw (one_unit p v (leb-true (at + 3) to e) l)

@@ -1,5 +1,6 @@
 // Reading UTF-7 and mailbox names: a whole text at a time.
 #![tactic(auto)]
+
 pub mod names;
 mod quick;
 

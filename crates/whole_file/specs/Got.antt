@@ -6,4 +6,4 @@ use Rattle.whole_file.specs.declared.Got.TheVariants.{Bytes, Failed}
 -- the bytes in a buffer after a read behind its first `at`
 abbrev pub Within : Got → ℕ → List ℕ → Type 0
 Within (Bytes n) at buf = (at ≤ n) × (n ≤ length buf)
-Within Failed at buf = Unit
+Within (Failed e) at buf = Unit

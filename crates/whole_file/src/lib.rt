@@ -1,59 +1,58 @@
-// A file read whole.
+// A file, or an input, read whole.
 #![tactic(auto)]
-ghost use Rattle.std.specs.Prelude.{◌≤◌, ◌≡◌, length};
+
+ghost use Rattle.std.specs.Prelude.{◌≤◌, ◌<◌, ◌≡◌, length, take, IfOk, OnOk, OnErr};
+ghost use Rattle.std.specs.Io.KnownBytes.{Consumes, IsAtEnd, Keeps};
 ghost use Rattle.whole_file.specs.Got.{Within};
 
-use libc::EINTR;
+use std::io;
+use std::io::{Error, ErrorKind, Read};
+use std::rt::Files;
 
-// A proved loop has to end, and nothing says that the signals do: so it counts down from a number that no run uses up.
-const ROUNDS: u64 = 18446744073709551615;
+// The system's number for bytes that are no text, "Invalid or incomplete multibyte or wide character".
+const EILSEQ: i32 = 84;
 
-// How many bytes of a file came; or none, since it could not be opened or read, and errno says why.
+// How many bytes of a file came; or none, since it could not be opened or read, and why.
 #[derive(Clone, Copy)]
 pub enum Got {
     Bytes(usize),
-    Failed,
+    Failed(Error),
 }
 
-// Reads once, and again where a signal interrupted that before any byte came: -1 where it fails, and otherwise how many
-// bytes came, none at the end of the file.
-fn read_once(fd: i32, buf: &mut [u8]) -> isize {
-    let mut rounds = ROUNDS;
-    while 0 < rounds {
-        rounds -= 1;
-        let got = libc::read(fd, &mut *buf);
-        if 0 <= got {
-            return got;
-        }
-        if os::errno() != EINTR {
-            return -1;
+// Reads once, and again where a signal interrupted that before any byte came: none at the end of the file.
+fn read_once<R: Read>(file: &mut R, buf: &mut [u8]) -> Got
+    ensures { Within result 0 buf.new }
+{
+    // A proved loop has to end, and nothing says that the signals do: so it counts to a number that no run uses up.
+    for _ in 0..u64::MAX {
+        match file.read(buf) {
+            Ok(n) => return Got::Bytes(n),
+            Err(e) if e.kind() == ErrorKind::Interrupted => {}
+            Err(e) => return Got::Failed(e),
         }
     }
-    -1
+    Got::Failed(Error::from(ErrorKind::TimedOut))
 }
 
 // Reads once behind the first bytes of a buffer, and says how many there are then: no more at the end of the file.
-fn read_on(fd: i32, buf: &mut [u8], at: usize) -> Got
+pub fn read_on<R: Read>(file: &mut R, buf: &mut [u8], at: usize) -> Got
     requires { at ≤ length buf.old }
     ensures { Within result at buf.new × (length buf.new ≡ length buf.old) }
 {
-    let got = read_once(fd, &mut buf[at..]);
-    if got < 0 {
-        return Got::Failed;
+    match read_once(file, &mut buf[at..]) {
+        Got::Bytes(n) => Got::Bytes(at + n),
+        Got::Failed(e) => Got::Failed(e),
     }
-    Got::Bytes(at + io::count(got, &buf[at..]))
 }
 
 // Reads to the end of a file, or until the buffer is full.
-fn read_all(fd: i32, buf: &mut [u8]) -> Got
+pub fn read_all<R: Read>(file: &mut R, buf: &mut [u8]) -> Got
     ensures { Within result 0 buf.new }
 {
     let mut at: usize = 0;
     while at < buf.len() {
-        match read_on(fd, &mut *buf, at) {
-            Got::Failed => {
-                return Got::Failed;
-            }
+        match read_on(file, buf, at) {
+            Got::Failed(e) => return Got::Failed(e),
             Got::Bytes(n) => {
                 if n <= at {
                     return Got::Bytes(at);
@@ -66,15 +65,53 @@ fn read_all(fd: i32, buf: &mut [u8]) -> Got
 }
 
 // Reads a file by its name, to its end or until the buffer is full. A file that was only read is closed whatever the
-// close says, and errno is the read's.
-pub fn read(name: &[u8], buf: &mut [u8]) -> Got
+// close says. A name that is no UTF-8 text is refused with EILSEQ: the library opens no other.
+pub fn read<R: Files>(rt: &R, name: &[u8], buf: &mut [u8]) -> Got
     ensures { Within result 0 buf.new }
 {
-    let fd = os::open_read(name);
-    if fd < 0 {
-        return Got::Failed;
+    let Ok(path) = std::str::from_utf8(name) else {
+        return Got::Failed(Error::from_raw_os_error(EILSEQ));
+    };
+    match std::fs::open(rt, path) {
+        Ok(mut file) => read_all(&mut file, buf),
+        Err(e) => Got::Failed(e),
     }
-    let got = read_all(fd, &mut *buf);
-    libc::close(fd);
-    got
+}
+
+// Reads once, and again where a signal interrupted that before any byte came. What the bytes are is known where those of
+// the reader are.
+fn read_some<R: Read>(input: &mut R, buf: &mut [u8]) -> io::Result<usize>
+    ensures within { IfOk result (λ n. n ≤ length buf.new) }
+    ensures bytes { IfOk result (λ n. Consumes (R.remaining input.old) (R.remaining input.new) (take n buf.new)) }
+    ensures end { IfOk result (λ n. n ≡ 0 → 0 < length buf.old → IsAtEnd (R.remaining input.new)) }
+    ensures none { OnErr result (Keeps (R.remaining input.old) (R.remaining input.new)) }
+{
+    // As above.
+    for _ in 0..u64::MAX {
+        match input.read(buf) {
+            Ok(n) => return Ok(n),
+            Err(e) if e.kind() == ErrorKind::Interrupted => {}
+            Err(e) => return Err(e),
+        }
+    }
+    Err(Error::from(ErrorKind::TimedOut))
+}
+
+// Reads until a buffer is full, the input ends or a read fails. It says how many bytes came, which are the next ones of
+// the input, and no more of it is read; and whether a read failed. Where none did, and the buffer is not full, the input
+// has ended.
+pub fn read_full<R: Read>(input: &mut R, buf: &mut [u8]) -> (usize, io::Result<()>)
+    ensures within { result.0 ≤ length buf.new }
+    ensures bytes { Consumes (R.remaining input.old) (R.remaining input.new) (take result.0 buf.new) }
+    ensures end { OnOk result.1 (result.0 < length buf.new → IsAtEnd (R.remaining input.new)) }
+{
+    let mut at: usize = 0;
+    while at < buf.len() {
+        match read_some(input, &mut buf[at..]) {
+            Ok(0) => return (at, Ok(())),
+            Ok(n) => at += n,
+            Err(e) => return (at, Err(e)),
+        }
+    }
+    (at, Ok(()))
 }

@@ -7,5 +7,5 @@ returns : tie.Need-returns
 unfolding limit
 returns c = search rules
 
-pub over-limit-spec : {M : Type 1} → statement M
-over-limit-spec = tie.close (tie.spec returns)
+pub over_limit_spec : {M : Type 1} → statement M
+over_limit_spec = tie.close (tie.spec returns)

@@ -7,52 +7,52 @@ use Rattle.bench_records.proofs.Turns.{no-bench, not-mine, beyond, too_long, one
 use Rattle.bench_records.proofs.pass_one.Statement.{statement}
 use Rattle.bench_records.proofs.pass_one.Tie as tie
 
-returns : tie.Need-returns
+returns : tie.Need-returns-then-h-gt1
 returns c =
-    let a = c.before.before.before.before.args in
-    sym (no-bench a.room a.standing a.mine a.at a.p a.h c.before.before.if1.true (omega arith))
+    let a = c.args in
+    sym (no-bench a.room a.standing a.mine a.at a.p a.h c.if-h-mine.true (omega arith))
 
-returns-2 : tie.Need-returns-2
+returns-2 : tie.Need-returns-then-h-mine
 returns-2 c =
-    let a = c.before.before.before.before.args in
-    sym (not-mine a.room a.standing a.mine a.at a.p a.h c.before.before.if1.true (omega arith))
+    let a = c.args in
+    sym (not-mine a.room a.standing a.mine a.at a.p a.h c.if-h-mine.true (omega arith))
 
-add-if3 : tie.Need-overflow-add-if3
+add-if3 : tie.Need-overflow_add-h
 add-if3 c = omega (arith, limit-small)
 
-returns-3 : tie.Need-returns-3
+returns-3 : tie.Need-returns-then-len-h
 returns-3 c =
-    let a = c.before.before.before.before.args in
+    let a = c.args in
     sym (beyond a.room a.standing a.mine a.at a.p a.h (omega arith) (omega arith))
 
-sub-after : tie.Need-overflow-sub-after
+sub-after : tie.Need-overflow_sub-after
 sub-after c = search rules
 
-add-after : tie.Need-overflow-add-after
+add-after : tie.Need-overflow_add-after
 add-after c = omega (arith, limit-small)
 
-returns-4 : tie.Need-returns-4
+returns-4 : tie.Need-returns-then-room-after
 returns-4 c =
-    let a = c.before.before.before.before.before.before.args in
+    let a = c.args in
     sym (too_long a.room a.standing a.mine a.at a.p a.h (omega arith) (omega arith) (omega arith))
 
-add-size : tie.Need-overflow-add-size
+add-size : tie.Need-overflow_add-size
 add-size c = omega (arith, limit-small)
 
-add-size-2 : tie.Need-overflow-add-size-2
+add-size-2 : tie.Need-overflow_add-size-2
 add-size-2 c = omega (arith, limit-small)
 
-pass-own-requires : tie.Need-pass-own-requires
+pass-own-requires : tie.Need-pass_own-requires
 pass-own-requires c κs = search rules
 
-returns-5 : tie.Need-returns-5
+returns-5 : tie.Need-returns
 returns-5 c =
-    let a = c.before.before.before.before.before.before.before.before.args in
-    ap Through c.pass-own.ensures
+    let a = c.args in
+    ap Through c.pass_own.ensures
     ∙ sym (one_more a.room a.standing a.mine a.at a.p a.h (omega arith) (omega arith) (omega arith))
 
-pub pass-one-spec : {M : Type 1} → statement M
-pass-one-spec =
+pub pass_one_spec : {M : Type 1} → statement M
+pass_one_spec =
     tie.close
     (tie.spec
     returns

@@ -7,87 +7,87 @@ use Rattle.bench_records.proofs.Judging.{used-beyond, not-blank, first_off, seco
 use Rattle.bench_records.proofs.survey.Statement.{statement}
 use Rattle.bench_records.proofs.survey.Tie as tie
 
-returns : tie.Need-returns
+returns : tie.Need-returns-then-history-used
 returns c =
-    let a = c.before.before.before.before.args in
+    let a = c.args in
     sym (used-beyond (state_of a.b a.text0.now a.text1.now a.history.now) a.mine (omega arith))
 
-zero-from-requires : tie.Need-zero-from-requires
+zero-from-requires : tie.Need-zero_from-requires
 zero-from-requires c κs = search rules
 
-returns-2 : tie.Need-returns-2
+returns-2 : tie.Need-returns-then-not-zero_from
 returns-2 c =
-    let a = c.before.before.before.before.before.before.args in
-    let z = c.before.zero-from in
+    let a = c.args in
+    let z = c.zero_from in
     sym
     (not-blank (state_of a.b a.text0.now a.text1.now a.history.now) a.mine (omega arith)
-    (sym z.ensures ∙ not-true _ c.if2.true))
+    (sym z.ensures ∙ c.if-not-zero_from.true))
 
-bench-fitted-requires : tie.Need-bench-fitted-requires
+bench-fitted-requires : tie.Need-bench_fitted-first-requires
 bench-fitted-requires c κs = search rules
 
-enum-known-first : tie.Need-enum-known-first
+enum-known-first : tie.Need-enum_known-first
 enum-known-first c = search rules
 
-enum_told : tie.Need-enum-told
+enum_told : tie.Need-enum_told-1
 enum_told c = search rules
 
-returns-3 : tie.Need-returns-3
+returns-3 : tie.Need-returns-in_default
 returns-3 c =
-    let a = c.before.before.before.before.before.before.before.before.before.args in
-    let z = c.before.before.before.before.zero-from in
-    let f = c.before.before.bench-fitted in
+    let a = c.args in
+    let z = c.zero_from in
+    let f = c.bench_fitted-first in
     sym
     (first_off (state_of a.b a.text0.now a.text1.now a.history.now) a.mine (omega arith)
-    (sym z.ensures ∙ not-false _ c.before.before.before.if2.false) (sym f.ensures ∙ c.enum_told.given.1))
+    (sym z.ensures ∙ c.if-not-zero_from.false) (sym f.ensures ∙ c.in_default.is))
 
-bench-fitted-requires-2 : tie.Need-bench-fitted-requires-2
+bench-fitted-requires-2 : tie.Need-bench_fitted-second-requires
 bench-fitted-requires-2 c κs = search rules
 
-enum-known-second : tie.Need-enum-known-second
+enum-known-second : tie.Need-enum_known-second
 enum-known-second c = search rules
 
-enum-told-2 : tie.Need-enum-told-2
+enum-told-2 : tie.Need-enum_told-in_default-second
 enum-told-2 c = search rules
 
-returns-4 : tie.Need-returns-4
+returns-4 : tie.Need-returns-in_default-second
 returns-4 c =
-    let a = c.before.before.before.before.before.before.before.before.before.before.before.before.before.args in
-    let z = c.before.before.before.before.before.before.before.before.zero-from in
-    let f = c.before.before.bench-fitted2 in
+    let a = c.args in
+    let z = c.zero_from in
+    let f = c.bench_fitted-second in
     sym
     (second-off (state_of a.b a.text0.now a.text1.now a.history.now) a.mine (omega arith)
-    (sym z.ensures ∙ not-false _ c.before.before.before.before.before.before.before.if2.false)
-    (sym f.ensures ∙ c.enum-told2.given.1))
+    (sym z.ensures ∙ c.if-not-zero_from.false)
+    (sym f.ensures ∙ c.in_default-second.is))
 
-returns-5 : tie.Need-returns-5
+returns-5 : tie.Need-returns-then-mine-eq0
 returns-5 c =
-    let a = c.before.before.before.before.before.before.before.before.before.before.before.before.before.before.before.args in
-    let z = c.before.before.before.before.before.before.before.before.before.before.zero-from in
-    let f = c.before.before.before.before.before.before.before.before.bench-fitted in
-    let g = c.before.before.before.before.bench-fitted2 in
+    let a = c.args in
+    let z = c.zero_from in
+    let f = c.bench_fitted-first in
+    let g = c.bench_fitted-second in
     sym
     (fits-first (state_of a.b a.text0.now a.text1.now a.history.now) a.mine (omega arith)
-    (sym z.ensures ∙ not-false _ c.before.before.before.before.before.before.before.before.before.if2.false) _ _
-    (sym f.ensures ∙ c.before.before.before.before.before.before.first.given.1)
-    (sym g.ensures ∙ c.before.before.second.given.1)
-    c.if3.true)
+    (sym z.ensures ∙ c.if-not-zero_from.false) _ _
+    (sym f.ensures ∙ c.in-Through.is)
+    (sym g.ensures ∙ c.in-Through-second.is)
+    c.if-mine-eq0.true)
 
-returns-6 : tie.Need-returns-6
+returns-6 : tie.Need-returns
 returns-6 c =
-    let a = c.before.before.before.before.before.before.before.before.before.before.before.before.before.before.before.args in
-    let z = c.before.before.before.before.before.before.before.before.before.before.zero-from in
-    let f = c.before.before.before.before.before.before.before.before.bench-fitted in
-    let g = c.before.before.before.before.bench-fitted2 in
+    let a = c.args in
+    let z = c.zero_from in
+    let f = c.bench_fitted-first in
+    let g = c.bench_fitted-second in
     sym
     (fits-second (state_of a.b a.text0.now a.text1.now a.history.now) a.mine (omega arith)
-    (sym z.ensures ∙ not-false _ c.before.before.before.before.before.before.before.before.before.if2.false) _ _
-    (sym f.ensures ∙ c.before.before.before.before.before.before.first.given.1)
-    (sym g.ensures ∙ c.before.before.second.given.1)
-    c.before.before.before.before.before.before.before.before.before.before.before.before.before.before.before.requires.3 c.if3.false)
+    (sym z.ensures ∙ c.if-not-zero_from.false) _ _
+    (sym f.ensures ∙ c.in-Through.is)
+    (sym g.ensures ∙ c.in-Through-second.is)
+    c.requires.3 c.if-mine-eq0.false)
 
-pub survey-spec : {M : Type 1} → statement M
-survey-spec =
+pub survey_spec : {M : Type 1} → statement M
+survey_spec =
     tie.close
     (tie.spec
     returns

@@ -8,11 +8,11 @@ use borrow.Author.Rules.{rules}
 use Rattle.bits.proofs.power.Statement.{statement}
 use Rattle.bits.proofs.power.Tie as tie
 
-shl-result : tie.Need-overflow-shl-result
+shl-result : tie.Need-overflow_shl-result
 shl-result c = search rules
 
 returns : tie.Need-returns
 returns c = shl_exact 1 (c.args.k % 32) 32 (lit< tt) (omega arith) ∙ one-mul (2 ^ (c.args.k % 32))
 
-pub power-spec : {M : Type 1} → statement M
-power-spec = tie.close (tie.spec shl-result returns)
+pub power_spec : {M : Type 1} → statement M
+power_spec = tie.close (tie.spec shl-result returns)

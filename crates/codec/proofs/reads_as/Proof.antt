@@ -5,38 +5,38 @@ use Rattle.codec.proofs.reads_as.Statement.{statement}
 use Rattle.codec.proofs.reads_as.Tie as tie
 use Rattle.utf7_whole.proofs.reads_as.Reads as reads-as-reads'
 
-enum_told : tie.Need-enum-told
+enum_told : tie.Need-enum_told-1
 enum_told c = search rules
 
-reads-as-requires : tie.Need-reads-as-requires
+reads-as-requires : tie.Need-reads_as-requires
 reads-as-requires c κs = search rules
 
-enum-told-2 : tie.Need-enum-told-2
+enum-told-2 : tie.Need-enum_told-in-Jp2
 enum-told-2 c = search rules
 
-reads-as-requires-2 : tie.Need-reads-as-requires-2
+reads-as-requires-2 : tie.Need-reads_as-requires-in-Jp2
 reads-as-requires-2 c κs = search rules
 
-enum-told-3 : tie.Need-enum-told-3
+enum-told-3 : tie.Need-enum_told-in-Mailbox
 enum-told-3 c = search rules
 
-reads-as-requires-3 : tie.Need-reads-as-requires-3
+reads-as-requires-3 : tie.Need-reads_as-requires-in-Mailbox
 reads-as-requires-3 c κs = search rules
 
-returns : tie.Need-returns
+returns : tie.Need-returns-in-Utf7
 unfolding reads_in reading_of reads_as
-returns c = rw c.before.enum_told.given.1 c.reads_as.ensures
+returns c = rw c.in-Utf7.is c.reads_as.ensures
 
-returns-2 : tie.Need-returns-2
+returns-2 : tie.Need-returns-in-Jp2
 unfolding reads_in reading_of reads_as
-returns-2 c = rw c.before.enum-told2.given.1 c.reads-as2.ensures
+returns-2 c = rw c.in-Jp2.is c.reads_as-in-Jp2.ensures
 
-returns-3 : tie.Need-returns-3
+returns-3 : tie.Need-returns-in-Mailbox
 unfolding reads_in reading_of reads_as
-returns-3 c = rw c.before.enum-told3.given.1 c.reads-as3.ensures
+returns-3 c = rw c.in-Mailbox.is c.reads_as-in-Mailbox.ensures
 
-pub reads-as-spec : {M : Type 1} → statement M
-reads-as-spec =
+pub reads_as_spec : {M : Type 1} → statement M
+reads_as_spec =
     tie.close
     (tie.spec
     enum_told

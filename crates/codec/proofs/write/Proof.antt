@@ -4,44 +4,44 @@ use Rattle.codec.proofs.write.Statement.{statement}
 use Rattle.codec.proofs.write.Tie as tie
 use Rattle.utf7_write.proofs.write.Reads as write-reads'
 
-enum_told : tie.Need-enum-told
+enum_told : tie.Need-enum_told-1
 enum_told c = search rules
 
 write-requires : tie.Need-write-requires
 write-requires c κs = search rules
 
-enum-told-2 : tie.Need-enum-told-2
+enum-told-2 : tie.Need-enum_told-in-Utf7Body
 enum-told-2 c = search rules
 
-write-requires-2 : tie.Need-write-requires-2
+write-requires-2 : tie.Need-write-requires-in-Utf7Body
 write-requires-2 c κs = search rules
 
-enum-told-3 : tie.Need-enum-told-3
+enum-told-3 : tie.Need-enum_told-in-Jp2
 enum-told-3 c = search rules
 
-write-requires-3 : tie.Need-write-requires-3
+write-requires-3 : tie.Need-write-requires-in-Jp2
 write-requires-3 c κs = search rules
 
-same_length : tie.Need-same-length
+same_length : tie.Need-shape_of-out-in-Utf7Header
 same_length c = search rules
 
-returns : tie.Need-returns
+returns : tie.Need-returns-in-Utf7Header
 unfolding write_in
-returns c = rw c.before.before.before.before.enum_told.given.1 c.before.before.write.ensures
+returns c = rw c.in-Utf7Header.is c.write.ensures
 
-same-length-2 : tie.Need-same-length-2
+same-length-2 : tie.Need-shape_of-out-in-Utf7Body
 same-length-2 c = search rules
 
-returns-2 : tie.Need-returns-2
+returns-2 : tie.Need-returns-in-Utf7Body
 unfolding write_in
-returns-2 c = rw c.before.before.before.before.enum-told2.given.1 c.before.before.write2.ensures
+returns-2 c = rw c.in-Utf7Body.is c.write-in-Utf7Body.ensures
 
-same-length-3 : tie.Need-same-length-3
+same-length-3 : tie.Need-shape_of-out-in-Jp2
 same-length-3 c = search rules
 
-returns-3 : tie.Need-returns-3
+returns-3 : tie.Need-returns-in-Jp2
 unfolding write_in
-returns-3 c = rw c.before.before.before.before.enum-told3.given.1 c.before.before.write3.ensures
+returns-3 c = rw c.in-Jp2.is c.write-in-Jp2.ensures
 
 pub write_spec : {M : Type 1} → statement M
 write_spec =

@@ -4,49 +4,39 @@ use borrow.Author.Rules.{rules}
 use Rattle.commands.proofs.format_named.Statement.{statement}
 use Rattle.commands.proofs.format_named.Tie as tie
 
-returns : tie.Need-returns
+returns : tie.Need-returns-then-is_word
 unfolding format_named
-returns c = rw (sym c.before.is_IsWord.ensures ∙ c.if1.true)
+returns c = rw (sym c.is_word.ensures ∙ c.if-is_word.true)
 
-returns-2 : tie.Need-returns-2
+returns-2 : tie.Need-returns-then-is_word-2
 unfolding format_named
 returns-2 c =
-    let a = c.before.before.before in
-    rw (sym a.before.is_IsWord.ensures ∙ a.if1.false, sym c.before.is-word2.ensures ∙ c.if2.true)
+    let a = c in
+    rw (sym a.is_word.ensures ∙ a.if-is_word.false, sym c.is_word-2.ensures ∙ c.if-is_word-2.true)
 
-returns-3 : tie.Need-returns-3
+returns-3 : tie.Need-returns-then-is_word-3
 unfolding format_named
 returns-3 c =
-    let b = c.before.before.before in
-    let a = b.before.before.before in
+    let b = c in
+    let a = b in
     rw (
-      sym a.before.is_IsWord.ensures ∙ a.if1.false,
-      sym b.before.is-word2.ensures ∙ b.if2.false,
-      sym c.before.is-word3.ensures ∙ c.if3.true,
+      sym a.is_word.ensures ∙ a.if-is_word.false,
+      sym b.is_word-2.ensures ∙ b.if-is_word-2.false,
+      sym c.is_word-3.ensures ∙ c.if-is_word-3.true,
     )
 
-returns-4 : tie.Need-returns-4
+returns-4 : tie.Need-returns
 unfolding format_named
 returns-4 c =
-    let b = c.before.before.before in
-    let a = b.before.before.before in
+    let b = c in
+    let a = b in
     rw (
-      sym a.before.is_IsWord.ensures ∙ a.if1.false,
-      sym b.before.is-word2.ensures ∙ b.if2.false,
-      sym c.before.is-word3.ensures ∙ c.if3.false,
+      sym a.is_word.ensures ∙ a.if-is_word.false,
+      sym b.is_word-2.ensures ∙ b.if-is_word-2.false,
+      sym c.is_word-3.ensures ∙ c.if-is_word-3.false,
     )
 
-pub format-named-spec : {M : Type 1} → statement M
-format-named-spec =
+pub format_named_spec : {M : Type 1} → statement M
+format_named_spec =
     tie.close
-    (tie.spec
-    (λ c. search rules)
-    (λ c κs. search rules)
-    returns
-    (λ c. search rules)
-    (λ c κs. search rules)
-    returns-2
-    (λ c. search rules)
-    (λ c κs. search rules)
-    returns-3
-    returns-4)
+    (tie.spec (λ c κs. search rules) returns (λ c κs. search rules) returns-2 (λ c κs. search rules) returns-3 returns-4)

@@ -6,45 +6,45 @@ use borrow.Author.Rules.{rules}
 use Rattle.commands.proofs.is_word.Statement.{statement}
 use Rattle.commands.proofs.is_word.Tie as tie
 
-abbrev invariant-loop : tie.invariant-loop
+abbrev invariant-loop : tie.invariant-loop-i
 invariant-loop word name i₀ i = Agree word name i
 
-abbrev decreases-loop : tie.decreases-loop
+abbrev decreases-loop : tie.decreases-loop-i
 decreases-loop word name i₀ i = length word - i
 
-returns : tie.Need-returns invariant-loop decreases-loop
-returns c = not_same _ _ (λ e. omega (arith, c.if1.true))
+returns : tie.Need-returns-then-word-name invariant-loop decreases-loop
+returns c = not_same _ _ (λ e. omega (arith, c.if-word-name.true))
 
-loop-holds : tie.Need-loop-init invariant-loop decreases-loop
+loop-holds : tie.Need-loop-i-init invariant-loop decreases-loop
 loop-holds c = agree-start _ _
 
-shared-slice-read-if2 : tie.Need-shared-slice-read-if2 invariant-loop decreases-loop
+shared-slice-read-if2 : tie.Need-bounds-word-i invariant-loop decreases-loop
 shared-slice-read-if2 c = search rules
 
-shared-slice-read-if2-2 : tie.Need-shared-slice-read-if2-2 invariant-loop decreases-loop
+shared-slice-read-if2-2 : tie.Need-bounds-name-i invariant-loop decreases-loop
 shared-slice-read-if2-2 c = search rules
 
-returns-2 : tie.Need-returns-2 invariant-loop decreases-loop
+returns-2 : tie.Need-returns-then-word-i invariant-loop decreases-loop
 returns-2 c =
-    let l = c.before.before.before in
-    agree-not l.before.loop.invariant (omega arith) (omega arith) c.if2.true
+    let l = c in
+    agree-not l.loop-i.invariant (omega arith) (omega arith) c.if-word-i.true
 
-add-i : tie.Need-overflow-add-i invariant-loop decreases-loop
+add-i : tie.Need-overflow_add-i invariant-loop decreases-loop
 add-i c = search rules
 
-loop-less : tie.Need-loop-smaller invariant-loop decreases-loop
+loop-less : tie.Need-loop-i-smaller invariant-loop decreases-loop
 loop-less c = search rules
 
-loop-again : tie.Need-loop-preserved invariant-loop decreases-loop
+loop-again : tie.Need-loop-i-preserved invariant-loop decreases-loop
 loop-again c =
-    let l = c.before.before.before in
-    agree_on l.before.loop.invariant (omega arith) (omega arith) c.if2.false
+    let l = c in
+    agree_on l.loop-i.invariant (omega arith) (omega arith) c.if-word-i.false
 
-returns-3 : tie.Need-returns-3 invariant-loop decreases-loop
-returns-3 c = agree-end c.before.loop.invariant (omega arith) (omega arith)
+returns-3 : tie.Need-returns invariant-loop decreases-loop
+returns-3 c = agree-end c.loop-i.invariant (omega arith) (omega arith)
 
-pub is-word-spec : {M : Type 1} → statement M
-is-word-spec =
+pub is_word_spec : {M : Type 1} → statement M
+is_word_spec =
     tie.close
     (tie.spec
     invariant-loop

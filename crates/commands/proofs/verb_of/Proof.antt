@@ -7,226 +7,194 @@ use borrow.Author.Rules.{rules}
 use Rattle.commands.proofs.verb_of.Statement.{statement}
 use Rattle.commands.proofs.verb_of.Tie as tie
 
-some : (c : tie.Else1) → same c.before.before.args.word.now [] ≡ false
-some c = sym (not_same _ [] c.if1.false)
+some : (c : tie.Else-word-eq0) → same c.args.word.now [] ≡ false
+some c = sym (not_same _ [] c.if-word-eq0.false)
 
-returns : tie.Need-returns
+returns : tie.Need-returns-then-word-eq0
 unfolding verb_of
-returns c = rw (← empty _ c.if1.true)
+returns c = rw (← empty _ c.if-word-eq0.true)
 
-slice-aggregate-is-word : tie.Need-slice-aggregate-is-word
-slice-aggregate-is-word c = search rules
-
-is-word-requires : tie.Need-is-word-requires
+is-word-requires : tie.Need-is_word-requires
 is-word-requires c κs = search rules
 
-returns-2 : tie.Need-returns-2
+returns-2 : tie.Need-returns-then-is_word
 unfolding verb_of
-returns-2 c = rw (some c.before.before.before, sym c.before.is_IsWord.ensures ∙ c.if2.true)
+returns-2 c = rw (some c.before.before.before.before, sym c.is_word.ensures ∙ c.if-is_word.true)
 
-slice-aggregate-is-word-2 : tie.Need-slice-aggregate-is-word-2
-slice-aggregate-is-word-2 c = search rules
-
-is-word-requires-2 : tie.Need-is-word-requires-2
+is-word-requires-2 : tie.Need-is_word-requires-2
 is-word-requires-2 c κs = search rules
 
-returns-3 : tie.Need-returns-3
+returns-3 : tie.Need-returns-then-is_word-2
 unfolding verb_of
 returns-3 c =
-    let v = c.before.before.before in
+    let v = c in
     rw (
-      some v.before.before.before,
-      sym v.before.is_IsWord.ensures ∙ v.if2.false,
-      sym c.before.is-word2.ensures ∙ c.if3.true,
+      some v.before.before.before.before.before.before.before.before,
+      sym v.is_word.ensures ∙ v.if-is_word.false,
+      sym c.is_word-2.ensures ∙ c.if-is_word-2.true,
     )
 
-slice-aggregate-is-word-3 : tie.Need-slice-aggregate-is-word-3
-slice-aggregate-is-word-3 c = search rules
-
-is-word-requires-3 : tie.Need-is-word-requires-3
+is-word-requires-3 : tie.Need-is_word-requires-3
 is-word-requires-3 c κs = search rules
 
-returns-4 : tie.Need-returns-4
+returns-4 : tie.Need-returns-then-is_word-3
 unfolding verb_of
 returns-4 c =
-    let w = c.before.before.before in
-    let v = w.before.before.before in
+    let w = c in
+    let v = w in
     rw (
-      some v.before.before.before,
-      sym v.before.is_IsWord.ensures ∙ v.if2.false,
-      sym w.before.is-word2.ensures ∙ w.if3.false,
-      sym c.before.is-word3.ensures ∙ c.if4.true,
+      some v.before.before.before.before.before.before.before.before.before.before.before.before,
+      sym v.is_word.ensures ∙ v.if-is_word.false,
+      sym w.is_word-2.ensures ∙ w.if-is_word-2.false,
+      sym c.is_word-3.ensures ∙ c.if-is_word-3.true,
     )
 
-slice-aggregate-is-word-4 : tie.Need-slice-aggregate-is-word-4
-slice-aggregate-is-word-4 c = search rules
-
-is-word-requires-4 : tie.Need-is-word-requires-4
+is-word-requires-4 : tie.Need-is_word-requires-4
 is-word-requires-4 c κs = search rules
 
-returns-5 : tie.Need-returns-5
+returns-5 : tie.Need-returns-then-is_word-4
 unfolding verb_of
 returns-5 c =
-    let x = c.before.before.before in
-    let w = x.before.before.before in
-    let v = w.before.before.before in
+    let x = c in
+    let w = x in
+    let v = w in
     rw (
-      some v.before.before.before,
-      sym v.before.is_IsWord.ensures ∙ v.if2.false,
-      sym w.before.is-word2.ensures ∙ w.if3.false,
-      sym x.before.is-word3.ensures ∙ x.if4.false,
-      sym c.before.is-word4.ensures ∙ c.if5.true,
+      some v.before.before.before.before.before.before.before.before.before.before.before.before.before.before.before.before,
+      sym v.is_word.ensures ∙ v.if-is_word.false,
+      sym w.is_word-2.ensures ∙ w.if-is_word-2.false,
+      sym x.is_word-3.ensures ∙ x.if-is_word-3.false,
+      sym c.is_word-4.ensures ∙ c.if-is_word-4.true,
     )
 
-slice-aggregate-is-word-5 : tie.Need-slice-aggregate-is-word-5
-slice-aggregate-is-word-5 c = search rules
-
-is-word-requires-5 : tie.Need-is-word-requires-5
+is-word-requires-5 : tie.Need-is_word-requires-5
 is-word-requires-5 c κs = search rules
 
-returns-6 : tie.Need-returns-6
+returns-6 : tie.Need-returns-then-is_word-5
 unfolding verb_of
 returns-6 c =
-    let y = c.before.before.before in
-    let x = y.before.before.before in
-    let w = x.before.before.before in
-    let v = w.before.before.before in
+    let y = c in
+    let x = y in
+    let w = x in
+    let v = w in
     rw (
-      some v.before.before.before,
-      sym v.before.is_IsWord.ensures ∙ v.if2.false,
-      sym w.before.is-word2.ensures ∙ w.if3.false,
-      sym x.before.is-word3.ensures ∙ x.if4.false,
-      sym y.before.is-word4.ensures ∙ y.if5.false,
-      sym c.before.is-word5.ensures ∙ c.if6.true,
+      some v.before.before.before.before.before.before.before.before.before.before.before.before.before.before.before.before.before.before.before.before,
+      sym v.is_word.ensures ∙ v.if-is_word.false,
+      sym w.is_word-2.ensures ∙ w.if-is_word-2.false,
+      sym x.is_word-3.ensures ∙ x.if-is_word-3.false,
+      sym y.is_word-4.ensures ∙ y.if-is_word-4.false,
+      sym c.is_word-5.ensures ∙ c.if-is_word-5.true,
     )
 
-slice-aggregate-is-word-6 : tie.Need-slice-aggregate-is-word-6
-slice-aggregate-is-word-6 c = search rules
-
-is-word-requires-6 : tie.Need-is-word-requires-6
+is-word-requires-6 : tie.Need-is_word-requires-6
 is-word-requires-6 c κs = search rules
 
-returns-7 : tie.Need-returns-7
+returns-7 : tie.Need-returns-then-is_word-6
 unfolding verb_of
 returns-7 c =
-    let z = c.before.before.before in
-    let y = z.before.before.before in
-    let x = y.before.before.before in
-    let w = x.before.before.before in
-    let v = w.before.before.before in
+    let z = c in
+    let y = z in
+    let x = y in
+    let w = x in
+    let v = w in
     rw (
-      some v.before.before.before,
-      sym v.before.is_IsWord.ensures ∙ v.if2.false,
-      sym w.before.is-word2.ensures ∙ w.if3.false,
-      sym x.before.is-word3.ensures ∙ x.if4.false,
-      sym y.before.is-word4.ensures ∙ y.if5.false,
-      sym z.before.is-word5.ensures ∙ z.if6.false,
-      sym c.before.is-word6.ensures ∙ c.if7.true,
+      some v.before.before.before.before.before.before.before.before.before.before.before.before.before.before.before.before.before.before.before.before.before.before.before.before,
+      sym v.is_word.ensures ∙ v.if-is_word.false,
+      sym w.is_word-2.ensures ∙ w.if-is_word-2.false,
+      sym x.is_word-3.ensures ∙ x.if-is_word-3.false,
+      sym y.is_word-4.ensures ∙ y.if-is_word-4.false,
+      sym z.is_word-5.ensures ∙ z.if-is_word-5.false,
+      sym c.is_word-6.ensures ∙ c.if-is_word-6.true,
     )
 
-slice-aggregate-is-word-7 : tie.Need-slice-aggregate-is-word-7
-slice-aggregate-is-word-7 c = search rules
-
-is-word-requires-7 : tie.Need-is-word-requires-7
+is-word-requires-7 : tie.Need-is_word-requires-7
 is-word-requires-7 c κs = search rules
 
-returns-8 : tie.Need-returns-8
+returns-8 : tie.Need-returns-then-is_word-7
 unfolding verb_of
 returns-8 c =
-    let u = c.before.before.before in
-    let z = u.before.before.before in
-    let y = z.before.before.before in
-    let x = y.before.before.before in
-    let w = x.before.before.before in
-    let v = w.before.before.before in
+    let u = c in
+    let z = u in
+    let y = z in
+    let x = y in
+    let w = x in
+    let v = w in
     rw (
-      some v.before.before.before,
-      sym v.before.is_IsWord.ensures ∙ v.if2.false,
-      sym w.before.is-word2.ensures ∙ w.if3.false,
-      sym x.before.is-word3.ensures ∙ x.if4.false,
-      sym y.before.is-word4.ensures ∙ y.if5.false,
-      sym z.before.is-word5.ensures ∙ z.if6.false,
-      sym u.before.is-word6.ensures ∙ u.if7.false,
-      sym c.before.is-word7.ensures ∙ c.if8.true,
+      some v.before.before.before.before.before.before.before.before.before.before.before.before.before.before.before.before.before.before.before.before.before.before.before.before.before.before.before.before,
+      sym v.is_word.ensures ∙ v.if-is_word.false,
+      sym w.is_word-2.ensures ∙ w.if-is_word-2.false,
+      sym x.is_word-3.ensures ∙ x.if-is_word-3.false,
+      sym y.is_word-4.ensures ∙ y.if-is_word-4.false,
+      sym z.is_word-5.ensures ∙ z.if-is_word-5.false,
+      sym u.is_word-6.ensures ∙ u.if-is_word-6.false,
+      sym c.is_word-7.ensures ∙ c.if-is_word-7.true,
     )
 
-slice-aggregate-is-word-8 : tie.Need-slice-aggregate-is-word-8
-slice-aggregate-is-word-8 c = search rules
-
-is-word-requires-8 : tie.Need-is-word-requires-8
+is-word-requires-8 : tie.Need-is_word-requires-8
 is-word-requires-8 c κs = search rules
 
-returns-9 : tie.Need-returns-9
+returns-9 : tie.Need-returns-then-is_word-8
 unfolding verb_of
 returns-9 c =
-    let t = c.before.before.before in
-    let u = t.before.before.before in
-    let z = u.before.before.before in
-    let y = z.before.before.before in
-    let x = y.before.before.before in
-    let w = x.before.before.before in
-    let v = w.before.before.before in
+    let t = c in
+    let u = t in
+    let z = u in
+    let y = z in
+    let x = y in
+    let w = x in
+    let v = w in
     rw (
-      some v.before.before.before,
-      sym v.before.is_IsWord.ensures ∙ v.if2.false,
-      sym w.before.is-word2.ensures ∙ w.if3.false,
-      sym x.before.is-word3.ensures ∙ x.if4.false,
-      sym y.before.is-word4.ensures ∙ y.if5.false,
-      sym z.before.is-word5.ensures ∙ z.if6.false,
-      sym u.before.is-word6.ensures ∙ u.if7.false,
-      sym t.before.is-word7.ensures ∙ t.if8.false,
-      sym c.before.is-word8.ensures ∙ c.if9.true,
+      some v.before.before.before.before.before.before.before.before.before.before.before.before.before.before.before.before.before.before.before.before.before.before.before.before.before.before.before.before.before.before.before.before,
+      sym v.is_word.ensures ∙ v.if-is_word.false,
+      sym w.is_word-2.ensures ∙ w.if-is_word-2.false,
+      sym x.is_word-3.ensures ∙ x.if-is_word-3.false,
+      sym y.is_word-4.ensures ∙ y.if-is_word-4.false,
+      sym z.is_word-5.ensures ∙ z.if-is_word-5.false,
+      sym u.is_word-6.ensures ∙ u.if-is_word-6.false,
+      sym t.is_word-7.ensures ∙ t.if-is_word-7.false,
+      sym c.is_word-8.ensures ∙ c.if-is_word-8.true,
     )
 
-returns-10 : tie.Need-returns-10
+returns-10 : tie.Need-returns
 unfolding verb_of
 returns-10 c =
-    let t = c.before.before.before in
-    let u = t.before.before.before in
-    let z = u.before.before.before in
-    let y = z.before.before.before in
-    let x = y.before.before.before in
-    let w = x.before.before.before in
-    let v = w.before.before.before in
+    let t = c in
+    let u = t in
+    let z = u in
+    let y = z in
+    let x = y in
+    let w = x in
+    let v = w in
     rw (
-      some v.before.before.before,
-      sym v.before.is_IsWord.ensures ∙ v.if2.false,
-      sym w.before.is-word2.ensures ∙ w.if3.false,
-      sym x.before.is-word3.ensures ∙ x.if4.false,
-      sym y.before.is-word4.ensures ∙ y.if5.false,
-      sym z.before.is-word5.ensures ∙ z.if6.false,
-      sym u.before.is-word6.ensures ∙ u.if7.false,
-      sym t.before.is-word7.ensures ∙ t.if8.false,
-      sym c.before.is-word8.ensures ∙ c.if9.false,
+      some v.before.before.before.before.before.before.before.before.before.before.before.before.before.before.before.before.before.before.before.before.before.before.before.before.before.before.before.before.before.before.before.before,
+      sym v.is_word.ensures ∙ v.if-is_word.false,
+      sym w.is_word-2.ensures ∙ w.if-is_word-2.false,
+      sym x.is_word-3.ensures ∙ x.if-is_word-3.false,
+      sym y.is_word-4.ensures ∙ y.if-is_word-4.false,
+      sym z.is_word-5.ensures ∙ z.if-is_word-5.false,
+      sym u.is_word-6.ensures ∙ u.if-is_word-6.false,
+      sym t.is_word-7.ensures ∙ t.if-is_word-7.false,
+      sym c.is_word-8.ensures ∙ c.if-is_word-8.false,
     )
 
-pub verb-of-spec : {M : Type 1} → statement M
-verb-of-spec =
+pub verb_of_spec : {M : Type 1} → statement M
+verb_of_spec =
     tie.close
     (tie.spec
     returns
-    slice-aggregate-is-word
     is-word-requires
     returns-2
-    slice-aggregate-is-word-2
     is-word-requires-2
     returns-3
-    slice-aggregate-is-word-3
     is-word-requires-3
     returns-4
-    slice-aggregate-is-word-4
     is-word-requires-4
     returns-5
-    slice-aggregate-is-word-5
     is-word-requires-5
     returns-6
-    slice-aggregate-is-word-6
     is-word-requires-6
     returns-7
-    slice-aggregate-is-word-7
     is-word-requires-7
     returns-8
-    slice-aggregate-is-word-8
     is-word-requires-8
     returns-9
     returns-10)

@@ -9,30 +9,30 @@ use Rattle.comparer.proofs.Judging.{Equal, equal_next}
 use Rattle.comparer.proofs.alike.Statement.{statement}
 use Rattle.comparer.proofs.alike.Tie as tie
 
-abbrev invariant-loop : tie.invariant-loop
+abbrev invariant-loop : tie.invariant-loop-k
 invariant-loop first second same₀ k₀ same k = (k ≤ length first) × (same ≡ true → Equal first second k)
 
-abbrev decreases-loop : tie.decreases-loop
+abbrev decreases-loop : tie.decreases-loop-k
 decreases-loop first second same₀ k₀ same k = length first - k
 
-returns : tie.Need-returns invariant-loop decreases-loop
+returns : tie.Need-returns-then-first-second invariant-loop decreases-loop
 returns c = λ e. absurd (false≢true e)
 
-loop-holds : tie.Need-loop-init invariant-loop decreases-loop
+loop-holds : tie.Need-loop-k-init invariant-loop decreases-loop
 loop-holds c = (omega arith, λ e i h. absurd (omega arith))
 
-loop-again : tie.Need-loop-preserved invariant-loop decreases-loop
+loop-again : tie.Need-loop-k-preserved invariant-loop decreases-loop
 loop-again c =
-    let l = c.before.before.before in
-    let a = l.before.before.args in
-    (omega arith, equal_next a.first.now a.second.now l.loop.k l.loop.same l.loop.invariant.1)
+    let l = c in
+    let a = l.args in
+    (omega arith, equal_next a.first.now a.second.now l.loop-k.k l.loop-k.same l.loop-k.invariant.1)
 
-returns-2 : tie.Need-returns-2 invariant-loop decreases-loop
+returns-2 : tie.Need-returns invariant-loop decreases-loop
 returns-2 c = λ e.
-    let l = c.before in
-    let a = l.before.before.args in
-    ext_get_or 0 a.first.now a.second.now l.before.if1.false
-    (λ i h. l.loop.invariant.1 e i (omega (arith, h, l.loop.invariant.0, c.loop-test.false)))
+    let l = c in
+    let a = l.args in
+    ext_get_or 0 a.first.now a.second.now l.if-first-second.false
+    (λ i h. l.loop-k.invariant.1 e i (omega (arith, h, l.loop-k.invariant.0, c.loop-k-test.false)))
 
 pub alike_spec : {M : Type 1} → statement M
 alike_spec =

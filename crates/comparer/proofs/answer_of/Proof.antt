@@ -4,25 +4,25 @@ use Rattle.comparer.proofs.Judging.{told-cramped, told-other}
 use Rattle.comparer.proofs.answer_of.Statement.{statement}
 use Rattle.comparer.proofs.answer_of.Tie as tie
 
-returns : tie.Need-returns
+returns : tie.Need-returns-then-number-eq9
 returns c =
-    let u = c.before.before in
-    let r = u.before.before in
-    let a = r.before.before.before.args in
+    let u = c in
+    let r = u in
+    let a = r.args in
     rw c.place.ensures
-    (told-cramped a.format a.text.now r.read.result _ _ r.read.ensures
-    (sym u.number.ensures ∙ c.before.if1.true))
+    (told-cramped a.format a.text.now r.read-found.result _ _ r.read-found.ensures
+    (sym u.number.ensures ∙ c.if-number-eq9.true))
 
-returns-2 : tie.Need-returns-2
+returns-2 : tie.Need-returns
 returns-2 c =
-    let u = c.before in
-    let r = u.before.before in
-    let a = r.before.before.before.args in
-    told-other a.format a.text.now r.read.result _ _ r.read.ensures
-    (λ e. c.if1.false (u.number.ensures ∙ e))
+    let u = c in
+    let r = u in
+    let a = r.args in
+    told-other a.format a.text.now r.read-found.result _ _ r.read-found.ensures
+    (λ e. c.if-number-eq9.false (u.number.ensures ∙ e))
 
-pub answer-of-spec : {M : Type 1} → statement M
-answer-of-spec =
+pub answer_of_spec : {M : Type 1} → statement M
+answer_of_spec =
     tie.close
     (tie.spec
     (λ c. search rules)

@@ -7,63 +7,63 @@ use Rattle.comparer.proofs.Judging.{same-itself, same_read}
 use Rattle.comparer.proofs.compare.Statement.{statement}
 use Rattle.comparer.proofs.compare.Tie as tie
 
-returns : tie.Need-returns
+returns : tie.Need-returns-then-alike
 returns c =
-    let o = c.before.before.before in
-    let g = o.before.before in
-    let a = g.before.before.before.args in
-    rw (← c.before.alike.ensures c.if1.true)
-    (same-itself a.format a.first.now _ (rw o.one2.given.1 at g.answer-of.ensures))
+    let o = c in
+    let g = o in
+    let a = g.args in
+    rw (← c.alike.ensures c.if-alike.true)
+    (same-itself a.format a.first.now _ (rw o.in-Accepted.is at g.answer_of-one.ensures))
 
-returns-2 : tie.Need-returns-2
+returns-2 : tie.Need-returns-then-read_alike
 returns-2 c =
-    let r = c.before in
-    let w = r.before in
-    let h = w.before.before in
-    let o = h.before.before.before.before in
-    let g = o.before.before in
-    let a = g.before.before.before.args in
-    same_read a.format a.first.now a.second.now _ _ (rw o.one2.given.1 at g.answer-of.ensures)
-    (rw w.enum_told.given.1 at h.answer-of2.ensures) (r.read_alike.ensures c.if2.true).cells
+    let r = c in
+    let w = r in
+    let h = w in
+    let o = h in
+    let g = o in
+    let a = g.args in
+    same_read a.format a.first.now a.second.now _ _ (rw o.in-Accepted.is at g.answer_of-one.ensures)
+    (rw w.in-Accepted-two.is at h.answer_of-two.ensures) (r.read_alike.ensures c.if-read_alike.true).cells
 
-returns-3 : tie.Need-returns-3
+returns-3 : tie.Need-returns-in-Refused
 returns-3 c =
-    let o = c.before in
-    let g = o.before.before in
-    let a = g.before.before.before.args in
+    let o = c in
+    let g = o in
+    let a = g.args in
     let first = a.first.now in
     let second = a.second.now in
     compared a.format first second
     (judged-first (unless_refused Second (verdict_in a.format second) (parts_of a.format first second))
-    o.one.given.1)
-    g.answer-of.ensures refl refl
+    o.in-Refused.is)
+    g.answer_of-one.ensures refl refl
 
-returns-4 : tie.Need-returns-4
+returns-4 : tie.Need-returns-in-Refused-two
 returns-4 c =
-    let w = c.before in
-    let h = w.before.before in
-    let o = h.before.before.before.before in
-    let g = o.before.before in
-    let a = g.before.before.before.args in
+    let w = c in
+    let h = w in
+    let o = h in
+    let g = o in
+    let a = g.args in
     let first = a.first.now in
     let second = a.second.now in
     compared a.format first second
-    (judged-second (parts_of a.format first second) o.one2.given.1 w.two.given.1)
-    g.answer-of.ensures h.answer-of2.ensures refl
+    (judged-second (parts_of a.format first second) o.in-Accepted.is w.in-Refused-two.is)
+    g.answer_of-one.ensures h.answer_of-two.ensures refl
 
-returns-5 : tie.Need-returns-5
+returns-5 : tie.Need-returns-else-read_alike
 returns-5 c =
-    let w = c.before.before.before in
-    let h = w.before.before in
-    let o = h.before.before.before.before in
-    let g = o.before.before in
-    let a = g.before.before.before.args in
+    let w = c in
+    let h = w in
+    let o = h in
+    let g = o in
+    let a = g.args in
     compared a.format a.first.now a.second.now
-    (judged _ o.one2.given.1 w.enum_told.given.1)
-    g.answer-of.ensures h.answer-of2.ensures c.parting.ensures
+    (judged _ o.in-Accepted.is w.in-Accepted-two.is)
+    g.answer_of-one.ensures h.answer_of-two.ensures c.parting.ensures
 
-pub compare-spec : {M : Type 1} → statement M
-compare-spec =
+pub compare_spec : {M : Type 1} → statement M
+compare_spec =
     tie.close
     (tie.spec
     (λ c κs. search rules)

@@ -19,5 +19,5 @@ tests = refl
 returns : tie.Need-returns
 returns c = sym (same-eq _ _ (below (λ k. same (tested k) (itself k)) 256 tests c.args.b (search rules)))
 
-pub is-itself-spec : {M : Type 1} → statement M
-is-itself-spec = tie.close (tie.spec returns)
+pub is_itself_spec : {M : Type 1} → statement M
+is_itself_spec = tie.close (tie.spec returns)

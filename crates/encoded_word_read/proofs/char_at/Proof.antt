@@ -5,34 +5,34 @@ use borrow.Author.Rules.{rules}
 use Rattle.encoded_word_read.proofs.char_at.Statement.{statement}
 use Rattle.encoded_word_read.proofs.char_at.Tie as tie
 
-shared-slice-read-b : tie.Need-shared-slice-read-b
+shared-slice-read-b : tie.Need-bounds-line-at
 shared-slice-read-b c = search rules
 
-is-itself-requires : tie.Need-is-itself-requires
+is-itself-requires : tie.Need-is_itself-requires
 is-itself-requires c κs = search rules
 
-returns : tie.Need-returns
+returns : tie.Need-returns-then-is_itself
 returns c =
-    let s = c.before.before.before.before in
-    let t = sym c.before.is-itself.ensures ∙ c.if1.true in
+    let s = c in
+    let t = sym c.is_itself.ensures ∙ c.if-is_itself.true in
     λ _. self-at s.args.line.now s.args.at _ s.requires refl t
 
-returns-2 : tie.Need-returns-2
+returns-2 : tie.Need-returns-then-b-eq95
 returns-2 c =
-    let s = c.before.before.before.before.before in
-    λ _. space-at s.args.line.now s.args.at s.requires c.if2.true
+    let s = c in
+    λ _. space-at s.args.line.now s.args.at s.requires c.if-b-eq95.true
 
-pair-at-requires : tie.Need-pair-at-requires
-pair-at-requires c κs = (c.before.before.before.before.before.before.requires, c.if3.true)
+pair-at-requires : tie.Need-pair_at-requires
+pair-at-requires c κs = (c.requires, c.if-b-eq61.true)
 
-returns-3 : tie.Need-returns-3
-returns-3 c = c.pair-at.ensures
+returns-3 : tie.Need-returns-then-b-eq61
+returns-3 c = c.pair_at.ensures
 
-returns-4 : tie.Need-returns-4
+returns-4 : tie.Need-returns
 returns-4 c = λ h. absurd (omega (arith, h))
 
-pub char-at-spec : {M : Type 1} → statement M
-char-at-spec =
+pub char_at_spec : {M : Type 1} → statement M
+char_at_spec =
     tie.close
     (tie.spec
     shared-slice-read-b

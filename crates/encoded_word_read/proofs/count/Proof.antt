@@ -10,93 +10,93 @@ use Rattle.encoded_word_read.proofs.Texts.{turned}
 use Rattle.encoded_word_read.proofs.count.Statement.{statement}
 use Rattle.encoded_word_read.proofs.count.Tie as tie
 
-abbrev invariant-loop : tie.invariant-loop
+abbrev invariant-loop : tie.invariant-loop-at
 invariant-loop line at₀ n₀ p₀ at n p = Left subject line at (part_of p) n
 
-abbrev decreases-loop : tie.decreases-loop
+abbrev decreases-loop : tie.decreases-loop-at
 decreases-loop line at₀ n₀ p₀ at n p = length line - at
 
-count-words-requires : tie.Need-count-words-requires invariant-loop decreases-loop
+count-words-requires : tie.Need-count_words-w-requires invariant-loop decreases-loop
 count-words-requires c κs = search rules
 
-part-at-requires : tie.Need-part-at-requires invariant-loop decreases-loop
+part-at-requires : tie.Need-part_at-p-requires invariant-loop decreases-loop
 part-at-requires c κs = search rules
 
-loop-holds : tie.Need-loop-init invariant-loop decreases-loop
-loop-holds c = rw c.part_at.ensures c.before.count-words.ensures
+loop-holds : tie.Need-loop-at-init invariant-loop decreases-loop
+loop-holds c = rw c.part_at-p.ensures c.count_words-w.ensures
 
-shared-slice-read-feed : tie.Need-shared-slice-read-feed invariant-loop decreases-loop
+shared-slice-read-feed : tie.Need-bounds-line-at invariant-loop decreases-loop
 shared-slice-read-feed c = search rules
 
 feed-requires : tie.Need-feed-requires invariant-loop decreases-loop
 feed-requires c κs = search rules
 
-enum-known-next : tie.Need-enum-known-next invariant-loop decreases-loop
+enum-known-next : tie.Need-enum_known-next invariant-loop decreases-loop
 enum-known-next c = search rules
 
-add-n : tie.Need-overflow-add-n invariant-loop decreases-loop
+add-n : tie.Need-overflow_add-n invariant-loop decreases-loop
 add-n c = search rules
 
-add_at : tie.Need-overflow-add-at invariant-loop decreases-loop
+add_at : tie.Need-overflow_add-at invariant-loop decreases-loop
 add_at c = search rules
 
-loop-less : tie.Need-loop-smaller invariant-loop decreases-loop
+loop-less : tie.Need-loop-at-smaller-in-Give invariant-loop decreases-loop
 loop-less c = search rules
 
-loop-again : tie.Need-loop-preserved invariant-loop decreases-loop
+loop-again : tie.Need-loop-at-preserved-in-Give invariant-loop decreases-loop
 loop-again c =
-    let f = c.before.before.before in
-    let i = f.before.before in
-    let m = turned f.feed.ensures c.before.next.given.1 in
-    left-give i.before.loop.invariant i.loop-test.true m
+    let f = c in
+    let i = f in
+    let m = turned f.feed.ensures c.in-Give.is in
+    left-give i.loop-at.invariant i.loop-at-test.true m
 
-enum-known-next-2 : tie.Need-enum-known-next-2 invariant-loop decreases-loop
+enum-known-next-2 : tie.Need-enum_known-next-in-Go-1 invariant-loop decreases-loop
 enum-known-next-2 c = search rules
 
-add-at-2 : tie.Need-overflow-add-at-2 invariant-loop decreases-loop
+add-at-2 : tie.Need-overflow_add-at-in-Go invariant-loop decreases-loop
 add-at-2 c = search rules
 
-loop-less-2 : tie.Need-loop-smaller-2 invariant-loop decreases-loop
+loop-less-2 : tie.Need-loop-at-smaller invariant-loop decreases-loop
 loop-less-2 c = search rules
 
-loop-again-2 : tie.Need-loop-preserved-2 invariant-loop decreases-loop
+loop-again-2 : tie.Need-loop-at-preserved invariant-loop decreases-loop
 loop-again-2 c =
-    let f = c.before.before.before in
-    let i = f.before.before in
-    let m = turned f.feed.ensures c.before.next2.given.1 in
-    left-go i.before.loop.invariant i.loop-test.true m
+    let f = c in
+    let i = f in
+    let m = turned f.feed.ensures c.in-Go.is in
+    left-go i.loop-at.invariant i.loop-at-test.true m
 
-enum-known-why : tie.Need-enum-known-why invariant-loop decreases-loop
+enum-known-why : tie.Need-enum_known-why invariant-loop decreases-loop
 enum-known-why c = search rules
 
-returns : tie.Need-returns invariant-loop decreases-loop
+returns : tie.Need-returns-in-Bad invariant-loop decreases-loop
 returns c =
-    let f = c.before.before.before in
-    let i = f.before.before in
-    (left-bad i.before.loop.invariant i.loop-test.true (turned f.feed.ensures c.before.why.given.1)).1
+    let f = c in
+    let i = f in
+    (left-bad i.loop-at.invariant i.loop-at-test.true (turned f.feed.ensures c.in-Bad.is)).1
 
-enum-known-why-2 : tie.Need-enum-known-why-2 invariant-loop decreases-loop
+enum-known-why-2 : tie.Need-enum_known-why-in-Pair-1 invariant-loop decreases-loop
 enum-known-why-2 c = search rules
 
-add-equals-before : tie.Need-overflow-add-equals-before invariant-loop decreases-loop
+add-equals-before : tie.Need-overflow_add-at-in-Pair invariant-loop decreases-loop
 add-equals-before c = search rules
 
-equals-before-requires : tie.Need-equals-before-requires invariant-loop decreases-loop
+equals-before-requires : tie.Need-equals_before-requires invariant-loop decreases-loop
 equals-before-requires c κs = search rules
 
-returns-2 : tie.Need-returns-2 invariant-loop decreases-loop
+returns-2 : tie.Need-returns-in-Pair invariant-loop decreases-loop
 returns-2 c =
-    let k = c.before.before in
-    let f = k.before.before in
-    let i = f.before.before in
-    let m = turned f.feed.ensures k.why2.given.1 in
-    rw c.equals-before.ensures (left-faulty (left-go i.before.loop.invariant i.loop-test.true m))
+    let k = c in
+    let f = k in
+    let i = f in
+    let m = turned f.feed.ensures k.in-Pair.is in
+    rw c.equals_before.ensures (left-faulty (left-go i.loop-at.invariant i.loop-at-test.true m))
 
 finish-requires : tie.Need-finish-requires invariant-loop decreases-loop
 finish-requires c κs = search rules
 
-returns-3 : tie.Need-returns-3 invariant-loop decreases-loop
-returns-3 c = c.finish.ensures ∙ (left_end c.before.before.loop.invariant c.before.loop-test.false).1
+returns-3 : tie.Need-returns invariant-loop decreases-loop
+returns-3 c = c.finish.ensures ∙ (left_end c.loop-at.invariant c.loop-at-test.false).1
 
 pub count_spec : {M : Type 1} → statement M
 count_spec =

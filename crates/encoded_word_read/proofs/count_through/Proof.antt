@@ -11,64 +11,64 @@ use borrow.Author.Rules.{rules}
 use Rattle.encoded_word_read.proofs.count_through.Statement.{statement}
 use Rattle.encoded_word_read.proofs.count_through.Tie as tie
 
-abbrev invariant-loop : tie.invariant-loop
+abbrev invariant-loop : tie.invariant-loop-at
 invariant-loop line bytes₀ cells₀ at₀ n₀ bytes cells at n =
     Left subject line at (part_at at) n × (length bytes ≡ length bytes₀) × (length cells ≡ length cells₀)
 
-abbrev decreases-loop : tie.decreases-loop
+abbrev decreases-loop : tie.decreases-loop-at
 decreases-loop line bytes₀ cells₀ at₀ n₀ bytes cells at n = length line - at
 
 -- behind the word
 next :
-    (c : tie.Else1 invariant-loop decreases-loop) →
-    let w = c.before.before.before.before.before.word_Cells in
+    (c : tie.Else-end-at invariant-loop decreases-loop) →
+    let w = c.word_cells-w in
     let l = c.before.before.before.before.before.before.before.before.before in
-    let a = l.before.before.before.before.args in
-    Left subject a.line.now w.result.end (part_at w.result.end) (l.loop.n + w.result.count)
+    let a = l.args in
+    Left subject a.line.now w.result.end (part_at w.result.end) (l.loop-at.n + w.result.count)
 next c =
-    let w = c.before.before.before.before.before.word_Cells in
-    let l = c.before.before.before.before.before.before.before.before.before in
-    left_word l.loop.invariant.0 c.if1.false (w.ensures.0 c.if1.false)
+    let w = c.word_cells-w in
+    let l = c in
+    left_word l.loop-at.invariant.0 c.if-end-at.false (w.ensures.0 c.if-end-at.false)
 
-loop-holds : tie.Need-loop-init invariant-loop decreases-loop
+loop-holds : tie.Need-loop-at-init invariant-loop decreases-loop
 loop-holds c = (left-start subject _, refl, refl)
 
-word-cells-requires : tie.Need-word-cells-requires invariant-loop decreases-loop
+word-cells-requires : tie.Need-word_cells-w-requires invariant-loop decreases-loop
 word-cells-requires c κs =
-    let l = c.before.before.before.loop in
-    (l.invariant.0.within, omega (arith, l.invariant.1, c.before.before.before.before.before.before.before.requires))
+    let l = c.loop-at in
+    (l.invariant.0.within, omega (arith, l.invariant.1, c.requires))
 
-same_length : tie.Need-same-length invariant-loop decreases-loop
+same_length : tie.Need-shape_of-bytes-then-end-at invariant-loop decreases-loop
 same_length c = search rules
 
-same-length-2 : tie.Need-same-length-2 invariant-loop decreases-loop
+same-length-2 : tie.Need-shape_of-cells-then-end-at invariant-loop decreases-loop
 same-length-2 c = search rules
 
-returns : tie.Need-returns invariant-loop decreases-loop
-returns c = c.before.before.before.before.before.before.before.before.before.loop.invariant.0
+returns : tie.Need-returns-then-end-at invariant-loop decreases-loop
+returns c = c.loop-at.invariant.0
 
-add-n : tie.Need-overflow-add-n invariant-loop decreases-loop
+add-n : tie.Need-overflow_add-n invariant-loop decreases-loop
 add-n c =
     let l = next c.before in
     search rules
 
-loop-less : tie.Need-loop-smaller invariant-loop decreases-loop
-loop-less c = omega (arith, c.before.if1.false, (next c.before).within)
+loop-less : tie.Need-loop-at-smaller invariant-loop decreases-loop
+loop-less c = omega (arith, c.if-end-at.false, (next c.before).within)
 
-loop-again : tie.Need-loop-preserved invariant-loop decreases-loop
+loop-again : tie.Need-loop-at-preserved invariant-loop decreases-loop
 loop-again c = (next c.before, search rules, search rules)
 
-same-length-3 : tie.Need-same-length-3 invariant-loop decreases-loop
+same-length-3 : tie.Need-shape_of-bytes invariant-loop decreases-loop
 same-length-3 c = search rules
 
-same-length-4 : tie.Need-same-length-4 invariant-loop decreases-loop
+same-length-4 : tie.Need-shape_of-cells invariant-loop decreases-loop
 same-length-4 c = search rules
 
-returns-2 : tie.Need-returns-2 invariant-loop decreases-loop
-returns-2 c = c.before.loop.invariant.0
+returns-2 : tie.Need-returns invariant-loop decreases-loop
+returns-2 c = c.loop-at.invariant.0
 
-pub count-through-spec : {M : Type 1} → statement M
-count-through-spec =
+pub count_through_spec : {M : Type 1} → statement M
+count_through_spec =
     tie.close
     (tie.spec
     invariant-loop

@@ -12,84 +12,84 @@ use borrow.Author.Rules.{rules}
 use Rattle.encoded_word_read.proofs.fill_through.Statement.{statement}
 use Rattle.encoded_word_read.proofs.fill_through.Tie as tie
 
-abbrev invariant-loop : tie.invariant-loop
+abbrev invariant-loop : tie.invariant-loop-at
 invariant-loop line bytes₀ out₀ at₀ n₀ bytes out at n =
     Filling subject line at (part_at at) n out₀ out × (length bytes ≡ length bytes₀)
 
-abbrev decreases-loop : tie.decreases-loop
+abbrev decreases-loop : tie.decreases-loop-at
 decreases-loop line bytes₀ out₀ at₀ n₀ bytes out at n = length line - at
 
 -- behind the word
-abbrev at-loop : tie.Else1 invariant-loop decreases-loop → tie.At-loop invariant-loop decreases-loop
+abbrev at-loop : tie.Else-end-at invariant-loop decreases-loop → tie.At-loop-at invariant-loop decreases-loop
 at-loop c = c.before.before.before.before.before.before.before.before.before
 
 next :
-    (c : tie.Else1 invariant-loop decreases-loop) →
-    let w = c.before.before.before.before.before.word_Cells in
-    let l = (at-loop c).loop in
-    let a = (at-loop c).before.before.before.before.args in
+    (c : tie.Else-end-at invariant-loop decreases-loop) →
+    let w = c.word_cells-w in
+    let l = (at-loop c).loop-at in
+    let a = (at-loop c).args in
     Filling subject a.line.now w.result.end (part_at w.result.end) (l.n + w.result.count) a.out.now
-    (put_mid l.n (length l.out - l.n) l.out w.new.1.1.1.0)
+    (put_mid l.n (length l.out - l.n) l.out w.new.out)
 next c =
-    let w = c.before.before.before.before.before.word_Cells in
-    filling-word (at-loop c).loop.invariant.0 c.if1.false (w.ensures.0 c.if1.false)
+    let w = c.word_cells-w in
+    filling-word (at-loop c).loop-at.invariant.0 c.if-end-at.false (w.ensures.0 c.if-end-at.false)
 
-loop-holds : tie.Need-loop-init invariant-loop decreases-loop
-loop-holds c = (filling-start subject _ _ c.before.before.before.requires.1, refl)
+loop-holds : tie.Need-loop-at-init invariant-loop decreases-loop
+loop-holds c = (filling-start subject _ _ c.requires.1, refl)
 
-mul-word-cells : tie.Need-overflow-mul-word-cells invariant-loop decreases-loop
+mul-word-cells : tie.Need-offset_bounds-out-n invariant-loop decreases-loop
 mul-word-cells c = search rules
 
-sub-word-cells : tie.Need-overflow-sub-word-cells invariant-loop decreases-loop
-sub-word-cells c = filling-upto c.before.before.loop.invariant.0
+sub-word-cells : tie.Need-slice_bounds-word_cells-count invariant-loop decreases-loop
+sub-word-cells c = filling-upto c.loop-at.invariant.0
 
-part-word-cells-start : tie.Need-slice-bounds-word-cells-start invariant-loop decreases-loop
-part-word-cells-start c = filling-upto c.before.before.loop.invariant.0
+part-word-cells-start : tie.Need-slice_bounds-word_cells-start invariant-loop decreases-loop
+part-word-cells-start c = filling-upto c.loop-at.invariant.0
 
-part-word-cells-end : tie.Need-slice-bounds-word-cells-end invariant-loop decreases-loop
+part-word-cells-end : tie.Need-slice_bounds-word_cells-end invariant-loop decreases-loop
 part-word-cells-end c = search rules
 
-word-cells-requires : tie.Need-word-cells-requires invariant-loop decreases-loop
+word-cells-requires : tie.Need-word_cells-w-requires invariant-loop decreases-loop
 word-cells-requires c κs =
-    let l = c.before.before.before.loop in
-    let p = c.before.before.before.before.before.before.before.requires in
+    let l = c.loop-at in
+    let p = c.requires in
     (l.invariant.0.left.within, omega (arith, l.invariant.1, p.0))
 
-same_length : tie.Need-same-length invariant-loop decreases-loop
+same_length : tie.Need-shape_of-bytes-then-end-at invariant-loop decreases-loop
 same_length c = search rules
 
-same-length-2 : tie.Need-same-length-2 invariant-loop decreases-loop
+same-length-2 : tie.Need-shape_of-out-then-end-at invariant-loop decreases-loop
 same-length-2 c = search rules
 
-returns : tie.Need-returns invariant-loop decreases-loop
+returns : tie.Need-returns-then-end-at invariant-loop decreases-loop
 returns c =
-    let l = c.before.before.before.before.before.before.before.before.before.loop in
-    filling-same l.invariant.0 (c.before.before.before.before.before.word_Cells.ensures.1 c.if1.true)
+    let l = c.loop-at in
+    filling-same l.invariant.0 (c.word_cells-w.ensures.1 c.if-end-at.true)
 
-add-n : tie.Need-overflow-add-n invariant-loop decreases-loop
+add-n : tie.Need-overflow_add-n invariant-loop decreases-loop
 add-n c =
     let f = (next c.before).left in
     search rules
 
-loop-less : tie.Need-loop-smaller invariant-loop decreases-loop
+loop-less : tie.Need-loop-at-smaller invariant-loop decreases-loop
 loop-less c =
     let f = (next c.before).left in
-    omega (arith, c.before.if1.false, f.within)
+    omega (arith, c.if-end-at.false, f.within)
 
-loop-again : tie.Need-loop-preserved invariant-loop decreases-loop
+loop-again : tie.Need-loop-at-preserved invariant-loop decreases-loop
 loop-again c = (next c.before, search rules)
 
-same-length-3 : tie.Need-same-length-3 invariant-loop decreases-loop
+same-length-3 : tie.Need-shape_of-bytes invariant-loop decreases-loop
 same-length-3 c = search rules
 
-same-length-4 : tie.Need-same-length-4 invariant-loop decreases-loop
+same-length-4 : tie.Need-shape_of-out invariant-loop decreases-loop
 same-length-4 c = search rules
 
-returns-2 : tie.Need-returns-2 invariant-loop decreases-loop
-returns-2 c = c.before.loop.invariant.0
+returns-2 : tie.Need-returns invariant-loop decreases-loop
+returns-2 c = c.loop-at.invariant.0
 
-pub fill-through-spec : {M : Type 1} → statement M
-fill-through-spec =
+pub fill_through_spec : {M : Type 1} → statement M
+fill_through_spec =
     tie.close
     (tie.spec
     invariant-loop

@@ -1,27 +1,27 @@
-use mathlib.Core.Logic.{⊎_elim}
 use native.Mathlib.Omega.{arith}
 use Rattle.encoded_word_write.proofs.Bringing.{plain-told}
 use borrow.Author.Rules.{rules}
 use Rattle.encoded_word_write.proofs.is_plain.Statement.{statement}
 use Rattle.encoded_word_write.proofs.is_plain.Tie as tie
+use Rattle.encoded_word_write.proofs.is_plain.Lts.{then-u-gt63, else-u-gt63}
 
-cast-result : tie.Need-overflow-cast-result
+cast-result : tie.Need-overflow_cast-result
 cast-result c = search rules
 
-shr-result : tie.Need-overflow-shr-result
+shr-result : tie.Need-overflow_shr-result
 shr-result c = search rules
 
 returns : tie.Need-returns
 returns c =
     let j = c.before in
-    let a = j.before.args in
-    plain-told j.if1.set a.u
-    (λ h. ⊎_elim (λ p. absurd (omega (arith, p.0.taken))) (λ q. q.1) j.if1.branch)
-    (λ h. ⊎_elim (λ p. p.1) (λ q. absurd (omega (arith, q.0.left))) j.if1.branch)
-    j.before.requires
+    let a = j.args in
+    plain-told j.if-u-gt63.set a.u
+    (λ h. elim j.if-u-gt63.branch [ then-u-gt63 w ↦ absurd (omega arith) | else-u-gt63 w ↦ w.set-is ])
+    (λ h. elim j.if-u-gt63.branch [ then-u-gt63 w ↦ w.set-is | else-u-gt63 w ↦ absurd (omega arith) ])
+    j.requires
 
-pub is-plain-spec : {M : Type 1} → statement M
-is-plain-spec =
+pub is_plain_spec : {M : Type 1} → statement M
+is_plain_spec =
     tie.close
     (tie.spec
     cast-result

@@ -2,39 +2,31 @@ use borrow.Author.Rules.{rules}
 use Rattle.encoded_word_write.proofs.put_end.Statement.{statement}
 use Rattle.encoded_word_write.proofs.put_end.Tie as tie
 
-slice-aggregate-put-bytes : tie.Need-slice-aggregate-put-bytes
-slice-aggregate-put-bytes c = search rules
+put-bytes-requires : tie.Need-put_bytes-requires
+put-bytes-requires c κs = rw c.if-more.true at c.requires
 
-put-bytes-requires : tie.Need-put-bytes-requires
-put-bytes-requires c κs = rw c.before.before.if1.true at c.before.before.before.before.requires
-
-same_length : tie.Need-same-length
+same_length : tie.Need-shape_of-out-then-more
 same_length c = search rules
 
-returns : tie.Need-returns
-returns c = rw c.before.before.before.before.before.if1.true c.before.before.put-bytes.ensures
+returns : tie.Need-returns-then-more
+returns c = rw c.if-more.true c.put_bytes.ensures
 
-slice-aggregate-put-bytes-2 : tie.Need-slice-aggregate-put-bytes-2
-slice-aggregate-put-bytes-2 c = search rules
+put-bytes-requires-2 : tie.Need-put_bytes-requires-2
+put-bytes-requires-2 c κs = rw c.if-more.false at c.requires
 
-put-bytes-requires-2 : tie.Need-put-bytes-requires-2
-put-bytes-requires-2 c κs = rw c.before.before.if1.false at c.before.before.before.before.requires
-
-same-length-2 : tie.Need-same-length-2
+same-length-2 : tie.Need-shape_of-out
 same-length-2 c = search rules
 
-returns-2 : tie.Need-returns-2
-returns-2 c = rw c.before.before.before.before.before.if1.false c.before.before.put-bytes2.ensures
+returns-2 : tie.Need-returns
+returns-2 c = rw c.if-more.false c.put_bytes-2.ensures
 
-pub put-end-spec : {M : Type 1} → statement M
-put-end-spec =
+pub put_end_spec : {M : Type 1} → statement M
+put_end_spec =
     tie.close
     (tie.spec
-    slice-aggregate-put-bytes
     put-bytes-requires
     same_length
     returns
-    slice-aggregate-put-bytes-2
     put-bytes-requires-2
     same-length-2
     returns-2)

@@ -7,82 +7,82 @@ use borrow.Author.Rules.{rules}
 use Rattle.encoded_word_write.proofs.put_spelled.Statement.{statement}
 use Rattle.encoded_word_write.proofs.put_spelled.Tie as tie
 
-slice-write-out : tie.Need-slice-write-out
+slice-write-out : tie.Need-bounds-out-at
 slice-write-out c =
-    let a = c.before.before.args in
-    omega (arith, c.before.before.requires, ap length (spelled-space a.b c.if1.true))
+    let a = c.args in
+    omega (arith, c.requires, ap length (spelled-space a.b c.if-b-eq32.true))
 
-same_length : tie.Need-same-length
+same_length : tie.Need-shape_of-out-then-b-eq32
 same_length c = search rules
 
-returns : tie.Need-returns
+returns : tie.Need-returns-then-b-eq32
 returns c =
-    let a = c.before.before.args in
-    rw (spelled-space a.b c.if1.true) (puts_one 95 a.at a.out.now)
+    let a = c.args in
+    rw (spelled-space a.b c.if-b-eq32.true) (puts_one 95 a.at a.out.now)
 
-is-itself-requires : tie.Need-is-itself-requires
+is-itself-requires : tie.Need-is_itself-requires
 is-itself-requires c κs = search rules
 
-slice-write-out-2 : tie.Need-slice-write-out-2
+slice-write-out-2 : tie.Need-bounds-out-at-then-is_itself
 slice-write-out-2 c =
     let s = c.before.before.before.before in
-    let t = sym c.before.is-itself.ensures ∙ c.if2.true in
+    let t = sym c.is_itself.ensures ∙ c.if-is_itself.true in
     omega (arith, s.requires, ap length (spelled-itself s.args.b t))
 
-same-length-2 : tie.Need-same-length-2
+same-length-2 : tie.Need-shape_of-out-then-is_itself
 same-length-2 c = search rules
 
-returns-2 : tie.Need-returns-2
+returns-2 : tie.Need-returns-then-is_itself
 returns-2 c =
-    let a = c.before.before.before.before.args in
-    let e = spelled-itself a.b (sym c.before.is-itself.ensures ∙ c.if2.true) in
+    let a = c.args in
+    let e = spelled-itself a.b (sym c.is_itself.ensures ∙ c.if-is_itself.true) in
     rw e (puts_one a.b a.at a.out.now)
 
-figure-requires : tie.Need-figure-requires
+figure-requires : tie.Need-figure-high-requires
 figure-requires c κs = search rules
 
-figure-requires-2 : tie.Need-figure-requires-2
+figure-requires-2 : tie.Need-figure-low-requires
 figure-requires-2 c κs = search rules
 
-slice-write-out-3 : tie.Need-slice-write-out-3
+slice-write-out-3 : tie.Need-bounds-out-at-2
 slice-write-out-3 c =
     let s = c.before.before.before.before.before.before in
-    let t = sym c.before.before.before.is-itself.ensures ∙ c.before.before.if2.false in
-    let e = spelled-pair s.args.b c.before.before.before.before.if1.false t in
+    let t = sym c.is_itself.ensures ∙ c.if-is_itself.false in
+    let e = spelled-pair s.args.b c.if-b-eq32.false t in
     omega (arith, s.requires, ap length e, pair-three s.args.b)
 
-add-out : tie.Need-overflow-add-out
+add-out : tie.Need-overflow_add-out
 add-out c = search rules
 
-slice-write-out-4 : tie.Need-slice-write-out-4
+slice-write-out-4 : tie.Need-bounds-out-at-3
 slice-write-out-4 c =
     let s = c.before.before.before.before.before.before in
-    let t = sym c.before.before.before.is-itself.ensures ∙ c.before.before.if2.false in
-    let e = spelled-pair s.args.b c.before.before.before.before.if1.false t in
+    let t = sym c.is_itself.ensures ∙ c.if-is_itself.false in
+    let e = spelled-pair s.args.b c.if-b-eq32.false t in
     simp length-set (omega (arith, s.requires, ap length e, pair-three s.args.b))
 
-add-out-2 : tie.Need-overflow-add-out-2
+add-out-2 : tie.Need-overflow_add-out-2
 add-out-2 c = search rules
 
-slice-write-out-5 : tie.Need-slice-write-out-5
+slice-write-out-5 : tie.Need-bounds-out-at-4
 slice-write-out-5 c =
     let s = c.before.before.before.before.before.before in
-    let t = sym c.before.before.before.is-itself.ensures ∙ c.before.before.if2.false in
-    let e = spelled-pair s.args.b c.before.before.before.before.if1.false t in
+    let t = sym c.is_itself.ensures ∙ c.if-is_itself.false in
+    let e = spelled-pair s.args.b c.if-b-eq32.false t in
     simp length-set (omega (arith, s.requires, ap length e, pair-three s.args.b))
 
-same-length-3 : tie.Need-same-length-3
+same-length-3 : tie.Need-shape_of-out
 same-length-3 c = search rules
 
-returns-3 : tie.Need-returns-3
+returns-3 : tie.Need-returns
 returns-3 c =
-    let a = c.before.before.before.before.before.before.args in
-    let t = sym c.before.before.before.is-itself.ensures ∙ c.before.before.if2.false in
-    let e = spelled-pair a.b c.before.before.before.before.if1.false t in
-    rw e (puts-pair a.b a.at a.out.now (search rules) c.before.figure.ensures c.figure2.ensures)
+    let a = c.args in
+    let t = sym c.is_itself.ensures ∙ c.if-is_itself.false in
+    let e = spelled-pair a.b c.if-b-eq32.false t in
+    rw e (puts-pair a.b a.at a.out.now (search rules) c.figure-high.ensures c.figure-low.ensures)
 
-pub put-spelled-spec : {M : Type 1} → statement M
-put-spelled-spec =
+pub put_spelled_spec : {M : Type 1} → statement M
+put_spelled_spec =
     tie.close
     (tie.spec
     slice-write-out

@@ -3,15 +3,14 @@ use Rattle.host_benches.specs.Benches.{no_kind_in}
 use Rattle.host_benches.proofs.no_kind.Statement.{statement}
 use Rattle.host_benches.proofs.no_kind.Tie as tie
 
-returns : tie.Need-returns
+returns : tie.Need-returns-then-first-gt2
 unfolding no_kind_in
-returns c = rw (lt-ltb 2 c.before.before.before.args.b.bench0.kind c.if1.true)
+returns c = rw (lt-ltb 2 c.args.b.bench0.kind c.if-first-gt2.true)
 
-returns-2 : tie.Need-returns-2
+returns-2 : tie.Need-returns
 unfolding no_kind_in
 returns-2 c =
-    let if1' = c.before.before.if1 in
-    rw (le-ltb 2 c.before.before.before.before.before.args.b.bench0.kind if1'.false)
+    rw (le-ltb 2 c.args.b.bench0.kind c.if-first-gt2.false)
 
-pub no-kind-spec : {M : Type 1} → statement M
-no-kind-spec = tie.close (tie.spec returns returns-2)
+pub no_kind_spec : {M : Type 1} → statement M
+no_kind_spec = tie.close (tie.spec returns returns-2)

@@ -7,21 +7,21 @@ use borrow.Author.Rules.{rules}
 use Rattle.host_benches.proofs.redo.Statement.{statement}
 use Rattle.host_benches.proofs.redo.Tie as tie
 
-no-kind-requires : tie.Need-no-kind-requires
+no-kind-requires : tie.Need-no_kind-requires
 no-kind-requires c κs = search rules
 
-unsound-requires : tie.Need-unsound-requires
+unsound-requires : tie.Need-unsound-answer-requires
 unsound-requires c κs = search rules
 
-returns : tie.Need-returns
+returns : tie.Need-returns-then-no_kind
 returns c =
-    let no-kind' = c.before.before.no_kind in
-    let a = c.before.before.before.before.before.before.args in
+    let no-kind' = c.no_kind in
+    let a = c.args in
     none_found a.b a.bench a.text0.now a.text1.now a.history.now [] []
-    (λ (t : State). redo_of t a.bench) c.unsound.result (sym no-kind'.ensures ∙ c.before.if1.true)
-    c.unsound.ensures
+    (λ (t : State). redo_of t a.bench) c.unsound-answer.result (sym no-kind'.ensures ∙ c.if-no_kind.true)
+    c.unsound-answer.ensures
 
-benches-in-requires : tie.Need-benches-in-requires
+benches-in-requires : tie.Need-benches_in-requires
 benches-in-requires c κs = search rules
 
 redo-requires : tie.Need-redo-requires
@@ -30,28 +30,27 @@ redo-requires c κs = search rules
 edited-requires : tie.Need-edited-requires
 edited-requires c κs = search rules
 
-same_length : tie.Need-same-length
+same_length : tie.Need-shape_of-text0
 same_length c = search rules
 
-same-length-2 : tie.Need-same-length-2
+same-length-2 : tie.Need-shape_of-text1
 same-length-2 c = search rules
 
-returns-2 : tie.Need-returns-2
+returns-2 : tie.Need-returns
 returns-2 c =
-    let c9 = c.before.before.before.before.before.before.before.before.before in
-    let c10 = c9.before in
-    let c14 = c10.before.before.before.before in
+    let c9 = c in
+    let c10 = c9 in
+    let c14 = c10 in
     let no-kind' = c10.no_kind in
-    let if1' = c9.if1 in
-    let benches-in' = c.before.before.before.before.before.before.before.before.benches-in in
-    let redo' = c.before.before.before.before.before.redo in
+    let benches-in' = c.benches_in in
+    let redo' = c.redo in
     let a = c14.args in
     edited-found a.b a.bench a.text0.now a.text1.now a.history.now [] []
     (λ (t : State). redo_of t a.bench) _ redo'.result benches-in'.result _ _ _ []
-    (sym no-kind'.ensures ∙ if1'.false) benches-in'.ensures c.edited.ensures redo'.ensures
+    (sym no-kind'.ensures ∙ c9.if-no_kind.false) benches-in'.ensures c.edited.ensures redo'.ensures
 
-pub redo-spec : {M : Type 1} → statement M
-redo-spec =
+pub redo_spec : {M : Type 1} → statement M
+redo_spec =
     tie.close
     (tie.spec
     no-kind-requires

@@ -6,20 +6,20 @@ use borrow.Author.Rules.{rules}
 use Rattle.host_benches.proofs.save.Statement.{statement}
 use Rattle.host_benches.proofs.save.Tie as tie
 
-no-kind-requires : tie.Need-no-kind-requires
+no-kind-requires : tie.Need-no_kind-requires
 no-kind-requires c κs = search rules
 
-unsound-requires : tie.Need-unsound-requires
+unsound-requires : tie.Need-unsound-answer-requires
 unsound-requires c κs = search rules
 
-returns : tie.Need-returns
+returns : tie.Need-returns-then-no_kind
 returns c =
-    let a = c.before.before.before.before.before.before.before.before.args in
+    let a = c.args in
     none_found a.b a.bench a.text0.now a.text1.now a.history.now a.out.now a.arrived.now
-    (λ (t : State). save_of t a.bench a.arrived.now a.out.now) c.unsound.result
-    (sym c.before.before.no_kind.ensures ∙ c.before.if1.true) c.unsound.ensures
+    (λ (t : State). save_of t a.bench a.arrived.now a.out.now) c.unsound-answer.result
+    (sym c.no_kind.ensures ∙ c.if-no_kind.true) c.unsound-answer.ensures
 
-benches-in-requires : tie.Need-benches-in-requires
+benches-in-requires : tie.Need-benches_in-requires
 benches-in-requires c κs = search rules
 
 save-requires : tie.Need-save-requires
@@ -28,26 +28,25 @@ save-requires c κs = search rules
 edited-requires : tie.Need-edited-requires
 edited-requires c κs = search rules
 
-same_length : tie.Need-same-length
+same_length : tie.Need-shape_of-out
 same_length c = search rules
 
-returns-2 : tie.Need-returns-2
+returns-2 : tie.Need-returns
 returns-2 c =
-    let c10 = c.before.before.before.before.before.before.before.before.before.before in
-    let c13 = c10.before.before.before in
-    let no-kind' = c.before.before.before.before.before.before.before.no_kind in
-    let if1' = c.before.before.before.before.before.before.if1 in
-    let benches-in' = c.before.before.before.before.before.benches-in in
-    let save' = c.before.before.before.save in
+    let c10 = c in
+    let c13 = c10 in
+    let no-kind' = c.no_kind in
+    let benches-in' = c.benches_in in
+    let save' = c.save in
     let a = c13.args in
     edited-found a.b a.bench a.text0.now a.text1.now a.history.now a.out.now
     a.arrived.now
     (λ (t : State). save_of t a.bench a.arrived.now a.out.now) _ save'.result
     benches-in'.result _ _ _ _
-    (sym no-kind'.ensures ∙ if1'.false) benches-in'.ensures c.edited.ensures save'.ensures
+    (sym no-kind'.ensures ∙ c.if-no_kind.false) benches-in'.ensures c.edited.ensures save'.ensures
 
-pub save-spec : {M : Type 1} → statement M
-save-spec =
+pub save_spec : {M : Type 1} → statement M
+save_spec =
     tie.close
     (tie.spec
     no-kind-requires

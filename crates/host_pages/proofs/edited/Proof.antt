@@ -2,19 +2,19 @@ use borrow.Author.Rules.{rules}
 use Rattle.host_pages.proofs.edited.Statement.{statement}
 use Rattle.host_pages.proofs.edited.Tie as tie
 
-in-numbers-requires : tie.Need-in-numbers-requires
+in-numbers-requires : tie.Need-in_numbers-answer-requires
 in-numbers-requires c κs = search rules
 
-kind-number-requires : tie.Need-kind-number-requires
+kind-number-requires : tie.Need-kind_number-kind-requires
 kind-number-requires c κs = search rules
 
-mark-number-requires : tie.Need-mark-number-requires
+mark-number-requires : tie.Need-mark_number-saved-requires
 mark-number-requires c κs = search rules
 
 returns : tie.Need-returns
 returns c =
-    let k = c.before in
-    (k.before.before.in-numbers.ensures, rw (k.kind-number.ensures, c.mark-number.ensures))
+    let k = c in
+    (k.in_numbers-answer.ensures, rw (k.kind_number-kind.ensures, c.mark_number-saved.ensures))
 
-pub edited-spec : {M : Type 1} → statement M
-edited-spec = tie.close (tie.spec in-numbers-requires kind-number-requires mark-number-requires returns)
+pub edited_spec : {M : Type 1} → statement M
+edited_spec = tie.close (tie.spec in-numbers-requires kind-number-requires mark-number-requires returns)

@@ -3,34 +3,34 @@ use borrow.Author.Rules.{rules}
 use Rattle.host_pages.proofs.keep.Statement.{statement}
 use Rattle.host_pages.proofs.keep.Tie as tie
 
-no-kind-requires : tie.Need-no-kind-requires
+no-kind-requires : tie.Need-no_kind-requires
 no-kind-requires c κs = search rules
 
-returns : tie.Need-returns
+returns : tie.Need-returns-then-p-gt2
 returns c =
-    let a = c.before.before.before.before.before.before.before.args in
+    let a = c.args in
     none_kept a.p a.text.now a.history.now a.arrived.now a.out.now c.no_kind.result
-    c.before.if1.true c.no_kind.ensures
+    c.if-p-gt2.true c.no_kind.ensures
 
-page-in-requires : tie.Need-page-in-requires
+page-in-requires : tie.Need-page_in-requires
 page-in-requires c κs = search rules
 
 keep-requires : tie.Need-keep-requires
 keep-requires c κs = search rules
 
-in-numbers-requires : tie.Need-in-numbers-requires
+in-numbers-requires : tie.Need-in_numbers-requires
 in-numbers-requires c κs = search rules
 
-same_length : tie.Need-same-length
+same_length : tie.Need-shape_of-out
 same_length c = search rules
 
-returns-2 : tie.Need-returns-2
+returns-2 : tie.Need-returns
 returns-2 c =
-    let u = c.before.before.before in
-    let g = u.before.before in
-    let a = g.before.before.before.before.before.before.before.args in
+    let u = c in
+    let g = u in
+    let a = g.args in
     kept-found a.p a.text.now a.history.now a.arrived.now a.out.now _ u.keep.result
-    g.page-in.result _ g.before.if1.false g.page-in.ensures c.in-numbers.ensures u.keep.ensures
+    g.page_in.result _ g.if-p-gt2.false g.page_in.ensures c.in_numbers.ensures u.keep.ensures
 
 pub keep_spec : {M : Type 1} → statement M
 keep_spec =

@@ -3,17 +3,17 @@ use Rattle.host_pages.specs.Pages.{kind_of}
 use Rattle.host_pages.proofs.kind_of.Statement.{statement}
 use Rattle.host_pages.proofs.kind_of.Tie as tie
 
-returns : tie.Need-returns
+returns : tie.Need-returns-then-number-eq0
 unfolding kind_of
-returns c = rw c.if1.true
+returns c = rw c.if-number-eq0.true
 
-returns-2 : tie.Need-returns-2
+returns-2 : tie.Need-returns-then-number-eq1
 unfolding kind_of
-returns-2 c = rw c.if2.true
+returns-2 c = rw c.if-number-eq1.true
 
-returns-3 : tie.Need-returns-3
+returns-3 : tie.Need-returns
 unfolding kind_of
-returns-3 c = simp (ne_eqb _ _ c.before.if1.false, ne_eqb _ _ c.if2.false)
+returns-3 c = simp (ne_eqb _ _ c.if-number-eq0.false, ne_eqb _ _ c.if-number-eq1.false)
 
-pub kind-of-spec : {M : Type 1} → statement M
-kind-of-spec = tie.close (tie.spec returns returns-2 returns-3)
+pub kind_of_spec : {M : Type 1} → statement M
+kind_of_spec = tie.close (tie.spec returns returns-2 returns-3)

@@ -10,10 +10,10 @@ open-requires c κs = search rules
 edited-requires : tie.Need-edited-requires
 edited-requires c κs = search rules
 
-same_length : tie.Need-same-length
+same_length : tie.Need-shape_of-text
 same_length c = search rules
 
-same-length-2 : tie.Need-same-length-2
+same-length-2 : tie.Need-shape_of-history
 same-length-2 c = search rules
 
 returns : tie.Need-returns

@@ -9,18 +9,18 @@ read-requires c κs = search rules
 edited-requires : tie.Need-edited-requires
 edited-requires c κs = search rules
 
-same_length : tie.Need-same-length
+same_length : tie.Need-shape_of-arrived
 same_length c = search rules
 
-same-length-2 : tie.Need-same-length-2
+same-length-2 : tie.Need-shape_of-text
 same-length-2 c = search rules
 
-same-length-3 : tie.Need-same-length-3
+same-length-3 : tie.Need-shape_of-history
 same-length-3 c = search rules
 
 returns : tie.Need-returns
 returns c =
-    let u = c.before.before.before.before.before.before.before in
+    let u = c in
     edited-on _ u.read.result _ _ _ _ c.edited.ensures u.read.ensures
 
 pub read_spec : {M : Type 1} → statement M

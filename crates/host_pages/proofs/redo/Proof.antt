@@ -5,15 +5,15 @@ use borrow.Author.Rules.{rules}
 use Rattle.host_pages.proofs.redo.Statement.{statement}
 use Rattle.host_pages.proofs.redo.Tie as tie
 
-no-kind-requires : tie.Need-no-kind-requires
+no-kind-requires : tie.Need-no_kind-answer-requires
 no-kind-requires c κs = search rules
 
-returns : tie.Need-returns
+returns : tie.Need-returns-then-p-gt2
 returns c =
-    let a = c.before.before.before.before.before.args in
-    none_found a.p a.text.now a.history.now [] [] redo_of c.no_kind.result c.before.if1.true c.no_kind.ensures
+    let a = c.args in
+    none_found a.p a.text.now a.history.now [] [] redo_of c.no_kind-answer.result c.if-p-gt2.true c.no_kind-answer.ensures
 
-page-in-requires : tie.Need-page-in-requires
+page-in-requires : tie.Need-page_in-requires
 page-in-requires c κs = search rules
 
 redo-requires : tie.Need-redo-requires
@@ -22,18 +22,18 @@ redo-requires c κs = search rules
 edited-requires : tie.Need-edited-requires
 edited-requires c κs = search rules
 
-same_length : tie.Need-same-length
+same_length : tie.Need-shape_of-text
 same_length c = search rules
 
-returns-2 : tie.Need-returns-2
+returns-2 : tie.Need-returns
 returns-2 c =
-    let u = c.before.before.before in
-    let g = u.before.before in
-    let a = g.before.before.before.before.before.args in
-    edited-found a.p a.text.now a.history.now [] [] redo_of _ u.redo.result g.page-in.result _ _ [] g.before.if1.false g.page-in.ensures c.edited.ensures u.redo.ensures
+    let u = c in
+    let g = u in
+    let a = g.args in
+    edited-found a.p a.text.now a.history.now [] [] redo_of _ u.redo.result g.page_in.result _ _ [] g.if-p-gt2.false g.page_in.ensures c.edited.ensures u.redo.ensures
 
-pub redo-spec : {M : Type 1} → statement M
-redo-spec =
+pub redo_spec : {M : Type 1} → statement M
+redo_spec =
     tie.close
     (tie.spec
     no-kind-requires

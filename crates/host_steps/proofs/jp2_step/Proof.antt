@@ -4,36 +4,36 @@ use borrow.Author.Rules.{rules}
 use Rattle.host_steps.proofs.jp2_step.Statement.{statement}
 use Rattle.host_steps.proofs.jp2_step.Tie as tie
 
-jp2-cursor-in-requires : tie.Need-jp2-cursor-in-requires
+jp2-cursor-in-requires : tie.Need-jp2_cursor_in-requires
 jp2-cursor-in-requires c κs = search rules
 
-step-requires : tie.Need-step-requires
+step-requires : tie.Need-step-found-requires
 step-requires c κs = search rules
 
-enum-known-found : tie.Need-enum-known-found
+enum-known-found : tie.Need-enum_known-found
 enum-known-found c = search rules
 
-jp2-cursor-out-requires : tie.Need-jp2-cursor-out-requires
+jp2-cursor-out-requires : tie.Need-jp2_cursor_out-next-requires
 jp2-cursor-out-requires c κs = search rules
 
-enum-known-found-2 : tie.Need-enum-known-found-2
+enum-known-found-2 : tie.Need-enum_known-found-in-Final-1
 enum-known-found-2 c = search rules
 
-in-numbers-requires : tie.Need-in-numbers-requires
+in-numbers-requires : tie.Need-in_numbers-answer-requires
 in-numbers-requires c κs = search rules
 
-returns : tie.Need-returns
+returns : tie.Need-returns-in-Cell
 returns c =
-    let s = c.before.before.before.before.before in
-    cell-on jp2_out _ _ _ _ c.jp2-cursor-out.ensures (rw (c.before.before.before.found.given.1, s.before.jp2-cursor-in.ensures) at s.step.ensures)
+    let s = c in
+    cell-on jp2_out _ _ _ _ c.jp2_cursor_out-next.ensures (rw (c.in-Cell.is, s.jp2_cursor_in.ensures) at s.step-found.ensures)
 
-returns-2 : tie.Need-returns-2
+returns-2 : tie.Need-returns-in-Final
 returns-2 c =
-    let s = c.before.before.before.before in
-    final-on jp2_out _ _ _ c.in-numbers.ensures (rw (c.before.before.found2.given.1, s.before.jp2-cursor-in.ensures) at s.step.ensures)
+    let s = c in
+    final-on jp2_out _ _ _ c.in_numbers-answer.ensures (rw (c.in-Final.is, s.jp2_cursor_in.ensures) at s.step-found.ensures)
 
-pub jp2-step-spec : {M : Type 1} → statement M
-jp2-step-spec =
+pub jp2_step_spec : {M : Type 1} → statement M
+jp2_step_spec =
     tie.close
     (tie.spec
     jp2-cursor-in-requires

@@ -20,35 +20,35 @@ opening-fits : (after : Bool) → Fits w32 (2 + bool_byte after)
 opening-fits true = search rules
 opening-fits false = search rules
 
-enum-known-state : tie.Need-enum-known-state
+enum-known-state : tie.Need-enum_known-state
 enum-known-state c = search rules
 
-cast-t10 : tie.Need-overflow-cast-t10
+cast-t10 : tie.Need-overflow_cast-result
 cast-t10 c = search rules
 
-enum-known-state-2 : tie.Need-enum-known-state-2
+enum-known-state-2 : tie.Need-enum_known-state-in-Opening-1
 enum-known-state-2 c = search rules
 
-cast-t11 : tie.Need-overflow-cast-t11
+cast-t11 : tie.Need-overflow_cast-result-in-Opening
 cast-t11 c = search rules
 
-add-t12 : tie.Need-overflow-add-t12
-add-t12 c = opening-fits c.before.state2.given.0.0
+add-t12 : tie.Need-overflow_add-result
+add-t12 c = opening-fits c.in-Opening.after
 
-enum-known-state-3 : tie.Need-enum-known-state-3
+enum-known-state-3 : tie.Need-enum_known-state-in-Run-1
 enum-known-state-3 c = search rules
 
-returns : tie.Need-returns
-returns c = rw (c.before.state.given.1, outside-number _)
+returns : tie.Need-returns-in-Outside
+returns c = rw (c.in-Outside.is, outside-number _)
 
-returns-2 : tie.Need-returns-2
-returns-2 c = rw (c.before.state2.given.1, opening-number _)
+returns-2 : tie.Need-returns-in-Opening
+returns-2 c = rw (c.in-Opening.is, opening-number _)
 
-returns-3 : tie.Need-returns-3
-returns-3 c = rw c.before.state3.given.1
+returns-3 : tie.Need-returns-in-Run
+returns-3 c = rw c.in-Run.is
 
-pub mailbox-cursor-out-spec : {M : Type 1} → statement M
-mailbox-cursor-out-spec =
+pub mailbox_cursor_out_spec : {M : Type 1} → statement M
+mailbox_cursor_out_spec =
     tie.close
     (tie.spec
     enum-known-state

@@ -7,11 +7,11 @@ use Rattle.host_steps.proofs.mailbox_start.Tie as tie
 start-requires : tie.Need-start-requires
 start-requires c κs = search rules
 
-mailbox-cursor-out-requires : tie.Need-mailbox-cursor-out-requires
+mailbox-cursor-out-requires : tie.Need-mailbox_cursor_out-requires
 mailbox-cursor-out-requires c κs = search rules
 
 returns : tie.Need-returns
-returns c = c.mailbox-cursor-out.ensures ∙ ap mailbox_out c.before.start.ensures
+returns c = c.mailbox_cursor_out.ensures ∙ ap mailbox_out c.start.ensures
 
-pub mailbox-start-spec : {M : Type 1} → statement M
-mailbox-start-spec = tie.close (tie.spec start-requires mailbox-cursor-out-requires returns)
+pub mailbox_start_spec : {M : Type 1} → statement M
+mailbox_start_spec = tie.close (tie.spec start-requires mailbox-cursor-out-requires returns)

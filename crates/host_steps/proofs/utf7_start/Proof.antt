@@ -7,11 +7,11 @@ use Rattle.host_steps.proofs.utf7_start.Tie as tie
 start-requires : tie.Need-start-requires
 start-requires c κs = search rules
 
-utf7-cursor-out-requires : tie.Need-utf7-cursor-out-requires
+utf7-cursor-out-requires : tie.Need-utf7_cursor_out-requires
 utf7-cursor-out-requires c κs = search rules
 
 returns : tie.Need-returns
-returns c = c.utf7-cursor-out.ensures ∙ ap utf7_out c.before.start.ensures
+returns c = c.utf7_cursor_out.ensures ∙ ap utf7_out c.start.ensures
 
-pub utf7-start-spec : {M : Type 1} → statement M
-utf7-start-spec = tie.close (tie.spec start-requires utf7-cursor-out-requires returns)
+pub utf7_start_spec : {M : Type 1} → statement M
+utf7_start_spec = tie.close (tie.spec start-requires utf7-cursor-out-requires returns)

@@ -7,5 +7,5 @@ returns : tie.Need-returns
 unfolding designations
 returns c = refl
 
-pub all-rows-spec : {M : Type 1} → statement M
-all-rows-spec = tie.close (tie.spec returns)
+pub all_rows_spec : {M : Type 1} → statement M
+all_rows_spec = tie.close (tie.spec returns)

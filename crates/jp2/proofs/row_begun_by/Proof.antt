@@ -6,42 +6,42 @@ use Rattle.jp2.proofs.Search.{Passed, passed_start, passed_here, passed_on, pass
 use Rattle.jp2.proofs.row_begun_by.Statement.{statement}
 use Rattle.jp2.proofs.row_begun_by.Tie as tie
 
-abbrev invariant-loop : tie.invariant-loop
+abbrev invariant-loop : tie.invariant-loop-i
 invariant-loop bytes i₀ i = Passed (λ d. begins bytes (sent d)) designations i
 
-abbrev decreases-loop : tie.decreases-loop
+abbrev decreases-loop : tie.decreases-loop-i
 decreases-loop bytes i₀ i = 9 - i
 
-loop-holds : tie.Need-loop-init invariant-loop decreases-loop
+loop-holds : tie.Need-loop-i-init invariant-loop decreases-loop
 loop-holds c = passed_start _ _
 
-begins-row-requires : tie.Need-begins-row-requires invariant-loop decreases-loop
+begins-row-requires : tie.Need-begins_row-requires invariant-loop decreases-loop
 begins-row-requires c κs = search rules
 
-returns : tie.Need-returns invariant-loop decreases-loop
+returns : tie.Need-returns-then-begins_row invariant-loop decreases-loop
 unfolding designations row_begun_by
 returns c =
     let l = c.before.before in
-    passed_here l.before.loop.invariant no_row l.loop-test.true (sym c.before.begins-row.ensures ∙ c.if1.true)
+    passed_here l.loop-i.invariant no_row l.loop-i-test.true (sym c.begins_row.ensures ∙ c.if-begins_row.true)
 
-add-i : tie.Need-overflow-add-i invariant-loop decreases-loop
+add-i : tie.Need-overflow_add-i invariant-loop decreases-loop
 add-i c = search rules
 
-loop-less : tie.Need-loop-smaller invariant-loop decreases-loop
+loop-less : tie.Need-loop-i-smaller invariant-loop decreases-loop
 loop-less c = search rules
 
-loop-again : tie.Need-loop-preserved invariant-loop decreases-loop
+loop-again : tie.Need-loop-i-preserved invariant-loop decreases-loop
 unfolding designations
 loop-again c =
     let l = c.before.before in
-    passed_on l.before.loop.invariant no_row l.loop-test.true (sym c.before.begins-row.ensures ∙ c.if1.false)
+    passed_on l.loop-i.invariant no_row l.loop-i-test.true (sym c.begins_row.ensures ∙ c.if-begins_row.false)
 
-returns-2 : tie.Need-returns-2 invariant-loop decreases-loop
+returns-2 : tie.Need-returns invariant-loop decreases-loop
 unfolding designations row_begun_by
-returns-2 c = passed-end c.before.loop.invariant c.loop-test.false
+returns-2 c = passed-end c.loop-i.invariant c.loop-i-test.false
 
-pub row-begun-by-spec : {M : Type 1} → statement M
-row-begun-by-spec =
+pub row_begun_by_spec : {M : Type 1} → statement M
+row_begun_by_spec =
     tie.close
     (tie.spec
     invariant-loop

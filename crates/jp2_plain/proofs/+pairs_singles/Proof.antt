@@ -51,283 +51,283 @@ abbrev singles-calls : ℕ → singles-lts.Claims
 singles-calls t =
     (single-item-reads.Asked, single-item-reads.Learnt, pairs_below t, pairs.Post, ends-reads.Asked, ends-reads.Learnt)
 
-abbrev pairs-Inv : pairs-lts.invariant-loop
+abbrev pairs-Inv : pairs-lts.invariant-loop-at
 pairs-Inv text from set shift count out₀ at₀ g0₀ g2₀ n₀ out at g0 g2 n =
     (pair_set g0 ≡ true) × Reached text from out₀ out at g0 g2 n
 
-abbrev pairs-μ : pairs-lts.decreases-loop
+abbrev pairs-μ : pairs-lts.decreases-loop-at
 pairs-μ text from set shift count out₀ at₀ g0₀ g2₀ n₀ out at g0 g2 n = length text - at
 
-abbrev singles-Inv : singles-lts.invariant-loop
+abbrev singles-Inv : singles-lts.invariant-loop-at
 singles-Inv text from set shift count out₀ at₀ g0₀ g2₀ n₀ out at g0 g2 n =
     (single g0 ≡ true) × Reached text from out₀ out at g0 g2 n
 
-abbrev singles-μ : singles-lts.decreases-loop
+abbrev singles-μ : singles-lts.decreases-loop-at
 singles-μ text from set shift count out₀ at₀ g0₀ g2₀ n₀ out at g0 g2 n = length text - at
 
 module _ (t : ℕ) where
-  pairs-loop-holds : pairs-lts.Need-loop-init (pairs-calls t) (pairs-at t) pairs.Post pairs-Inv pairs-μ
+  pairs-loop-holds : pairs-lts.Need-loop-at-init (pairs-calls t) (pairs-at t) pairs.Post pairs-Inv pairs-μ
   pairs-loop-holds c =
-      let p = c.before.before.requires.1 in
+      let p = c.requires.1 in
       (p.1, reached-start p.0)
 
-  pairs-pair-item-requires : pairs-lts.Need-pair-item-requires (pairs-calls t) (pairs-at t) pairs.Post pairs-Inv pairs-μ
-  pairs-pair-item-requires c κs = (c.loop-test.true, c.before.loop.invariant.0)
+  pairs-pair-item-requires : pairs-lts.Need-pair_item-requires (pairs-calls t) (pairs-at t) pairs.Post pairs-Inv pairs-μ
+  pairs-pair-item-requires c κs = (c.loop-at-test.true, c.loop-at.invariant.0)
 
-  pairs-enum-known-set : pairs-lts.Need-enum-known-set (pairs-calls t) (pairs-at t) pairs.Post pairs-Inv pairs-μ
+  pairs-enum-known-set : pairs-lts.Need-enum_known-set (pairs-calls t) (pairs-at t) pairs.Post pairs-Inv pairs-μ
   pairs-enum-known-set c = search rules
 
   pairs-singles-requires : pairs-lts.Need-singles-requires (pairs-calls t) (pairs-at t) pairs.Post pairs-Inv pairs-μ
   pairs-singles-requires c κs =
-      let s = c.before.before in
-      let f = rw s.set.given.1 at s.before.before.pair-item.ensures in
-      let l = s.before.before.before.before in
-      let r = l.loop.invariant.1 in (
-        omega (arith, l.before.before.before.requires.0, r.past, f.0.past, f.0.within),
+      let s = c in
+      let f = rw s.in-ToSingles.is at s.pair_item.ensures in
+      let l = s in
+      let r = l.loop-at.invariant.1 in (
+        omega (arith, l.requires.0, r.past, f.0.past, f.0.within),
         (handed (reached-set r f.0 f.2), f.1),
       )
 
-  pairs-same-length : pairs-lts.Need-same-length (pairs-calls t) (pairs-at t) pairs.Post pairs-Inv pairs-μ
+  pairs-same-length : pairs-lts.Need-shape_of-out-in-ToSingles (pairs-calls t) (pairs-at t) pairs.Post pairs-Inv pairs-μ
   pairs-same-length c =
-      let d = c.before.before in
-      let s = d.before.before.before in
-      d.singles.auto.1.1.1.1.1.0 ∙ s.before.before.before.before.loop.invariant.1.so.put.same
+      let d = c in
+      let s = d in
+      d.singles.auto.out ∙ s.loop-at.invariant.1.so.put.same
 
-  pairs-returns : pairs-lts.Need-returns (pairs-calls t) (pairs-at t) pairs.Post pairs-Inv pairs-μ
+  pairs-returns : pairs-lts.Need-returns-in-ToSingles (pairs-calls t) (pairs-at t) pairs.Post pairs-Inv pairs-μ
   pairs-returns c =
-      let d = c.before.before in
-      let s = d.before.before.before in
-      let f = rw s.set.given.1 at s.before.before.pair-item.ensures in
-      let r = reached-set s.before.before.before.before.loop.invariant.1 f.0 f.2 in
+      let d = c in
+      let s = d in
+      let f = rw s.in-ToSingles.is at s.pair_item.ensures in
+      let r = reached-set s.loop-at.invariant.1 f.0 f.2 in
       (d.singles.ensures.0, handed-back r d.singles.ensures.1)
 
-  pairs-enum-known-set-2 : pairs-lts.Need-enum-known-set-2 (pairs-calls t) (pairs-at t) pairs.Post pairs-Inv pairs-μ
+  pairs-enum-known-set-2 : pairs-lts.Need-enum_known-set-in-ToPairs-1 (pairs-calls t) (pairs-at t) pairs.Post pairs-Inv pairs-μ
   pairs-enum-known-set-2 c = search rules
 
-  pairs-loop-less : pairs-lts.Need-loop-smaller (pairs-calls t) (pairs-at t) pairs.Post pairs-Inv pairs-μ
+  pairs-loop-less : pairs-lts.Need-loop-at-smaller-in-ToPairs (pairs-calls t) (pairs-at t) pairs.Post pairs-Inv pairs-μ
   pairs-loop-less c =
-      let s = c.before in
-      let f = rw s.set2.given.1 at s.before.before.pair-item.ensures in
+      let s = c in
+      let f = rw s.in-ToPairs.is at s.pair_item.ensures in
       omega (arith, f.0.past, f.0.within)
 
-  pairs-loop-again : pairs-lts.Need-loop-preserved (pairs-calls t) (pairs-at t) pairs.Post pairs-Inv pairs-μ
+  pairs-loop-again : pairs-lts.Need-loop-at-preserved-in-ToPairs (pairs-calls t) (pairs-at t) pairs.Post pairs-Inv pairs-μ
   pairs-loop-again c =
-      let s = c.before in
-      let f = rw s.set2.given.1 at s.before.before.pair-item.ensures in
-      (f.1, reached-set s.before.before.before.before.loop.invariant.1 f.0 f.2)
+      let s = c in
+      let f = rw s.in-ToPairs.is at s.pair_item.ensures in
+      (f.1, reached-set s.loop-at.invariant.1 f.0 f.2)
 
-  pairs-enum-known-set-3 : pairs-lts.Need-enum-known-set-3 (pairs-calls t) (pairs-at t) pairs.Post pairs-Inv pairs-μ
+  pairs-enum-known-set-3 : pairs-lts.Need-enum_known-set-in-ToG2-1 (pairs-calls t) (pairs-at t) pairs.Post pairs-Inv pairs-μ
   pairs-enum-known-set-3 c = search rules
 
-  pairs-loop-less-2 : pairs-lts.Need-loop-smaller-2 (pairs-calls t) (pairs-at t) pairs.Post pairs-Inv pairs-μ
+  pairs-loop-less-2 : pairs-lts.Need-loop-at-smaller-in-ToG2 (pairs-calls t) (pairs-at t) pairs.Post pairs-Inv pairs-μ
   pairs-loop-less-2 c =
-      let s = c.before in
-      let f = rw s.set3.given.1 at s.before.before.pair-item.ensures in
+      let s = c in
+      let f = rw s.in-ToG2.is at s.pair_item.ensures in
       omega (arith, f.0.past, f.0.within)
 
-  pairs-loop-again-2 : pairs-lts.Need-loop-preserved-2 (pairs-calls t) (pairs-at t) pairs.Post pairs-Inv pairs-μ
+  pairs-loop-again-2 : pairs-lts.Need-loop-at-preserved-in-ToG2 (pairs-calls t) (pairs-at t) pairs.Post pairs-Inv pairs-μ
   pairs-loop-again-2 c =
-      let s = c.before in
-      let f = rw s.set3.given.1 at s.before.before.pair-item.ensures in
-      let v = s.before.before.before.before.loop.invariant in
+      let s = c in
+      let f = rw s.in-ToG2.is at s.pair_item.ensures in
+      let v = s.loop-at.invariant in
       (v.0, reached-set v.1 f.0 f.1)
 
-  pairs-enum-known-value : pairs-lts.Need-enum-known-value (pairs-calls t) (pairs-at t) pairs.Post pairs-Inv pairs-μ
+  pairs-enum-known-value : pairs-lts.Need-enum_known-value (pairs-calls t) (pairs-at t) pairs.Post pairs-Inv pairs-μ
   pairs-enum-known-value c = search rules
 
-  pairs-mul-out : pairs-lts.Need-overflow-mul-out (pairs-calls t) (pairs-at t) pairs.Post pairs-Inv pairs-μ
+  pairs-mul-out : pairs-lts.Need-offset_bounds-out-n (pairs-calls t) (pairs-at t) pairs.Post pairs-Inv pairs-μ
   pairs-mul-out c = search rules
 
-  pairs-slice-write-out : pairs-lts.Need-slice-write-out (pairs-calls t) (pairs-at t) pairs.Post pairs-Inv pairs-μ
+  pairs-slice-write-out : pairs-lts.Need-bounds-out-n (pairs-calls t) (pairs-at t) pairs.Post pairs-Inv pairs-μ
   pairs-slice-write-out c =
-      let s = c.before in
-      let f = rw s.value.given.1 at s.before.before.pair-item.ensures in
-      reached-place s.before.before.before.before.loop.invariant.1 _ f.0 f.1
+      let s = c in
+      let f = rw s.in-Cell.is at s.pair_item.ensures in
+      reached-place s.loop-at.invariant.1 _ f.0 f.1
 
-  pairs-add-n : pairs-lts.Need-overflow-add-n (pairs-calls t) (pairs-at t) pairs.Post pairs-Inv pairs-μ
+  pairs-add-n : pairs-lts.Need-overflow_add-n (pairs-calls t) (pairs-at t) pairs.Post pairs-Inv pairs-μ
   pairs-add-n c =
-      let s = c.before in
-      let f = rw s.value.given.1 at s.before.before.pair-item.ensures in
-      let l = s.before.before.before.before in
-      let r = l.loop.invariant.1 in
+      let s = c in
+      let f = rw s.in-Cell.is at s.pair_item.ensures in
+      let l = s in
+      let r = l.loop-at.invariant.1 in
       let h = reached-place r _ f.0 f.1 in
-      record { fits = omega (arith, h, r.so.put.same, l.before.before.before.well-formed) }
+      record { fits = omega (arith, h, r.so.put.same, l.well_formed) }
 
-  pairs-loop-less-3 : pairs-lts.Need-loop-smaller-3 (pairs-calls t) (pairs-at t) pairs.Post pairs-Inv pairs-μ
+  pairs-loop-less-3 : pairs-lts.Need-loop-at-smaller (pairs-calls t) (pairs-at t) pairs.Post pairs-Inv pairs-μ
   pairs-loop-less-3 c =
-      let s = c.before in
-      let f = rw s.value.given.1 at s.before.before.pair-item.ensures in
+      let s = c in
+      let f = rw s.in-Cell.is at s.pair_item.ensures in
       omega (arith, f.0.past, f.0.within)
 
-  pairs-loop-again-3 : pairs-lts.Need-loop-preserved-3 (pairs-calls t) (pairs-at t) pairs.Post pairs-Inv pairs-μ
+  pairs-loop-again-3 : pairs-lts.Need-loop-at-preserved (pairs-calls t) (pairs-at t) pairs.Post pairs-Inv pairs-μ
   pairs-loop-again-3 c =
-      let s = c.before in
-      let f = rw s.value.given.1 at s.before.before.pair-item.ensures in
-      let v = s.before.before.before.before.loop.invariant in
+      let s = c in
+      let f = rw s.in-Cell.is at s.pair_item.ensures in
+      let v = s.loop-at.invariant in
       (v.0, reached-cell v.1 _ f.0 f.1)
 
-  pairs-enum-known-why : pairs-lts.Need-enum-known-why (pairs-calls t) (pairs-at t) pairs.Post pairs-Inv pairs-μ
+  pairs-enum-known-why : pairs-lts.Need-enum_known-why (pairs-calls t) (pairs-at t) pairs.Post pairs-Inv pairs-μ
   pairs-enum-known-why c = search rules
 
-  pairs-same-length-2 : pairs-lts.Need-same-length-2 (pairs-calls t) (pairs-at t) pairs.Post pairs-Inv pairs-μ
+  pairs-same-length-2 : pairs-lts.Need-shape_of-out-in-Fault (pairs-calls t) (pairs-at t) pairs.Post pairs-Inv pairs-μ
   pairs-same-length-2 c =
-      let s = c.before in
-      s.before.before.before.before.loop.invariant.1.so.put.same
+      let s = c in
+      s.loop-at.invariant.1.so.put.same
 
-  pairs-returns-2 : pairs-lts.Need-returns-2 (pairs-calls t) (pairs-at t) pairs.Post pairs-Inv pairs-μ
+  pairs-returns-2 : pairs-lts.Need-returns-in-Fault (pairs-calls t) (pairs-at t) pairs.Post pairs-Inv pairs-μ
   pairs-returns-2 c =
-      let s = c.before in
-      let f = rw s.why.given.1 at s.before.before.pair-item.ensures in
-      reached-over s.before.before.before.before.loop.invariant.1 f
+      let s = c in
+      let f = rw s.in-Fault.is at s.pair_item.ensures in
+      reached-over s.loop-at.invariant.1 f
 
   pairs-ends-requires : pairs-lts.Need-ends-requires (pairs-calls t) (pairs-at t) pairs.Post pairs-Inv pairs-μ
   pairs-ends-requires c κs = search rules
 
-  pairs-same-length-3 : pairs-lts.Need-same-length-3 (pairs-calls t) (pairs-at t) pairs.Post pairs-Inv pairs-μ
-  pairs-same-length-3 c = c.before.before.loop.invariant.1.so.put.same
+  pairs-same-length-3 : pairs-lts.Need-shape_of-out (pairs-calls t) (pairs-at t) pairs.Post pairs-Inv pairs-μ
+  pairs-same-length-3 c = c.loop-at.invariant.1.so.put.same
 
-  pairs-returns-3 : pairs-lts.Need-returns-3 (pairs-calls t) (pairs-at t) pairs.Post pairs-Inv pairs-μ
-  pairs-returns-3 c = reached-end c.before.before.loop.invariant.1 c.before.loop-test.false c.ends.ensures
+  pairs-returns-3 : pairs-lts.Need-returns (pairs-calls t) (pairs-at t) pairs.Post pairs-Inv pairs-μ
+  pairs-returns-3 c = reached-end c.loop-at.invariant.1 c.loop-at-test.false c.ends.ensures
 
 module _ (t : ℕ) where
-  singles-loop-holds : singles-lts.Need-loop-init (singles-calls t) (singles-at t) singles.Post singles-Inv singles-μ
+  singles-loop-holds : singles-lts.Need-loop-at-init (singles-calls t) (singles-at t) singles.Post singles-Inv singles-μ
   singles-loop-holds c =
-      let p = c.before.before.requires.1 in
+      let p = c.requires.1 in
       (p.1, reached-start p.0)
 
   singles-single-item-requires :
-      singles-lts.Need-single-item-requires (singles-calls t) (singles-at t) singles.Post singles-Inv singles-μ
-  singles-single-item-requires c κs = (c.loop-test.true, c.before.loop.invariant.0)
+      singles-lts.Need-single_item-requires (singles-calls t) (singles-at t) singles.Post singles-Inv singles-μ
+  singles-single-item-requires c κs = (c.loop-at-test.true, c.loop-at.invariant.0)
 
   singles-enum-known-set :
-      singles-lts.Need-enum-known-set (singles-calls t) (singles-at t) singles.Post singles-Inv singles-μ
+      singles-lts.Need-enum_known-set (singles-calls t) (singles-at t) singles.Post singles-Inv singles-μ
   singles-enum-known-set c = search rules
 
-  singles-loop-less : singles-lts.Need-loop-smaller (singles-calls t) (singles-at t) singles.Post singles-Inv singles-μ
+  singles-loop-less : singles-lts.Need-loop-at-smaller-in-ToSingles (singles-calls t) (singles-at t) singles.Post singles-Inv singles-μ
   singles-loop-less c =
-      let s = c.before in
-      let f = rw s.set.given.1 at s.before.before.single-item.ensures in
+      let s = c in
+      let f = rw s.in-ToSingles.is at s.single_item.ensures in
       omega (arith, f.0.past, f.0.within)
 
-  singles-loop-again : singles-lts.Need-loop-preserved (singles-calls t) (singles-at t) singles.Post singles-Inv singles-μ
+  singles-loop-again : singles-lts.Need-loop-at-preserved-in-ToSingles (singles-calls t) (singles-at t) singles.Post singles-Inv singles-μ
   singles-loop-again c =
-      let s = c.before in
-      let f = rw s.set.given.1 at s.before.before.single-item.ensures in
-      (f.1, reached-set s.before.before.before.before.loop.invariant.1 f.0 f.2)
+      let s = c in
+      let f = rw s.in-ToSingles.is at s.single_item.ensures in
+      (f.1, reached-set s.loop-at.invariant.1 f.0 f.2)
 
   singles-enum-known-set-2 :
-      singles-lts.Need-enum-known-set-2 (singles-calls t) (singles-at t) singles.Post singles-Inv singles-μ
+      singles-lts.Need-enum_known-set-in-ToPairs-1 (singles-calls t) (singles-at t) singles.Post singles-Inv singles-μ
   singles-enum-known-set-2 c = search rules
 
   singles-pairs-requires :
       singles-lts.Need-pairs-requires (singles-calls t) (singles-at t) singles.Post singles-Inv singles-μ
   singles-pairs-requires c κs =
-      let s = c.before.before in
-      let f = rw s.set2.given.1 at s.before.before.single-item.ensures in
-      let l = s.before.before.before.before in
-      let r = l.loop.invariant.1 in (
-        omega (arith, l.before.before.before.requires.0, r.past, f.0.past, f.0.within),
+      let s = c in
+      let f = rw s.in-ToPairs.is at s.single_item.ensures in
+      let l = s in
+      let r = l.loop-at.invariant.1 in (
+        omega (arith, l.requires.0, r.past, f.0.past, f.0.within),
         (handed (reached-set r f.0 f.2), f.1),
       )
 
-  singles-same-length : singles-lts.Need-same-length (singles-calls t) (singles-at t) singles.Post singles-Inv singles-μ
+  singles-same-length : singles-lts.Need-shape_of-out-in-ToPairs (singles-calls t) (singles-at t) singles.Post singles-Inv singles-μ
   singles-same-length c =
-      let d = c.before.before in
-      let s = d.before.before.before in
-      d.pairs.auto.1.1.1.1.1.0 ∙ s.before.before.before.before.loop.invariant.1.so.put.same
+      let d = c in
+      let s = d in
+      d.pairs.auto.out ∙ s.loop-at.invariant.1.so.put.same
 
-  singles-returns : singles-lts.Need-returns (singles-calls t) (singles-at t) singles.Post singles-Inv singles-μ
+  singles-returns : singles-lts.Need-returns-in-ToPairs (singles-calls t) (singles-at t) singles.Post singles-Inv singles-μ
   singles-returns c =
-      let d = c.before.before in
-      let s = d.before.before.before in
-      let f = rw s.set2.given.1 at s.before.before.single-item.ensures in
-      let r = reached-set s.before.before.before.before.loop.invariant.1 f.0 f.2 in
+      let d = c in
+      let s = d in
+      let f = rw s.in-ToPairs.is at s.single_item.ensures in
+      let r = reached-set s.loop-at.invariant.1 f.0 f.2 in
       (d.pairs.ensures.0, handed-back r d.pairs.ensures.1)
 
   singles-enum-known-set-3 :
-      singles-lts.Need-enum-known-set-3 (singles-calls t) (singles-at t) singles.Post singles-Inv singles-μ
+      singles-lts.Need-enum_known-set-in-ToG2-1 (singles-calls t) (singles-at t) singles.Post singles-Inv singles-μ
   singles-enum-known-set-3 c = search rules
 
-  singles-loop-less-2 : singles-lts.Need-loop-smaller-2 (singles-calls t) (singles-at t) singles.Post singles-Inv singles-μ
+  singles-loop-less-2 : singles-lts.Need-loop-at-smaller-in-ToG2 (singles-calls t) (singles-at t) singles.Post singles-Inv singles-μ
   singles-loop-less-2 c =
-      let s = c.before in
-      let f = rw s.set3.given.1 at s.before.before.single-item.ensures in
+      let s = c in
+      let f = rw s.in-ToG2.is at s.single_item.ensures in
       omega (arith, f.0.past, f.0.within)
 
   singles-loop-again-2 :
-      singles-lts.Need-loop-preserved-2 (singles-calls t) (singles-at t) singles.Post singles-Inv singles-μ
+      singles-lts.Need-loop-at-preserved-in-ToG2 (singles-calls t) (singles-at t) singles.Post singles-Inv singles-μ
   singles-loop-again-2 c =
-      let s = c.before in
-      let f = rw s.set3.given.1 at s.before.before.single-item.ensures in
-      let v = s.before.before.before.before.loop.invariant in
+      let s = c in
+      let f = rw s.in-ToG2.is at s.single_item.ensures in
+      let v = s.loop-at.invariant in
       (v.0, reached-set v.1 f.0 f.1)
 
   singles-enum-known-value :
-      singles-lts.Need-enum-known-value (singles-calls t) (singles-at t) singles.Post singles-Inv singles-μ
+      singles-lts.Need-enum_known-value (singles-calls t) (singles-at t) singles.Post singles-Inv singles-μ
   singles-enum-known-value c = search rules
 
-  singles-mul-out : singles-lts.Need-overflow-mul-out (singles-calls t) (singles-at t) singles.Post singles-Inv singles-μ
+  singles-mul-out : singles-lts.Need-offset_bounds-out-n (singles-calls t) (singles-at t) singles.Post singles-Inv singles-μ
   singles-mul-out c = search rules
 
   singles-slice-write-out :
-      singles-lts.Need-slice-write-out (singles-calls t) (singles-at t) singles.Post singles-Inv singles-μ
+      singles-lts.Need-bounds-out-n (singles-calls t) (singles-at t) singles.Post singles-Inv singles-μ
   singles-slice-write-out c =
-      let s = c.before in
-      let f = rw s.value.given.1 at s.before.before.single-item.ensures in
-      reached-place s.before.before.before.before.loop.invariant.1 _ f.0 f.1
+      let s = c in
+      let f = rw s.in-Cell.is at s.single_item.ensures in
+      reached-place s.loop-at.invariant.1 _ f.0 f.1
 
-  singles-add-n : singles-lts.Need-overflow-add-n (singles-calls t) (singles-at t) singles.Post singles-Inv singles-μ
+  singles-add-n : singles-lts.Need-overflow_add-n (singles-calls t) (singles-at t) singles.Post singles-Inv singles-μ
   singles-add-n c =
-      let s = c.before in
-      let f = rw s.value.given.1 at s.before.before.single-item.ensures in
-      let l = s.before.before.before.before in
-      let r = l.loop.invariant.1 in
+      let s = c in
+      let f = rw s.in-Cell.is at s.single_item.ensures in
+      let l = s in
+      let r = l.loop-at.invariant.1 in
       let h = reached-place r _ f.0 f.1 in
-      record { fits = omega (arith, h, r.so.put.same, l.before.before.before.well-formed) }
+      record { fits = omega (arith, h, r.so.put.same, l.well_formed) }
 
-  singles-loop-less-3 : singles-lts.Need-loop-smaller-3 (singles-calls t) (singles-at t) singles.Post singles-Inv singles-μ
+  singles-loop-less-3 : singles-lts.Need-loop-at-smaller (singles-calls t) (singles-at t) singles.Post singles-Inv singles-μ
   singles-loop-less-3 c =
-      let s = c.before in
-      let f = rw s.value.given.1 at s.before.before.single-item.ensures in
+      let s = c in
+      let f = rw s.in-Cell.is at s.single_item.ensures in
       omega (arith, f.0.past, f.0.within)
 
   singles-loop-again-3 :
-      singles-lts.Need-loop-preserved-3 (singles-calls t) (singles-at t) singles.Post singles-Inv singles-μ
+      singles-lts.Need-loop-at-preserved (singles-calls t) (singles-at t) singles.Post singles-Inv singles-μ
   singles-loop-again-3 c =
-      let s = c.before in
-      let f = rw s.value.given.1 at s.before.before.single-item.ensures in
-      let v = s.before.before.before.before.loop.invariant in
+      let s = c in
+      let f = rw s.in-Cell.is at s.single_item.ensures in
+      let v = s.loop-at.invariant in
       (v.0, reached-cell v.1 _ f.0 f.1)
 
   singles-enum-known-why :
-      singles-lts.Need-enum-known-why (singles-calls t) (singles-at t) singles.Post singles-Inv singles-μ
+      singles-lts.Need-enum_known-why (singles-calls t) (singles-at t) singles.Post singles-Inv singles-μ
   singles-enum-known-why c = search rules
 
   singles-same-length-2 :
-      singles-lts.Need-same-length-2 (singles-calls t) (singles-at t) singles.Post singles-Inv singles-μ
+      singles-lts.Need-shape_of-out-in-Fault (singles-calls t) (singles-at t) singles.Post singles-Inv singles-μ
   singles-same-length-2 c =
-      let s = c.before in
-      s.before.before.before.before.loop.invariant.1.so.put.same
+      let s = c in
+      s.loop-at.invariant.1.so.put.same
 
-  singles-returns-2 : singles-lts.Need-returns-2 (singles-calls t) (singles-at t) singles.Post singles-Inv singles-μ
+  singles-returns-2 : singles-lts.Need-returns-in-Fault (singles-calls t) (singles-at t) singles.Post singles-Inv singles-μ
   singles-returns-2 c =
-      let s = c.before in
-      let f = rw s.why.given.1 at s.before.before.single-item.ensures in
-      reached-over s.before.before.before.before.loop.invariant.1 f
+      let s = c in
+      let f = rw s.in-Fault.is at s.single_item.ensures in
+      reached-over s.loop-at.invariant.1 f
 
   singles-ends-requires :
       singles-lts.Need-ends-requires (singles-calls t) (singles-at t) singles.Post singles-Inv singles-μ
   singles-ends-requires c κs = search rules
 
   singles-same-length-3 :
-      singles-lts.Need-same-length-3 (singles-calls t) (singles-at t) singles.Post singles-Inv singles-μ
-  singles-same-length-3 c = c.before.before.loop.invariant.1.so.put.same
+      singles-lts.Need-shape_of-out (singles-calls t) (singles-at t) singles.Post singles-Inv singles-μ
+  singles-same-length-3 c = c.loop-at.invariant.1.so.put.same
 
-  singles-returns-3 : singles-lts.Need-returns-3 (singles-calls t) (singles-at t) singles.Post singles-Inv singles-μ
-  singles-returns-3 c = reached-end c.before.before.loop.invariant.1 c.before.loop-test.false c.ends.ensures
+  singles-returns-3 : singles-lts.Need-returns (singles-calls t) (singles-at t) singles.Post singles-Inv singles-μ
+  singles-returns-3 c = reached-end c.loop-at.invariant.1 c.loop-at-test.false c.ends.ensures
 
-pub +pairs-singles-spec : {M : Type 1} → statement M
-+pairs-singles-spec =
+pub +pairs_singles_spec : {M : Type 1} → statement M
++pairs_singles_spec =
     close μ-pairs μ-singles
     (λ t.
     pairs-lts.spec (pairs-calls t) (pairs-at t) pairs.Post pairs-Inv pairs-μ

@@ -6,52 +6,52 @@ use Rattle.jp2_plain.proofs.Escapes.{paren, row_read, unknown, none-paren}
 use Rattle.jp2_plain.proofs.single_byte_seq.Statement.{statement}
 use Rattle.jp2_plain.proofs.single_byte_seq.Tie as tie
 
-add-byte-at : tie.Need-overflow-add-byte-at
+add-byte-at : tie.Need-overflow_add-at
 add-byte-at c = search rules
 
-byte-at-requires : tie.Need-byte-at-requires
+byte-at-requires : tie.Need-byte_at-b-requires
 byte-at-requires c κs = search rules
 
-add-t6 : tie.Need-overflow-add-t6
+add-t6 : tie.Need-overflow_add-result
 add-t6 c = search rules
 
-add-t7 : tie.Need-overflow-add-t7
+add-t7 : tie.Need-overflow_add-result-in-74
 add-t7 c = search rules
 
-add-fault : tie.Need-overflow-add-fault
+add-fault : tie.Need-overflow_add-at-in_default
 add-fault c = search rules
 
 fault-requires : tie.Need-fault-requires
 fault-requires c κs = search rules
 
-add-t11 : tie.Need-overflow-add-t11
+add-t11 : tie.Need-overflow_add-result-in_default
 add-t11 c = search rules
 
-returns : tie.Need-returns
+returns : tie.Need-returns-in-66
 unfolding designations
 returns c =
-    let b = c.before in
-    let q = row_read b.before.before.requires b.byte_at.ensures c.match.keys1 (lit< tt) 0 (lit< tt) refl in
+    let b = c in
+    let q = row_read b.requires b.byte_at-b.ensures c.in-66.is (lit< tt) 0 (lit< tt) refl in
     λ g0 g2. ((q g0 g2).0, refl, (q g0 g2).1)
 
-returns-2 : tie.Need-returns-2
+returns-2 : tie.Need-returns-in-74
 unfolding designations
 returns-2 c =
-    let b = c.before in
-    let q = row_read b.before.before.requires b.byte_at.ensures c.match.keys2 (lit< tt) 1 (lit< tt) refl in
+    let b = c in
+    let q = row_read b.requires b.byte_at-b.ensures c.in-74.is (lit< tt) 1 (lit< tt) refl in
     λ g0 g2. ((q g0 g2).0, refl, (q g0 g2).1)
 
-returns-3 : tie.Need-returns-3
+returns-3 : tie.Need-returns-in_default
 returns-3 c =
-    let m = c.before in
-    let b = m.before in
-    let n = m.match.rest in
+    let m = c in
+    let b = m in
+    let n = m.in_default.in_default-own.rest in
     λ g0 g2.
-    unknown b.before.before.requires b.byte_at.ensures (paren g0 g2)
+    unknown b.requires b.byte_at-b.ensures (paren g0 g2)
     (none-paren g0 g2 _ n.0.1 n.1) c.fault.ensures
 
-pub single-byte-seq-spec : {M : Type 1} → statement M
-single-byte-seq-spec =
+pub single_byte_seq_spec : {M : Type 1} → statement M
+single_byte_seq_spec =
     tie.close
     (tie.spec
     add-byte-at

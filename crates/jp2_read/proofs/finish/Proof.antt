@@ -3,60 +3,60 @@ use Rattle.jp2.specs.Rule.{ends_in}
 use Rattle.jp2_read.proofs.finish.Statement.{statement}
 use Rattle.jp2_read.proofs.finish.Tie as tie
 
-enum_told : tie.Need-enum-told
+enum_told : tie.Need-enum_told-1
 enum_told c = search rules
 
-finish-plain-requires : tie.Need-finish-plain-requires
+finish-plain-requires : tie.Need-finish_plain-requires
 finish-plain-requires c κs = search rules
 
-enum-told-2 : tie.Need-enum-told-2
+enum-told-2 : tie.Need-enum_told-in-Return
 enum-told-2 c = search rules
 
-finish-plain-requires-2 : tie.Need-finish-plain-requires-2
+finish-plain-requires-2 : tie.Need-finish_plain-requires-in-Return
 finish-plain-requires-2 c κs = search rules
 
-enum-told-3 : tie.Need-enum-told-3
+enum-told-3 : tie.Need-enum_told-in-First
 enum-told-3 c = search rules
 
-enum-told-4 : tie.Need-enum-told-4
+enum-told-4 : tie.Need-enum_told-in-Shifted
 enum-told-4 c = search rules
 
-enum-told-5 : tie.Need-enum-told-5
+enum-told-5 : tie.Need-enum_told-in-Escape
 enum-told-5 c = search rules
 
-enum-told-6 : tie.Need-enum-told-6
+enum-told-6 : tie.Need-enum_told-in-Escape1
 enum-told-6 c = search rules
 
-enum-told-7 : tie.Need-enum-told-7
+enum-told-7 : tie.Need-enum_told-in-Escape2
 enum-told-7 c = search rules
 
-returns : tie.Need-returns
+returns : tie.Need-returns-in-Plain
 unfolding ends_in
-returns c = rw c.before.enum_told.given.1 c.finish-plain.ensures
+returns c = rw c.in-Plain.is c.finish_plain.ensures
 
-returns-2 : tie.Need-returns-2
+returns-2 : tie.Need-returns-in-Return
 unfolding ends_in
-returns-2 c = rw c.before.enum-told2.given.1 c.finish-plain2.ensures
+returns-2 c = rw c.in-Return.is c.finish_plain-in-Return.ensures
 
-returns-3 : tie.Need-returns-3
+returns-3 : tie.Need-returns-in-First
 unfolding ends_in
-returns-3 c = rw c.enum-told3.given.1
+returns-3 c = rw c.in-First.is
 
-returns-4 : tie.Need-returns-4
+returns-4 : tie.Need-returns-in-Shifted
 unfolding ends_in
-returns-4 c = rw c.enum-told4.given.1
+returns-4 c = rw c.in-Shifted.is
 
-returns-5 : tie.Need-returns-5
+returns-5 : tie.Need-returns-in-Escape
 unfolding ends_in
-returns-5 c = rw c.enum-told5.given.1
+returns-5 c = rw c.in-Escape.is
 
-returns-6 : tie.Need-returns-6
+returns-6 : tie.Need-returns-in-Escape1
 unfolding ends_in
-returns-6 c = rw c.enum-told6.given.1
+returns-6 c = rw c.in-Escape1.is
 
-returns-7 : tie.Need-returns-7
+returns-7 : tie.Need-returns-in-Escape2
 unfolding ends_in
-returns-7 c = rw c.enum-told7.given.1
+returns-7 c = rw c.in-Escape2.is
 
 pub finish_spec : {M : Type 1} → statement M
 finish_spec =

@@ -7,5 +7,5 @@ returns : tie.Need-returns
 unfolding graphic
 returns c = refl
 
-pub is-code-spec : {M : Type 1} → statement M
-is-code-spec = tie.close (tie.spec returns)
+pub is_code_spec : {M : Type 1} → statement M
+is_code_spec = tie.close (tie.spec returns)

@@ -11,5 +11,5 @@ returns c = λ e.
     let r = both _ _ q.0 in
     (eqb-true _ _ r.0, not-true _ r.1, leb-true _ _ q.1, omega (arith, ltb-true c.args.y 128 p.1))
 
-pub is-shifted-spec : {M : Type 1} → statement M
-is-shifted-spec = tie.close (tie.spec returns)
+pub is_shifted_spec : {M : Type 1} → statement M
+is_shifted_spec = tie.close (tie.spec returns)

@@ -4,16 +4,16 @@ use borrow.Author.Rules.{rules}
 use Rattle.jp2_read.proofs.shifted.Statement.{statement}
 use Rattle.jp2_read.proofs.shifted.Tie as tie
 
-returns : tie.Need-returns
+returns : tie.Need-returns-then-b-lt32
 unfolding shifted_does
-returns c = rw (lt-ltb _ _ c.if1.true)
+returns c = rw (lt-ltb _ _ c.if-b-lt32.true)
 
-cell-of-requires : tie.Need-cell-of-requires
+cell-of-requires : tie.Need-cell_of-requires
 cell-of-requires c κs = search rules
 
-returns-2 : tie.Need-returns-2
+returns-2 : tie.Need-returns
 unfolding shifted_does
-returns-2 c = rw (le-ltb _ _ c.before.if1.false, c.cell-of.ensures)
+returns-2 c = rw (le-ltb _ _ c.if-b-lt32.false, c.cell_of.ensures)
 
-pub shifted-spec : {M : Type 1} → statement M
-shifted-spec = tie.close (tie.spec returns cell-of-requires returns-2)
+pub shifted_spec : {M : Type 1} → statement M
+shifted_spec = tie.close (tie.spec returns cell-of-requires returns-2)

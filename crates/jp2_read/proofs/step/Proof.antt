@@ -15,65 +15,65 @@ use borrow.Author.Rules.{rules}
 use Rattle.jp2_read.proofs.step.Statement.{statement}
 use Rattle.jp2_read.proofs.step.Tie as tie
 
-counted : (c : tie.After-lesser2) → c.lesser2.result ≤ c.before.lesser.result
-counted c = rw c.lesser2.ensures (least_at _ _)
+counted : (c : tie.After-lesser-handed) → c.lesser-handed.result ≤ c.lesser-at.result
+counted c = rw c.lesser-handed.ensures (least_at _ _)
 
 -- the step that is to be found is the one from the cursor
 asked :
-    (c : tie.After-lesser2) →
+    (c : tie.After-lesser-handed) →
     let l = c.before in
-    let a = l.before.before.before.before.args in
-    step_from a.text.now l.lesser.result (state_of a.c.state) c.lesser2.result
+    let a = l.args in
+    step_from a.text.now l.lesser-at.result (state_of a.c.state) c.lesser-handed.result
     ≡ next_at jp2 span_in a.text.now (in_text a.text.now (spot_of a.c))
 unfolding step_from next_at
 asked c =
-    let l = c.before in
-    rw (c.lesser2.ensures, l.lesser.ensures, sym l.before.before.over-limit.ensures ∙ l.before.if1.false)
+    let l = c in
+    rw (c.lesser-handed.ensures, l.lesser-at.ensures, sym l.over_limit.ensures ∙ l.if-over_limit.false)
 
-over-limit-requires : tie.Need-over-limit-requires
+over-limit-requires : tie.Need-over_limit-requires
 over-limit-requires c κs = search rules
 
-too-long-requires : tie.Need-too-long-requires
+too-long-requires : tie.Need-too_long-requires
 too-long-requires c κs = search rules
 
-returns : tie.Need-returns
+returns : tie.Need-returns-then-over_limit
 returns c =
-    let o = c.before.before in
-    ap final c.too_long.ensures ∙ ap (onward cursor_of) (sym (step-long jp2 span_in _ (ltb-true _ _ (sym o.over-limit.ensures ∙ c.before.if1.true)) _))
+    let o = c in
+    ap final c.too_long.ensures ∙ ap (onward cursor_of) (sym (step-long jp2 span_in _ (ltb-true _ _ (sym o.over_limit.ensures ∙ c.if-over_limit.true)) _))
 
-lesser-requires : tie.Need-lesser-requires
+lesser-requires : tie.Need-lesser-at-requires
 lesser-requires c κs = search rules
 
-lesser-requires-2 : tie.Need-lesser-requires-2
+lesser-requires-2 : tie.Need-lesser-handed-requires
 lesser-requires-2 c κs = search rules
 
 -- the text is within the limit
-within : (c : tie.After-lesser2) → length c.before.before.before.before.before.args.text.now ≤ limit
+within : (c : tie.After-lesser-handed) → length c.args.text.now ≤ limit
 within c =
-    let e = c.before.before in
-    ltb-false _ _ (sym e.before.over-limit.ensures ∙ e.if1.false)
+    let e = c in
+    ltb-false _ _ (sym e.over_limit.ensures ∙ e.if-over_limit.false)
 
-told-at-requires : tie.Need-told-at-requires
+told-at-requires : tie.Need-told_at-t-requires
 told-at-requires c κs = within c.before
 
 handed_on-requires : tie.Need-handed_on-requires
 handed_on-requires c κs =
-    let t = c.before.before in
-    let h = (t.told_at.ensures c.if2.true).1 in
-    (counted t.before.before, omega (arith, h.within, within t.before.before))
+    let t = c in
+    let h = (t.told_at-t.ensures c.if-t-ne0.true).1 in
+    (counted t.before.before.before.before, omega (arith, h.within, within t.before.before.before.before))
 
-returns-2 : tie.Need-returns-2
+returns-2 : tie.Need-returns-then-t-ne0
 returns-2 c =
-    let t = c.before.before.before in
-    let h = t.told_at.ensures c.before.if2.true in
-    c.handed-on.ensures ∙ ap (onward cursor_of) (sym (hands_in h.0 h.1 _) ∙ asked t.before.before)
+    let t = c in
+    let h = t.told_at-t.ensures c.if-t-ne0.true in
+    c.handed_on.ensures ∙ ap (onward cursor_of) (sym (hands_in h.0 h.1 _) ∙ asked t.before.before.before.before.before)
 
-step-past-requires : tie.Need-step-past-requires
+step-past-requires : tie.Need-step_past-requires
 step-past-requires c κs =
     let l = c.before.before.before.before in
-    (counted l, rw l.before.lesser.ensures (least_at _ _), within l)
+    (counted l, rw l.lesser-at.ensures (least_at _ _), within l)
 
-returns-3 : tie.Need-returns-3
+returns-3 : tie.Need-returns
 returns-3 c = c.step_past.ensures ∙ ap (onward cursor_of) (asked c.before.before.before.before.before)
 
 pub step_spec : {M : Type 1} → statement M

@@ -11,90 +11,90 @@ use Rattle.jp2_whole.proofs.Laying.{laying-filled, filled-place, filled-give, fi
 use Rattle.jp2_whole.proofs.decode.Statement.{statement}
 use Rattle.jp2_whole.proofs.decode.Tie as tie
 
-abbrev invariant-loop : tie.invariant-loop
+abbrev invariant-loop : tie.invariant-loop-at
 invariant-loop text out₀ at₀ n₀ st₀ out at n st = Filled text at (state_of st) n out × (length out ≡ length out₀)
 
-abbrev decreases-loop : tie.decreases-loop
+abbrev decreases-loop : tie.decreases-loop-at
 decreases-loop text out₀ at₀ n₀ st₀ out at n st = length text - at
 
-fill-on-requires : tie.Need-fill-on-requires invariant-loop decreases-loop
-fill-on-requires c κs = let p = c.before.before.before.requires in (p.1.left.within, omega (arith, p.0, p.1.left.inside))
+fill-on-requires : tie.Need-fill_on-reached-requires invariant-loop decreases-loop
+fill-on-requires c κs = let p = c.requires in (p.1.left.within, omega (arith, p.0, p.1.left.inside))
 
-standing-requires : tie.Need-standing-requires invariant-loop decreases-loop
+standing-requires : tie.Need-standing-st-requires invariant-loop decreases-loop
 standing-requires c κs = search rules
 
-loop-holds : tie.Need-loop-init invariant-loop decreases-loop
-loop-holds c = (rw c.standing.ensures (laying-filled c.before.before.before.fill_on.ensures c.before.before.before.before.before.before.before.requires.1), refl)
+loop-holds : tie.Need-loop-at-init invariant-loop decreases-loop
+loop-holds c = (rw c.standing-st.ensures (laying-filled c.fill_on-reached.ensures c.requires.1), refl)
 
-shared-slice-read-feed : tie.Need-shared-slice-read-feed invariant-loop decreases-loop
+shared-slice-read-feed : tie.Need-bounds-text-at invariant-loop decreases-loop
 shared-slice-read-feed c = search rules
 
 feed-requires : tie.Need-feed-requires invariant-loop decreases-loop
 feed-requires c κs = search rules
 
-enum-known-value : tie.Need-enum-known-value invariant-loop decreases-loop
+enum-known-value : tie.Need-enum_known-value invariant-loop decreases-loop
 enum-known-value c = search rules
 
 -- the next cell has a place
-index : (c : tie.After-known-told invariant-loop decreases-loop) → let l = c.before.before.before.before.before.before.loop in l.n < length l.out
+index : (c : tie.In-Give invariant-loop decreases-loop) → let l = c.loop-at in l.n < length l.out
 index c =
-    let i = c.before.before.before.before.before in
-    let a = i.before.before in
-    filled-place i.before.loop.invariant.0 i.loop-test.true (moved c.before.before.before.feed.ensures c.before.value.given.1)
-    (omega (arith, i.before.loop.invariant.1, a.before.before.before.fill_on.auto.1.1.0, a.before.before.before.before.before.before.before.requires.0))
+    let i = c in
+    let a = i in
+    filled-place i.loop-at.invariant.0 i.loop-at-test.true (moved c.feed.ensures c.in-Give.is)
+    (omega (arith, i.loop-at.invariant.1, a.fill_on-reached.auto.out, a.requires.0))
 
-mul-out : tie.Need-overflow-mul-out invariant-loop decreases-loop
+mul-out : tie.Need-offset_bounds-out-n invariant-loop decreases-loop
 mul-out c = omega (arith, index c)
 
-slice-write-out : tie.Need-slice-write-out invariant-loop decreases-loop
+slice-write-out : tie.Need-bounds-out-n invariant-loop decreases-loop
 slice-write-out c = index c
 
-add-n : tie.Need-overflow-add-n invariant-loop decreases-loop
+add-n : tie.Need-overflow_add-n invariant-loop decreases-loop
 add-n c = search rules
 
-add_at : tie.Need-overflow-add-at invariant-loop decreases-loop
+add_at : tie.Need-overflow_add-at invariant-loop decreases-loop
 add_at c = search rules
 
-loop-less : tie.Need-loop-smaller invariant-loop decreases-loop
+loop-less : tie.Need-loop-at-smaller-in-Give invariant-loop decreases-loop
 loop-less c = search rules
 
-loop-again : tie.Need-loop-preserved invariant-loop decreases-loop
-loop-again c = let i = c.before.before.before.before.before in
-    (filled-give i.before.loop.invariant.0 i.loop-test.true (moved c.before.before.before.feed.ensures c.before.value.given.1) (index c), simp length-set i.before.loop.invariant.1)
+loop-again : tie.Need-loop-at-preserved-in-Give invariant-loop decreases-loop
+loop-again c = let i = c in
+    (filled-give i.loop-at.invariant.0 i.loop-at-test.true (moved c.feed.ensures c.in-Give.is) (index c), simp length-set i.loop-at.invariant.1)
 
-enum-known-state : tie.Need-enum-known-state invariant-loop decreases-loop
+enum-known-state : tie.Need-enum_known-state invariant-loop decreases-loop
 enum-known-state c = search rules
 
-add-at-2 : tie.Need-overflow-add-at-2 invariant-loop decreases-loop
+add-at-2 : tie.Need-overflow_add-at-in-Go invariant-loop decreases-loop
 add-at-2 c = search rules
 
-loop-less-2 : tie.Need-loop-smaller-2 invariant-loop decreases-loop
+loop-less-2 : tie.Need-loop-at-smaller invariant-loop decreases-loop
 loop-less-2 c = search rules
 
-loop-again-2 : tie.Need-loop-preserved-2 invariant-loop decreases-loop
-loop-again-2 c = let i = c.before.before.before.before.before in
-    (filled-go i.before.loop.invariant.0 i.loop-test.true (moved c.before.before.before.feed.ensures c.before.state.given.1), i.before.loop.invariant.1)
+loop-again-2 : tie.Need-loop-at-preserved invariant-loop decreases-loop
+loop-again-2 c = let i = c in
+    (filled-go i.loop-at.invariant.0 i.loop-at-test.true (moved c.feed.ensures c.in-Go.is), i.loop-at.invariant.1)
 
-enum_told : tie.Need-enum-told invariant-loop decreases-loop
+enum_told : tie.Need-enum_told-1 invariant-loop decreases-loop
 enum_told c = search rules
 
-same_length : tie.Need-same-length invariant-loop decreases-loop
-same_length c = let l = c.before.before.before.before.before in l.loop.invariant.1 ∙ l.before.before.before.before.fill_on.auto.1.1.0
+same_length : tie.Need-shape_of-out-in-Bad invariant-loop decreases-loop
+same_length c = let l = c in l.loop-at.invariant.1 ∙ l.fill_on-reached.auto.out
 
-returns : tie.Need-returns invariant-loop decreases-loop
+returns : tie.Need-returns-in-Bad invariant-loop decreases-loop
 returns c =
-    let i = c.before.before.before.before in
-    let q = i.before.loop.invariant.0 in
-    filled-done q (left-bad q.left i.loop-test.true (moved c.before.before.feed.ensures c.enum_told.given.1)).0
+    let i = c in
+    let q = i.loop-at.invariant.0 in
+    filled-done q (left-bad q.left i.loop-at-test.true (moved c.feed.ensures c.in-Bad.is)).0
 
-same-length-2 : tie.Need-same-length-2 invariant-loop decreases-loop
-same-length-2 c = c.before.loop.invariant.1 ∙ c.before.before.before.before.before.fill_on.auto.1.1.0
+same-length-2 : tie.Need-shape_of-out invariant-loop decreases-loop
+same-length-2 c = c.loop-at.invariant.1 ∙ c.fill_on-reached.auto.out
 
-returns-2 : tie.Need-returns-2 invariant-loop decreases-loop
-returns-2 c = let q = c.before.loop.invariant.0 in filled-done q (left_end q.left c.loop-test.false).0
+returns-2 : tie.Need-returns invariant-loop decreases-loop
+returns-2 c = let q = c.loop-at.invariant.0 in filled-done q (left_end q.left c.loop-at-test.false).0
 
-pub decode-spec : {M : Type 1} → statement M
-decode-spec =
+pub decode_spec : {M : Type 1} → statement M
+decode_spec =
     tie.close
     (tie.spec
     invariant-loop

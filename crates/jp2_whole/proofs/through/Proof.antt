@@ -19,90 +19,90 @@ use Rattle.jp2_whole.proofs.Laying.{laying-left, laying-front, filled-behind, al
 use Rattle.jp2_whole.proofs.through.Statement.{statement}
 use Rattle.jp2_whole.proofs.through.Tie as tie
 
-fill-on-requires : tie.Need-fill-on-requires
+fill-on-requires : tie.Need-fill_on-r-requires
 fill-on-requires c κs = (omega arith, omega arith)
 
 left :
-    (c : tie.After-fill-on) →
-    let r = c.fill_on.result in
-    Left jp2 c.before.before.before.before.before.args.text.now r.at (state r.g0 r.g2 plain) r.n
-left c = laying-left c.fill_on.ensures (left-start jp2 _)
+    (c : tie.After-fill_on-r) →
+    let r = c.fill_on-r.result in
+    Left jp2 c.args.text.now r.at (state r.g0 r.g2 plain) r.n
+left c = laying-left c.fill_on-r.ensures (left-start jp2 _)
 
-within : (c : tie.After-measure) → ltb limit (length c.before.before.before.before.before.before.before.before.args.text.now) ≡ false
-within c = le-ltb limit _ c.before.before.before.before.before.before.before.before.requires
+within : (c : tie.After-measure-found) → ltb limit (length c.args.text.now) ≡ false
+within c = le-ltb limit _ c.requires
 
-measure-requires : tie.Need-measure-requires
+measure-requires : tie.Need-measure-found-requires
 measure-requires c κs = left c.before.before
 
-enum_told : tie.Need-enum-told
+enum_told : tie.Need-enum_told-1
 enum_told c = search rules
 
-same_length : tie.Need-same-length
+same_length : tie.Need-shape_of-cells-in-Refused
 same_length c = search rules
 
-returns : tie.Need-returns
-returns c = into-refused jp2-kept _ _ (within c.before.before) c.before.before.measure.ensures c.enum_told.given.1
+returns : tie.Need-returns-in-Refused
+returns c = into-refused jp2-kept _ _ (within c.before) c.measure-found.ensures c.in-Refused.is
 
-enum-known-found : tie.Need-enum-known-found
+enum-known-found : tie.Need-enum_known-found
 enum-known-found c = search rules
 
-same-length-2 : tie.Need-same-length-2
+same-length-2 : tie.Need-shape_of-cells-then-out-n
 same-length-2 c = search rules
 
-returns-2 : tie.Need-returns-2
-returns-2 c = into-short jp2-kept _ _ (within c.before.before.before.before) c.before.before.before.before.measure.ensures c.before.before.found.given.1 c.if1.true
+returns-2 : tie.Need-returns-then-out-n
+returns-2 c = into-short jp2-kept _ _ (within c.before.before) c.measure-found.ensures c.in-Accepted.is c.if-out-n.true
 
-count : (c : tie.After-found) → c.found.given.0.0 ≡ length (reading jp2 c.before.before.before.before.before.before.before.before.before.before.args.text.now).cells
-count c = into-count jp2-kept c.before.before.before.before.before.before.before.before.before.before.args.text.now [] (within c.before.before) c.before.before.measure.ensures c.found.given.1
+count : (c : tie.In-Accepted) → c.in-Accepted.n ≡ length (reading jp2 c.args.text.now).cells
+count c = into-count jp2-kept c.args.text.now [] (within c.before) c.measure-found.ensures c.in-Accepted.is
 
 copy-requires : tie.Need-copy-requires
 copy-requires c κs =
-    let f = c.before.before.before.before.before.before.before.before.before in
-    (f.fill_on.ensures.fits, omega (arith, (left f).inside, count c.before.before.before.before, c.before.before.if1.false))
+    let f = c.before.before.before.before.before.before in
+    (f.fill_on-r.ensures.fits, omega (arith, (left f).inside, count c.before.before, c.if-out-n.false))
 
-slice-relend-prefix-decode : tie.Need-slice-relend-prefix-decode
+slice-relend-prefix-decode : tie.Need-slice_bounds-decode-end
 slice-relend-prefix-decode c = search rules
 
 -- as many places are lent as there are cells
-lent : (c : tie.After-decode-arg) → length (take c.before.before.before.before.before.before.before.before.found.given.0.0 c.before.before.before.copy.new.1.1.0) ≡ c.before.before.before.before.before.before.before.before.found.given.0.0
-lent c = length-take-le _ _ (omega (arith, c.before.before.before.before.before.before.if1.false, c.before.before.before.copy.auto.1.1.0))
+lent : (c : tie.After-decode-arg-1) → length (take c.in-Accepted.n c.copy.new.out) ≡ c.in-Accepted.n
+lent c = length-take-le _ _ (omega (arith, c.if-out-n.false, c.copy.auto.out))
 
-slice-aggregate-decode : tie.Need-slice-aggregate-decode
+slice-aggregate-decode : tie.Need-slice_bounds-decode-end-in-Accepted
 slice-aggregate-decode c = sym (lent c)
 
 decode-requires : tie.Need-decode-requires
 decode-requires c κs =
-    let f = c.before.before.before.before.before.before.before.before.before.before.before.before.before in
-    let r = f.fill_on.result.n in
-    let k = length-take-le r f.fill_on.new.1.1.0 f.fill_on.ensures.fits in (
-      omega (arith, lent c, count c.before.before.before.before.before.before.before.before),
+    let f = c.before.before.before.before.before.before.before.before.before.before in
+    let r = f.fill_on-r.result.n in
+    let k = length-take-le r f.fill_on-r.new.out f.fill_on-r.ensures.fits in (
+      omega (arith, lent c, count c.before.before.before.before.before.before),
       record {
         left = left f;
         front =
-            take-take r c.before.before.before.before.before.before.before.before.found.given.0.0 c.before.before.before.copy.new.1.1.0 (omega (arith, (left f).inside, count c.before.before.before.before.before.before.before.before))
-            ∙ (rw c.before.before.before.copy.ensures (take_at _ _ _ k) ∙ laying-front f.fill_on.ensures (left-start jp2 _) refl);
+            take-take r c.in-Accepted.n c.copy.new.out (omega (arith, (left f).inside, count c.before.before.before.before.before.before))
+            ∙ (rw c.copy.ensures (take_at _ _ _ k) ∙ laying-front f.fill_on-r.ensures (left-start jp2 _) refl);
       },
     )
 
-same-length-3 : tie.Need-same-length-3
+same-length-3 : tie.Need-shape_of-cells
 same-length-3 c = search rules
 
-same-length-4 : tie.Need-same-length-4
+same-length-4 : tie.Need-shape_of-out
 same-length-4 c = search rules
 
-returns-3 : tie.Need-returns-3
+returns-3 : tie.Need-returns
 returns-3 c =
-    let f = c.before.before.before.before.before.before.before.before.before.before.before.before.before.before.before.before in
-    let t = c.before.before.before.before.before.before.before.before.before.before.before.before.before.before.before.before.before.before.before.before.before.args.text.now in
-    let k = length-take-le f.fill_on.result.n f.fill_on.new.1.1.0 f.fill_on.ensures.fits in
-    let b = filled-behind (take f.fill_on.result.n f.fill_on.new.1.1.0) c.before.before.before.before.before.before.before.before.before.before.before.before.before.before.before.before.before.before.before.before.before.args.out.now (length (reading jp2 t).cells) (omega (arith, k, (left f).inside)) in
-    let e : c.before.before.decode.new.1.1.0 ≡ (reading jp2 t).cells =
-    all-front (c.before.before.decode.auto.1.1.0 ∙ lent c.before.before.before ∙ count c.before.before.before.before.before.before.before.before.before.before.before) c.before.before.decode.ensures in
-    into-filled jp2-kept _ _ (within c.before.before.before.before.before.before.before.before.before.before.before.before.before) (ap in_numbers (sym c.before.before.before.before.before.before.before.before.before.before.before.found.given.1) ∙ c.before.before.before.before.before.before.before.before.before.before.before.before.before.measure.ensures) refl c.before.before.before.before.before.before.before.before.before.if1.false
-    (rw (e, count c.before.before.before.before.before.before.before.before.before.before.before) (ap (λ (z : List ℕ). (reading jp2 t).cells ++ z) (rw c.before.before.before.before.before.before.copy.ensures b)))
+    let f = c.before.before.before.before.before.before.before.before.before.before.before.before.before in
+    let t = c.args.text.now in
+    let k = length-take-le f.fill_on-r.result.n f.fill_on-r.new.out f.fill_on-r.ensures.fits in
+    let b = filled-behind (take f.fill_on-r.result.n f.fill_on-r.new.out) c.args.out.now (length (reading jp2 t).cells) (omega (arith, k, (left f).inside)) in
+    let e : c.decode.new.out ≡ (reading jp2 t).cells =
+    all-front (c.decode.auto.out ∙ lent c.before.before.before ∙ count c.before.before.before.before.before.before.before.before.before) c.decode.ensures in
+    into-filled jp2-kept _ _ (within c.before.before.before.before.before.before.before.before.before.before) (ap in_numbers (sym c.in-Accepted.is) ∙ c.measure-found.ensures) refl c.if-out-n.false
+    (rw (e, count c.before.before.before.before.before.before.before.before.before) (ap (λ (z : List ℕ). (reading jp2 t).cells ++ z) (rw c.copy.ensures b)))
 
-pub through-spec : {M : Type 1} → statement M
-through-spec =
+pub through_spec : {M : Type 1} → statement M
+through_spec =
     tie.close
     (tie.spec
     fill-on-requires

@@ -8,54 +8,54 @@ use borrow.Author.Rules.{rules}
 use Rattle.lister.proofs.print.Statement.{statement}
 use Rattle.lister.proofs.print.Tie as tie
 
-returns : tie.Need-returns
+returns : tie.Need-returns-then-text-gt-MOST
 returns c =
-    let l = c.before.before in
-    let s = l.before.before.before.before.before.before in
+    let l = c in
+    let s = l in
     l.list.ensures
-    ∙ long-prints s.args.format s.args.text.now s.args.out.now l.before.before.before.if1.true
+    ∙ long-prints s.args.format s.args.text.now s.args.out.now l.if-text-gt-MOST.true
 
 -- the count of an accepted text is that of cells in the buffer
 count-within :
-    (c : tie.After-enum-told) →
-    c.before.before.place.result ≤ length c.before.before.before.before.read.new.1.1.0
+    (c : tie.In-Accepted) →
+    c.place-count.result ≤ length c.read-found.new.out
 count-within c =
-    let p = c.before.before in
-    let r = p.before.before in
-    let e = r.before.before in
-    let a = e.before.before.before.args in
+    let p = c in
+    let r = p in
+    let e = r in
+    let a = e.args in
     omega (
       arith,
-      count-few a.format a.text.now _ _ r.read.result e.if1.false (search rules) r.read.ensures _
-          c.enum_told.given.1 p.place.result p.place.ensures,
-      r.read.auto.1.1.0,
+      count-few a.format a.text.now _ _ r.read-found.result e.if-text-gt-MOST.false (search rules) r.read-found.ensures _
+          c.in-Accepted.is p.place-count.result p.place-count.ensures,
+      r.read-found.auto.out,
     )
 
-returns-2 : tie.Need-returns-2
+returns-2 : tie.Need-returns-in-Accepted
 returns-2 c =
-    let l = c.before.before in
-    let t = l.before.before.before in
-    let p = t.before.before in
-    let r = p.before.before in
-    let e = r.before.before in
-    let a = e.before.before.before.args in
-    l.list2.ensures
-    ∙ accepted-prints a.format a.text.now _ _ r.read.result e.if1.false (search rules) r.read.ensures
-    _ t.enum_told.given.1 p.place.result p.place.ensures (search rules) a.out.now
+    let l = c in
+    let t = l in
+    let p = t in
+    let r = p in
+    let e = r in
+    let a = e.args in
+    l.list-in-Accepted.ensures
+    ∙ accepted-prints a.format a.text.now _ _ r.read-found.result e.if-text-gt-MOST.false (search rules) r.read-found.ensures
+    _ t.in-Accepted.is p.place-count.result p.place-count.ensures (search rules) a.out.now
 
-returns-3 : tie.Need-returns-3
+returns-3 : tie.Need-returns-in-Refused
 returns-3 c =
-    let l = c.before.before in
-    let t = l.before.before.before in
-    let r = t.before.before.before.before in
-    let e = r.before.before in
-    let a = e.before.before.before.args in
-    l.list3.ensures
-    ∙ refused-prints a.format a.text.now _ _ r.read.result e.if1.false (search rules) r.read.ensures
-    _ _ t.enum-told2.given.1 a.out.now
+    let l = c in
+    let t = l in
+    let r = t in
+    let e = r in
+    let a = e.args in
+    l.list-in-Refused.ensures
+    ∙ refused-prints a.format a.text.now _ _ r.read-found.result e.if-text-gt-MOST.false (search rules) r.read-found.ensures
+    _ _ t.in-Refused.is a.out.now
 
-pub print-spec : {M : Type 1} → statement M
-print-spec =
+pub print_spec : {M : Type 1} → statement M
+print_spec =
     tie.close
     (tie.spec
     (λ c. search rules)
@@ -69,9 +69,9 @@ print-spec =
     (λ c. search rules)
     (λ c. omega (arith, count-within c))
     (λ c.
-    let p = c.before.before.before in
-    let cells = p.before.before.read.new.1.1.0 in
-    omega (arith, length-take-le p.place.result cells (count-within c.before)))
+    let p = c in
+    let cells = p.read-found.new.out in
+    omega (arith, length-take-le p.place-count.result cells (count-within c.before)))
     (λ c κs. search rules)
     (λ c. search rules)
     (λ c. search rules)

@@ -31,64 +31,64 @@ module _ (t : ℕ) where
 
   -- the only digit, and the last behind the others
   only :
-      (c : put-decimal-lts.After-digit-of told at-t put-decimal.Post) → let s = c.before.before.before in
-      Put (decimal s.args.n) s.args.out.now s.args.out.now 0 (c.digit-of.result ∷ [])
+      (c : put-decimal-lts.After-digit_of told at-t put-decimal.Post) → let s = c.before.before.before in
+      Put (decimal s.args.n) s.args.out.now s.args.out.now 0 (c.digit_of.result ∷ [])
   only c =
       let s = c.before.before.before in
-      put_as (decimal-one s.args.n c.before.if1.true ∙ rw c.digit-of.ensures) (put-start _ _ s.requires.1)
+      put_as (decimal-one s.args.n c.if-n-lt10.true ∙ rw c.digit_of.ensures) (put-start _ _ s.requires.1)
 
   last :
-      (c : put-decimal-lts.After-digit-of2 told at-t put-decimal.Post) → let p = c.before.before.before in
+      (c : put-decimal-lts.After-digit_of-2 told at-t put-decimal.Post) → let p = c.before.before.before in
       let s = p.before.before.before.before in
-      Put (decimal s.args.n) s.args.out.now p.put-decimal.new.1.0 p.put-decimal.result (c.digit-of2.result ∷ [])
+      Put (decimal s.args.n) s.args.out.now p.put_decimal-at.new.out p.put_decimal-at.result (c.digit_of-2.result ∷ [])
   last c =
       let p = c.before.before.before in
       let s = p.before.before.before.before in
       put_first (decimal (s.args.n / 10)) _
-      (decimal-more s.args.n (omega arith) p.before.before.if1.false ∙ rw c.digit-of2.ensures)
-      s.requires.1 p.put-decimal.ensures
+      (decimal-more s.args.n (omega arith) p.if-n-lt10.false ∙ rw c.digit_of-2.ensures)
+      s.requires.1 p.put_decimal-at.ensures
 
-  cast-digit-of : put-decimal-lts.Need-overflow-cast-digit-of told at-t put-decimal.Post
+  cast-digit-of : put-decimal-lts.Need-overflow_cast-n told at-t put-decimal.Post
   cast-digit-of c = search rules
 
-  digit-of-requires : put-decimal-lts.Need-digit-of-requires told at-t put-decimal.Post
+  digit-of-requires : put-decimal-lts.Need-digit_of-requires told at-t put-decimal.Post
   digit-of-requires c κs = search rules
 
-  slice-write-out : put-decimal-lts.Need-slice-write-out told at-t put-decimal.Post
+  slice-write-out : put-decimal-lts.Need-bounds-out-0 told at-t put-decimal.Post
   slice-write-out c = put-lt (only c)
 
-  same_length : put-decimal-lts.Need-same-length told at-t put-decimal.Post
+  same_length : put-decimal-lts.Need-shape_of-out-then-n-lt10 told at-t put-decimal.Post
   same_length c = simp length-set
 
-  returns : put-decimal-lts.Need-returns told at-t put-decimal.Post
+  returns : put-decimal-lts.Need-returns-then-n-lt10 told at-t put-decimal.Post
   returns c = let p = put_next (only c) in (put-end p, put-done p)
 
-  put-decimal-requires : put-decimal-lts.Need-put-decimal-requires told at-t put-decimal.Post
+  put-decimal-requires : put-decimal-lts.Need-put_decimal-at-requires told at-t put-decimal.Post
   put-decimal-requires c κs =
       let s = c.before.before.before in
-      let e = decimal-size s.args.n (omega arith) c.before.if1.false in
+      let e = decimal-size s.args.n (omega arith) c.if-n-lt10.false in
       omega arith
 
-  cast-digit-of-2 : put-decimal-lts.Need-overflow-cast-digit-of-2 told at-t put-decimal.Post
+  cast-digit-of-2 : put-decimal-lts.Need-overflow_cast-n-2 told at-t put-decimal.Post
   cast-digit-of-2 c = search rules
 
-  digit-of-requires-2 : put-decimal-lts.Need-digit-of-requires-2 told at-t put-decimal.Post
+  digit-of-requires-2 : put-decimal-lts.Need-digit_of-requires-2 told at-t put-decimal.Post
   digit-of-requires-2 c κs = search rules
 
-  slice-write-out-2 : put-decimal-lts.Need-slice-write-out-2 told at-t put-decimal.Post
+  slice-write-out-2 : put-decimal-lts.Need-bounds-out-at told at-t put-decimal.Post
   slice-write-out-2 c = put-lt (last c)
 
-  add-result : put-decimal-lts.Need-overflow-add-result told at-t put-decimal.Post
+  add-result : put-decimal-lts.Need-overflow_add-result told at-t put-decimal.Post
   add-result c = let h = put-lt (last c) in search rules
 
-  same-length-2 : put-decimal-lts.Need-same-length-2 told at-t put-decimal.Post
+  same-length-2 : put-decimal-lts.Need-shape_of-out told at-t put-decimal.Post
   same-length-2 c = (put_next (last c)).same
 
-  returns-2 : put-decimal-lts.Need-returns-2 told at-t put-decimal.Post
+  returns-2 : put-decimal-lts.Need-returns told at-t put-decimal.Post
   returns-2 c = let p = put_next (last c) in (put-end p, put-done p)
 
-pub +put-decimal-spec : {M : Type 1} → statement M
-+put-decimal-spec =
+pub +put_decimal_spec : {M : Type 1} → statement M
++put_decimal_spec =
     close μ-put-decimal λ t. put-decimal-lts.spec (told t) (at-t t) put-decimal.Post (cast-digit-of t) (digit-of-requires t) (slice-write-out t)
     (same_length t) (returns t) (put-decimal-requires t) (cast-digit-of-2 t) (digit-of-requires-2 t) (slice-write-out-2 t) (add-result t)
     (same-length-2 t) (returns-2 t)

@@ -10,14 +10,14 @@ places-requires c κs = search rules
 places-requires-2 : tie.Need-places-requires-2
 places-requires-2 c κs = search rules
 
-add-result : tie.Need-overflow-add-result
-add-result c = let a = c.before.before.args in omega (arith, answer-length a.number a.place, answer-few a.number a.place)
+add-result : tie.Need-overflow_add-result
+add-result c = let a = c.args in omega (arith, answer-length a.number a.place, answer-few a.number a.place)
 
-add-result-2 : tie.Need-overflow-add-result-2
-add-result-2 c = let a = c.before.before.args in omega (arith, answer-length a.number a.place, answer-few a.number a.place)
+add-result-2 : tie.Need-overflow_add-result-2
+add-result-2 c = let a = c.args in omega (arith, answer-length a.number a.place, answer-few a.number a.place)
 
 returns : tie.Need-returns
-returns c = let a = c.before.before.args in omega (arith, answer-length a.number a.place)
+returns c = let a = c.args in omega (arith, answer-length a.number a.place)
 
-pub answer-size-spec : {M : Type 1} → statement M
-answer-size-spec = tie.close (tie.spec places-requires places-requires-2 add-result add-result-2 returns)
+pub answer_size_spec : {M : Type 1} → statement M
+answer_size_spec = tie.close (tie.spec places-requires places-requires-2 add-result add-result-2 returns)

@@ -11,58 +11,58 @@ use Rattle.listing.proofs.list.Statement.{statement}
 use Rattle.listing.proofs.list.Tie as tie
 
 -- the cells are not too many; the answer's numbers
-within : (c : tie.Else1) → ltb limit (length c.before.before.before.before.args.cells.now) ≡ false
-within c = sym c.before.over-limit.ensures ∙ c.if1.false
+within : (c : tie.Else-over_limit) → ltb limit (length c.args.cells.now) ≡ false
+within c = sym c.over_limit.ensures ∙ c.if-over_limit.false
 
 numbers :
-    (c : tie.After-place) →
-    in_numbers c.before.before.before.before.before.before.args.given ≡ numbered c.before.number.result c.place.result
-numbers c = rw (c.before.number.ensures, c.place.ensures)
+    (c : tie.After-place-place) →
+    in_numbers c.args.given ≡ numbered c.number-number.result c.place-place.result
+numbers c = rw (c.number-number.ensures, c.place-place.ensures)
 
-over-limit-requires : tie.Need-over-limit-requires
+over-limit-requires : tie.Need-over_limit-requires
 over-limit-requires c κs = search rules
 
-too-long-requires : tie.Need-too-long-requires
+too-long-requires : tie.Need-too_long-requires
 too-long-requires c κs = search rules
 
-returns : tie.Need-returns
+returns : tie.Need-returns-then-over_limit
 unfolding list_into
-returns c = simp (sym c.before.before.over-limit.ensures ∙ c.before.if1.true, c.too_long.ensures)
+returns c = simp (sym c.over_limit.ensures ∙ c.if-over_limit.true, c.too_long.ensures)
 
-number-requires : tie.Need-number-requires
+number-requires : tie.Need-number-number-requires
 number-requires c κs = search rules
 
-cast-number : tie.Need-overflow-cast-number
+cast-number : tie.Need-overflow_cast-number
 cast-number c = search rules
 
-place-requires : tie.Need-place-requires
+place-requires : tie.Need-place-place-requires
 place-requires c κs = search rules
 
-size-requires : tie.Need-size-requires
+size-requires : tie.Need-size-need-requires
 size-requires c κs = ltb-false _ _ (within c.before.before)
 
-returns-2 : tie.Need-returns-2
+returns-2 : tie.Need-returns-then-out-need
 unfolding list_into deliver
 returns-2 c =
     let s = c.before in
-    simp (within s.before.before.before, numbers s.before, sym s.size.ensures, lt-ltb _ _ c.if2.true)
+    simp (within s.before.before.before, numbers s.before, sym s.size-need.ensures, lt-ltb _ _ c.if-out-need.true)
 
-put-listing-requires : tie.Need-put-listing-requires
+put-listing-requires : tie.Need-put_listing-requires
 put-listing-requires c κs = search rules
 
-same_length : tie.Need-same-length
+same_length : tie.Need-shape_of-out
 same_length c = search rules
 
-returns-3 : tie.Need-returns-3
+returns-3 : tie.Need-returns
 unfolding list_into deliver
 returns-3 c =
     let w = c.before.before in
     let g = w.before.before in
     let s = g.before in
-    simp (within s.before.before.before, numbers s.before, sym s.size.ensures, le-ltb _ _ g.if2.false, w.put-listing.ensures)
+    simp (within s.before.before.before, numbers s.before, sym s.size-need.ensures, le-ltb _ _ g.if-out-need.false, w.put_listing.ensures)
 
-pub list-spec : {M : Type 1} → statement M
-list-spec =
+pub list_spec : {M : Type 1} → statement M
+list_spec =
     tie.close
     (tie.spec
     over-limit-requires

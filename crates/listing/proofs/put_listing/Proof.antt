@@ -11,44 +11,44 @@ use Rattle.listing.proofs.put_listing.Tie as tie
 
 -- what is put after the answer
 answered :
-    (c : tie.Then1) → let p = c.before.before.before in
-    let a = p.before.before.before.before.args in
-    Put (listing (numbered a.number a.place) a.cells.now) a.out.now p.put-answer.new.1.1.0 p.put-answer.result (line cells_name (drop 1 (spaced a.cells.now)))
+    (c : tie.Then-number-eq0) → let p = c.before.before.before in
+    let a = p.args in
+    Put (listing (numbered a.number a.place) a.cells.now) a.out.now p.put_answer-at.new.out p.put_answer-at.result (line cells_name (drop 1 (spaced a.cells.now)))
 answered c =
     let p = c.before.before.before in
     let s = p.before.before.before.before in
-    put_first (answer_lines (numbered s.args.number s.args.place)) _ (accepted-lines _ _ _ c.if1.true) s.requires p.put-answer.ensures
+    put_first (answer_lines (numbered s.args.number s.args.place)) _ (accepted-lines _ _ _ c.if-number-eq0.true) s.requires p.put_answer-at.ensures
 
-put-answer-requires : tie.Need-put-answer-requires
+put-answer-requires : tie.Need-put_answer-at-requires
 unfolding listing
-put-answer-requires c κs = omega (arith, simp length-append at c.before.before.before.requires)
+put-answer-requires c κs = omega (arith, simp length-append at c.requires)
 
-sub-put-row : tie.Need-overflow-sub-put-row
+sub-put-row : tie.Need-slice_bounds-put_row-count
 sub-put-row c = let p = answered c in search rules
 
-part-put-row-start : tie.Need-slice-bounds-put-row-start
+part-put-row-start : tie.Need-slice_bounds-put_row-start
 part-put-row-start c = let p = answered c in search rules
 
-part-put-row-end : tie.Need-slice-bounds-put-row-end
+part-put-row-end : tie.Need-slice_bounds-put_row-end
 part-put-row-end c = search rules
 
-put-row-requires : tie.Need-put-row-requires
+put-row-requires : tie.Need-put_row-requires
 put-row-requires c κs = last-room (answered c.before)
 
-same_length : tie.Need-same-length
+same_length : tie.Need-shape_of-out-then-number-eq0
 same_length c = search rules
 
-returns : tie.Need-returns
-returns c = let w = c.before.before in put-done (put_last (answered w.before.before) (refl, w.put-row.ensures))
+returns : tie.Need-returns-then-number-eq0
+returns c = let w = c.before.before in put-done (put_last (answered w.before.before) (refl, w.put_row.ensures))
 
-same-length-2 : tie.Need-same-length-2
+same-length-2 : tie.Need-shape_of-out-else-number-eq0
 same-length-2 c = search rules
 
-returns-2 : tie.Need-returns-2
-returns-2 c = rw (refused-lines _ _ _ c.if1.false) c.before.before.before.put-answer.ensures.1
+returns-2 : tie.Need-returns-else-number-eq0
+returns-2 c = rw (refused-lines _ _ _ c.if-number-eq0.false) c.put_answer-at.ensures.1
 
-pub put-listing-spec : {M : Type 1} → statement M
-put-listing-spec =
+pub put_listing_spec : {M : Type 1} → statement M
+put_listing_spec =
     tie.close
     (tie.spec
     put-answer-requires

@@ -12,7 +12,7 @@ feed-requires c κs = c.settled.ensures.0
 
 returns : tie.Need-returns
 unfolding move_of
-returns c = rw (← c.before.settled.ensures.1) (move-told _ _ c.feed.ensures)
+returns c = rw (← c.settled.ensures.1) (move-told _ _ c.feed.ensures)
 
-pub byte-does-spec : {M : Type 1} → statement M
-byte-does-spec = tie.close (tie.spec settled-requires feed-requires returns)
+pub byte_does_spec : {M : Type 1} → statement M
+byte_does_spec = tie.close (tie.spec settled-requires feed-requires returns)

@@ -11,85 +11,85 @@ use Rattle.mailbox_read.proofs.Passing.{leads-stay, leads-on, leads-letter, gets
 use Rattle.mailbox_read.proofs.letters.Statement.{statement}
 use Rattle.mailbox_read.proofs.letters.Tie as tie
 
-abbrev invariant-loop : tie.invariant-loop
+abbrev invariant-loop : tie.invariant-loop-at
 invariant-loop text from pending value at₀ n₀ v₀ at n v = Leads text from (Run pending value) at (Run n v)
 
-abbrev decreases-loop : tie.decreases-loop
+abbrev decreases-loop : tie.decreases-loop-at
 decreases-loop text from pending value at₀ n₀ v₀ at n v = length text - at
 
-loop-holds : tie.Need-loop-init invariant-loop decreases-loop
-loop-holds c = leads-stay c.before.requires
+loop-holds : tie.Need-loop-at-init invariant-loop decreases-loop
+loop-holds c = leads-stay c.requires
 
-shared-slice-read-value-of : tie.Need-shared-slice-read-value-of invariant-loop decreases-loop
+shared-slice-read-value-of : tie.Need-bounds-text-at invariant-loop decreases-loop
 shared-slice-read-value-of c = search rules
 
-value-of-requires : tie.Need-value-of-requires invariant-loop decreases-loop
+value-of-requires : tie.Need-value_of-x-requires invariant-loop decreases-loop
 value-of-requires c κs = search rules
 
-mul-all : tie.Need-overflow-mul-all invariant-loop decreases-loop
-mul-all c = omega (arith, pow-lt c.before.before.before.before.loop.invariant.settled.0)
+mul-all : tie.Need-overflow_mul-all invariant-loop decreases-loop
+mul-all c = omega (arith, pow-lt c.loop-at.invariant.settled.0)
 
-add-all : tie.Need-overflow-add-all invariant-loop decreases-loop
-add-all c = omega (arith, pow-lt c.before.before.before.before.loop.invariant.settled.0)
+add-all : tie.Need-overflow_add-all invariant-loop decreases-loop
+add-all c = omega (arith, pow-lt c.loop-at.invariant.settled.0)
 
-add_at : tie.Need-overflow-add-at invariant-loop decreases-loop
+add_at : tie.Need-overflow_add-at invariant-loop decreases-loop
 add_at c = search rules
 
-add-n : tie.Need-overflow-add-n invariant-loop decreases-loop
+add-n : tie.Need-overflow_add-n invariant-loop decreases-loop
 add-n c = search rules
 
-loop-less : tie.Need-loop-smaller invariant-loop decreases-loop
+loop-less : tie.Need-loop-at-smaller invariant-loop decreases-loop
 loop-less c = search rules
 
-loop-again : tie.Need-loop-preserved invariant-loop decreases-loop
+loop-again : tie.Need-loop-at-preserved invariant-loop decreases-loop
 loop-again c =
     let e = c.before.before in
     let i = e.before.before in
-    leads-on i.before.loop.invariant (leads-letter i.loop-test.true i.before.loop.invariant.settled (omega arith) e.value_of_lem.ensures c.if2.true)
+    leads-on i.loop-at.invariant (leads-letter i.loop-at-test.true i.loop-at.invariant.settled (omega arith) e.value_of-x.ensures c.if-n-lt10.true)
 
-power-requires : tie.Need-power-requires invariant-loop decreases-loop
+power-requires : tie.Need-power-w-requires invariant-loop decreases-loop
 power-requires c κs = search rules
 
-div-unit : tie.Need-nonzero-div-unit invariant-loop decreases-loop
-div-unit c = rw c.power.ensures (pow_pos _)
+div-unit : tie.Need-nonzero_div-unit invariant-loop decreases-loop
+div-unit c = rw c.power-w.ensures (pow_pos _)
 
-is-printable-requires : tie.Need-is-printable-requires invariant-loop decreases-loop
+is-printable-requires : tie.Need-is_printable-requires invariant-loop decreases-loop
 is-printable-requires c κs = search rules
 
-cast-t19 : tie.Need-overflow-cast-t19 invariant-loop decreases-loop
+cast-t19 : tie.Need-overflow_cast-result invariant-loop decreases-loop
 cast-t19 c = search rules
 
-add-t20 : tie.Need-overflow-add-t20 invariant-loop decreases-loop
+add-t20 : tie.Need-overflow_add-result invariant-loop decreases-loop
 add-t20 c = search rules
 
-add-t22 : tie.Need-overflow-add-t22 invariant-loop decreases-loop
+add-t22 : tie.Need-overflow_add-result-else-n-lt10 invariant-loop decreases-loop
 add-t22 c = search rules
 
-rem-t23 : tie.Need-nonzero-rem-t23 invariant-loop decreases-loop
-rem-t23 c = rw c.before.before.power.ensures (pow_pos _)
+rem-t23 : tie.Need-nonzero_rem-result invariant-loop decreases-loop
+rem-t23 c = rw c.power-w.ensures (pow_pos _)
 
-returns : tie.Need-returns invariant-loop decreases-loop
+returns : tie.Need-returns-else-n-lt10 invariant-loop decreases-loop
 returns c =
     let p = c.before.before in
     let e = p.before.before.before in
     let i = e.before.before in
-    let w = power_small _ _ p.power.ensures (omega arith) in
+    let w = power_small _ _ p.power-w.ensures (omega arith) in
     rw w
-    (gets-on i.before.loop.invariant
-    (gets-letter i.loop-test.true i.before.loop.invariant.settled (omega arith) e.value_of_lem.ensures p.before.if2.false
-    (rw w at (sym c.before.is-printable.ensures ∙ c.if3.false))))
+    (gets-on i.loop-at.invariant
+    (gets-letter i.loop-at-test.true i.loop-at.invariant.settled (omega arith) e.value_of-x.ensures p.if-n-lt10.false
+    (rw w at (sym c.is_printable.ensures ∙ c.if-is_printable.false))))
 
-returns-2 : tie.Need-returns-2 invariant-loop decreases-loop
-returns-2 c = gets-place c.before.loop.invariant
+returns-2 : tie.Need-returns-after-loop-at invariant-loop decreases-loop
+returns-2 c = gets-place c.loop-at.invariant
 
-returns-3 : tie.Need-returns-3 invariant-loop decreases-loop
-returns-3 c = gets-place c.before.before.before.before.loop.invariant
+returns-3 : tie.Need-returns-then-x-gt63 invariant-loop decreases-loop
+returns-3 c = gets-place c.loop-at.invariant
 
-returns-4 : tie.Need-returns-4 invariant-loop decreases-loop
-returns-4 c = gets-place c.before.before.before.before.before.before.before.before.loop.invariant
+returns-4 : tie.Need-returns-then-is_printable invariant-loop decreases-loop
+returns-4 c = gets-place c.loop-at.invariant
 
-pub letters-spec : {M : Type 1} → statement M
-letters-spec =
+pub letters_spec : {M : Type 1} → statement M
+letters_spec =
     tie.close
     (tie.spec
     invariant-loop

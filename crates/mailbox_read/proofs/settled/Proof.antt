@@ -6,32 +6,32 @@ use Rattle.mailbox_read.proofs.Moves.{settle-run}
 use Rattle.mailbox_read.proofs.settled.Statement.{statement}
 use Rattle.mailbox_read.proofs.settled.Tie as tie
 
-enum-known-st : tie.Need-enum-known-st
+enum-known-st : tie.Need-enum_known-st
 enum-known-st c = search rules
 
-enum-known-st-2 : tie.Need-enum-known-st-2
+enum-known-st-2 : tie.Need-enum_known-st-in-Opening-1
 enum-known-st-2 c = search rules
 
-enum-known-st-3 : tie.Need-enum-known-st-3
+enum-known-st-3 : tie.Need-enum_known-st-in-Run-1
 enum-known-st-3 c = search rules
 
-power-requires : tie.Need-power-requires
+power-requires : tie.Need-power-w-requires
 power-requires c κs = search rules
 
-rem-t9 : tie.Need-nonzero-rem-t9
-rem-t9 c = rw c.power.ensures (pow_pos _)
+rem-t9 : tie.Need-nonzero_rem-result
+rem-t9 c = rw c.power-w.ensures (pow_pos _)
 
-returns : tie.Need-returns
-returns c = (tt, simp c.before.st.given.1)
+returns : tie.Need-returns-in-Outside
+returns c = (tt, simp c.in-Outside.is)
 
-returns-2 : tie.Need-returns-2
-returns-2 c = (tt, simp c.before.st2.given.1)
+returns-2 : tie.Need-returns-in-Opening
+returns-2 c = (tt, simp c.in-Opening.is)
 
-returns-3 : tie.Need-returns-3
-returns-3 c = rw (power_small _ _ c.power.ensures (omega arith), c.before.before.st3.given.1) (settle-run _ _)
+returns-3 : tie.Need-returns-in-Run
+returns-3 c = rw (power_small _ _ c.power-w.ensures (omega arith), c.in-Run.is) (settle-run _ _)
 
-pub settled-spec : {M : Type 1} → statement M
-settled-spec =
+pub settled_spec : {M : Type 1} → statement M
+settled_spec =
     tie.close
     (tie.spec
     enum-known-st

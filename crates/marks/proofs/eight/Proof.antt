@@ -9,11 +9,11 @@ use Rattle.marks.proofs.eight.Tie as tie
 word-requires : tie.Need-word-requires
 word-requires c κs = search rules
 
-cast-result : tie.Need-overflow-cast-result
+cast-result : tie.Need-overflow_cast-result
 cast-result c = omega (arith, trailing_le 64 c.word.result)
 
 returns : tie.Need-returns
-returns c = rw c.word.ensures.0 (counted-eight _ (λ k. c.word.ensures.1 (c.before.before.args.j + k)))
+returns c = rw c.word.ensures.0 (counted-eight _ (λ k. c.word.ensures.1 (c.args.j + k)))
 
-pub eight-spec : {M : Type 1} → statement M
-eight-spec = tie.close (tie.spec word-requires cast-result returns)
+pub eight_spec : {M : Type 1} → statement M
+eight_spec = tie.close (tie.spec word-requires cast-result returns)

@@ -4,19 +4,19 @@ use borrow.Author.Rules.{rules}
 use Rattle.page.proofs.accept.Statement.{statement}
 use Rattle.page.proofs.accept.Tie as tie
 
-splice-in-requires : tie.Need-splice-in-requires
+splice-in-requires : tie.Need-splice_in-n-requires
 splice-in-requires c κs = search rules
 
-same_length : tie.Need-same-length
+same_length : tie.Need-shape_of-text
 same_length c = search rules
 
 returns : tie.Need-returns
 returns c =
-    let a = c.before.before.before.before.before.before.args in
-    let p = c.before.before.before.before.before.before.requires in
-    let e = c.before.before.splice-in.ensures in
+    let a = c.args in
+    let p = c.requires in
+    let e = c.splice_in-n.ensures in
     let n = e.0 ∙ used-after a.text.now a.cells.now a.page.length a.place a.count p.0 p.1.fits p.2 in
     (rw n, e.1 ∙ filled-after a.text.now a.cells.now a.page.length a.place a.count p.0 p.1.fits p.2 p.1)
 
-pub accept-spec : {M : Type 1} → statement M
-accept-spec = tie.close (tie.spec splice-in-requires same_length returns)
+pub accept_spec : {M : Type 1} → statement M
+accept_spec = tie.close (tie.spec splice-in-requires same_length returns)

@@ -4,26 +4,24 @@ use borrow.Author.Rules.{rules}
 use Rattle.page.proofs.mark_left.Statement.{statement}
 use Rattle.page.proofs.mark_left.Tie as tie
 
-enum-known-mark : tie.Need-enum-known-mark
+enum-known-mark : tie.Need-enum_known-mark
 enum-known-mark c = search rules
 
-enum_told : tie.Need-enum-told
+enum_told : tie.Need-enum_told-1
 enum_told c = search rules
 
-returns : tie.Need-returns
+returns : tie.Need-returns-in_default
 returns c = search rules
 
-returns-2 : tie.Need-returns-2
+returns-2 : tie.Need-returns-then-done-n
 returns-2 c =
-    let a = c.before.before.before.before.args in
-    let g = c.before.before.mark.given in
-    rw (g.1, lt-ltb a.done g.0.0 (omega arith))
+    let a = c.args in
+    rw (c.in-At.is, lt-ltb a.done c.in-At.n (omega arith))
 
-returns-3 : tie.Need-returns-3
+returns-3 : tie.Need-returns
 returns-3 c =
-    let a = c.before.before.before.before.args in
-    let g = c.before.before.mark.given in
-    rw (g.1, le-ltb a.done g.0.0 (omega arith))
+    let a = c.args in
+    rw (c.in-At.is, le-ltb a.done c.in-At.n (omega arith))
 
-pub mark-left-spec : {M : Type 1} → statement M
-mark-left-spec = tie.close (tie.spec enum-known-mark enum_told returns returns-2 returns-3)
+pub mark_left_spec : {M : Type 1} → statement M
+mark_left_spec = tie.close (tie.spec enum-known-mark enum_told returns returns-2 returns-3)

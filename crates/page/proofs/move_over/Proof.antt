@@ -10,79 +10,79 @@ use borrow.Author.Rules.{rules}
 use Rattle.page.proofs.move_over.Statement.{statement}
 use Rattle.page.proofs.move_over.Tie as tie
 
-words-over-requires : tie.Need-words-over-requires
+words-over-requires : tie.Need-words_over-span-requires
 words-over-requires c κs = search rules
 
 refused-requires : tie.Need-refused-requires
 refused-requires c κs = search rules
 
-returns : tie.Need-returns
+returns : tie.Need-returns-then-at-span
 returns c =
-    let a = c.before.before.before.before.before.before.args in
+    let a = c.args in
     let s : State = state_of a.page a.text.now a.history.now in
-    let f = fit s refl c.before.before.before.before.before.before.requires in
-    rw c.refused.ensures (sym (nothing_left s a.last f a.forward c.before.before.before.words-over.result c.before.before.before.words-over.ensures c.before.if1.true))
+    let f = fit s refl c.requires in
+    rw c.refused.ensures (sym (nothing_left s a.last f a.forward c.words_over-span.result c.words_over-span.ensures c.if-at-span.true))
 
-change-at-requires : tie.Need-change-at-requires
+change-at-requires : tie.Need-change_at-change-requires
 change-at-requires c κs = search rules
 
-mul-accept : tie.Need-overflow-mul-accept
+mul-accept : tie.Need-offset_bounds-history-from
 mul-accept c =
-    let a = c.before.before.before.before.before.before.args in
+    let a = c.args in
     let s : State = state_of a.page a.text.now a.history.now in
-    let f = fit s refl c.before.before.before.before.before.before.requires in
-    let m = change-moves s a.last f a.forward c.before.before.before.words-over.result c.before.before.before.words-over.ensures c.before.if1.false c.change-at.result c.change-at.ensures in
+    let f = fit s refl c.requires in
+    let m = change-moves s a.last f a.forward c.words_over-span.result c.words_over-span.ensures c.if-at-span.false c.change_at-change.result c.change_at-change.ensures in
     omega (arith, m.part, m.whole)
 
-sub-accept : tie.Need-overflow-sub-accept
+sub-accept : tie.Need-slice_bounds-accept-count
 sub-accept c =
-    let a = c.before.before.before.before.before.before.args in
+    let a = c.args in
     let s : State = state_of a.page a.text.now a.history.now in
-    let f = fit s refl c.before.before.before.before.before.before.requires in
-    let m = change-moves s a.last f a.forward c.before.before.before.words-over.result c.before.before.before.words-over.ensures c.before.if1.false c.change-at.result c.change-at.ensures in
+    let f = fit s refl c.requires in
+    let m = change-moves s a.last f a.forward c.words_over-span.result c.words_over-span.ensures c.if-at-span.false c.change_at-change.result c.change_at-change.ensures in
     m.part
 
-part-accept-start : tie.Need-slice-bounds-accept-start
+part-accept-start : tie.Need-slice_bounds-accept-start
 part-accept-start c =
-    let a = c.before.before.before.before.before.before.args in
+    let a = c.args in
     let s : State = state_of a.page a.text.now a.history.now in
-    let f = fit s refl c.before.before.before.before.before.before.requires in
-    let m = change-moves s a.last f a.forward c.before.before.before.words-over.result c.before.before.before.words-over.ensures c.before.if1.false c.change-at.result c.change-at.ensures in
+    let f = fit s refl c.requires in
+    let m = change-moves s a.last f a.forward c.words_over-span.result c.words_over-span.ensures c.if-at-span.false c.change_at-change.result c.change_at-change.ensures in
     omega (arith, m.part, m.whole)
 
-part-accept-end : tie.Need-slice-bounds-accept-end
+part-accept-end : tie.Need-slice_bounds-accept-end
 part-accept-end c =
-    let a = c.before.before.before.before.before.before.args in
+    let a = c.args in
     let s : State = state_of a.page a.text.now a.history.now in
-    let f = fit s refl c.before.before.before.before.before.before.requires in
-    let m = change-moves s a.last f a.forward c.before.before.before.words-over.result c.before.before.before.words-over.ensures c.before.if1.false c.change-at.result c.change-at.ensures in
+    let f = fit s refl c.requires in
+    let m = change-moves s a.last f a.forward c.words_over-span.result c.words_over-span.ensures c.if-at-span.false c.change_at-change.result c.change_at-change.ensures in
     m.whole
 
 accept-requires : tie.Need-accept-requires
 accept-requires c κs =
-    let a = c.before.before.before.before.before.before.before.before.args in
+    let a = c.args in
     let s : State = state_of a.page a.text.now a.history.now in
-    let f = fit s refl c.before.before.before.before.before.before.before.before.requires in
-    let m = change-moves s a.last f a.forward c.before.before.before.before.before.words-over.result c.before.before.before.before.before.words-over.ensures c.before.before.before.if1.false c.before.before.change-at.result c.before.before.change-at.ensures in
-    let q = c.before.before.change-at.result in
+    let f = fit s refl c.requires in
+    let m = change-moves s a.last f a.forward c.words_over-span.result c.words_over-span.ensures c.if-at-span.false c.change_at-change.result c.change_at-change.ensures in
+    let q = c.change_at-change.result in
     let part = length-take (q.to - q.from) (drop q.from a.history.now) in
     let rest = length-drop q.from a.history.now in
     (m.place, text-filled f, omega (arith, m.room, m.part, m.whole))
 
-same_length : tie.Need-same-length
+same_length : tie.Need-shape_of-text
 same_length c = search rules
 
-returns-2 : tie.Need-returns-2
+returns-2 : tie.Need-returns
 returns-2 c =
-    let a = c.before.before.before.before.before.before.before.before.before.before.before.args in
+    let a = c.args in
     let s : State = state_of a.page a.text.now a.history.now in
-    let f = fit s refl c.before.before.before.before.before.before.before.before.before.before.before.requires in
-    let m = change-moves s a.last f a.forward c.before.before.before.before.before.before.before.before.words-over.result c.before.before.before.before.before.before.before.before.words-over.ensures c.before.before.before.before.before.before.if1.false c.before.before.before.before.before.change-at.result c.before.before.before.before.before.change-at.ensures in
-    let e = c.before.before.accept.ensures in
+    let f = fit s refl c.requires in
+    let m = change-moves s a.last f a.forward c.words_over-span.result c.words_over-span.ensures c.if-at-span.false c.change_at-change.result c.change_at-change.ensures in
+    let e = c.accept.ensures in
     (λ i. leaves (e.0 i) (e.1 i) a.history.now) ∙ sym m.outcome
 
-pub move-over-spec : {M : Type 1} → statement M
-move-over-spec =
+pub move_over_spec : {M : Type 1} → statement M
+move_over_spec =
     tie.close
     (tie.spec
     words-over-requires

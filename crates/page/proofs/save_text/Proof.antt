@@ -7,38 +7,38 @@ use Rattle.page.proofs.save_text.Tie as tie
 write-requires : tie.Need-write-requires
 write-requires c κs = search rules
 
-same_length : tie.Need-same-length
+same_length : tie.Need-shape_of-out-then-page-ne0
 same_length c = search rules
 
-returns : tie.Need-returns
+returns : tie.Need-returns-then-page-ne0
 returns c =
-    let a = c.before.before.before.before.before.before.before.before.before.args in
-    rw (ne_eqb a.page.done 0 c.before.before.before.before.if1.true) c.before.before.write.ensures
+    let a = c.args in
+    rw (ne_eqb a.page.done 0 c.if-page-ne0.true) c.write.ensures
 
 format-requires : tie.Need-format-requires
 format-requires c κs = search rules
 
-reads-as-requires : tie.Need-reads-as-requires
+reads-as-requires : tie.Need-reads_as-requires
 reads-as-requires c κs = search rules
 
-returns-2 : tie.Need-returns-2
+returns-2 : tie.Need-returns-then-not-reads_as
 returns-2 c =
-    let a = c.before.before.before.before.before.before.before.before.args in
-    rw (eq-eqb a.page.done 0 c.before.before.before.if1.false, (rw c.before.before.format.ensures at (sym c.before.reads_as.ensures ∙ not-true _ c.if2.true)))
+    let a = c.args in
+    rw (eq-eqb a.page.done 0 c.if-page-ne0.false, (rw c.format.ensures at (sym c.reads_as.ensures ∙ c.if-not-reads_as.true)))
 
 give-requires : tie.Need-give-requires
 give-requires c κs = search rules
 
-same-length-2 : tie.Need-same-length-2
+same-length-2 : tie.Need-shape_of-out
 same-length-2 c = search rules
 
-returns-3 : tie.Need-returns-3
+returns-3 : tie.Need-returns
 returns-3 c =
-    let a = c.before.before.before.before.before.before.before.before.before.before.before.before.args in
-    rw (eq-eqb a.page.done 0 c.before.before.before.before.before.before.before.if1.false, (rw c.before.before.before.before.before.before.format.ensures at (sym c.before.before.before.before.before.reads_as.ensures ∙ not-false _ c.before.before.before.before.if2.false))) c.before.before.give.ensures
+    let a = c.args in
+    rw (eq-eqb a.page.done 0 c.if-page-ne0.false, (rw c.format.ensures at (sym c.reads_as.ensures ∙ c.if-not-reads_as.false))) c.give.ensures
 
-pub save-text-spec : {M : Type 1} → statement M
-save-text-spec =
+pub save_text_spec : {M : Type 1} → statement M
+save_text_spec =
     tie.close
     (tie.spec
     write-requires

@@ -13,10 +13,10 @@ use borrow.Author.Rules.{rules}
 use Rattle.page_keep.proofs.put_file.Statement.{statement}
 use Rattle.page_keep.proofs.put_file.Tie as tie
 
-put-head-requires : tie.Need-put-head-requires
+put-head-requires : tie.Need-put_head-head-requires
 put-head-requires c κs =
-    let a = c.before.before.before.before.before.args in
-    let p = c.before.before.before.before.before.requires in
+    let a = c.args in
+    let p = c.requires in
     omega (
       arith,
       ap length (file-is a.two a.page a.cells.now a.words.now a.arrived.now p.0),
@@ -26,10 +26,10 @@ put-head-requires c κs =
           a.cells.now a.words.now,
     )
 
-put-arrived-requires : tie.Need-put-arrived-requires
+put-arrived-requires : tie.Need-put_arrived-text-requires
 put-arrived-requires c κs =
-    let a = c.before.before.before.before.before.before.before.before.before.args in
-    let p = c.before.before.before.before.before.before.before.before.before.requires in
+    let a = c.args in
+    let p = c.requires in
     omega (
       arith,
       ap length (file-is a.two a.page a.cells.now a.words.now a.arrived.now p.0),
@@ -39,13 +39,10 @@ put-arrived-requires c κs =
           a.cells.now a.words.now,
     )
 
-slice-aggregate-put-words : tie.Need-slice-aggregate-put-words
-slice-aggregate-put-words c = search rules
-
-put-words-requires : tie.Need-put-words-requires
+put-words-requires : tie.Need-put_words-history-requires
 put-words-requires c κs =
-    let a = c.before.before.before.before.before.before.before.before.before.before.before.before.before.before.args in
-    let p = c.before.before.before.before.before.before.before.before.before.before.before.before.before.before.requires in
+    let a = c.args in
+    let p = c.requires in
     omega (
       arith,
       ap length (file-is a.two a.page a.cells.now a.words.now a.arrived.now p.0),
@@ -55,13 +52,10 @@ put-words-requires c κs =
           a.cells.now a.words.now,
     )
 
-slice-aggregate-put-words-2 : tie.Need-slice-aggregate-put-words-2
-slice-aggregate-put-words-2 c = search rules
-
-put-words-requires-2 : tie.Need-put-words-requires-2
+put-words-requires-2 : tie.Need-put_words-requires
 put-words-requires-2 c κs =
-    let a = c.before.before.before.before.before.before.before.before.before.before.before.before.before.before.before.before.before.before.before.args in
-    let p = c.before.before.before.before.before.before.before.before.before.before.before.before.before.before.before.before.before.before.before.requires in
+    let a = c.args in
+    let p = c.requires in
     omega (
       arith,
       ap length (file-is a.two a.page a.cells.now a.words.now a.arrived.now p.0),
@@ -71,30 +65,30 @@ put-words-requires-2 c κs =
           a.cells.now a.words.now,
     )
 
-same_length : tie.Need-same-length
+same_length : tie.Need-shape_of-out
 same_length c = search rules
 
 returns : tie.Need-returns
 returns c =
-    let pre' = c.before.before.before.before.before.before.before.before.before.before.before.before.before.before.before.before.before.before.before.before.before.before.requires in
-    let a = c.before.before.before.before.before.before.before.before.before.before.before.before.before.before.before.before.before.before.before.before.before.before.args in
-    let put-head' = c.before.before.before.before.before.before.before.before.before.before.before.before.before.before.before.before.put-head in
-    let put-arrived' = c.before.before.before.before.before.before.before.before.before.before.before.before.put-arrived in
-    let put-words' = c.before.before.before.before.before.before.before.put-words in
-    let put-words2' = c.before.before.put-words2 in
+    let pre' = c.requires in
+    let a = c.args in
+    let put-head' = c.put_head-head in
+    let put-arrived' = c.put_arrived-text in
+    let put-words' = c.put_words-history in
+    let put-words2' = c.put_words in
     let h : List ℕ = head_of a.two a.page in
     let l1 : List ℕ = line "arrived" (groups 2 a.arrived.now) in
     let l2 : List ℕ = line "text" (groups 8 a.cells.now) in
     let l3 : List ℕ = line "history" (groups 8 a.words.now) in
     sets_then a.out.now _ _ h (l1 ++ (l2 ++ l3)) 0 put-head'.result put-head'.ensures.1 (omega arith)
-    (sets_then put-head'.last.1.1.0 _ _ l1 (l2 ++ l3) put-head'.result put-arrived'.result
+    (sets_then put-head'.new.out _ _ l1 (l2 ++ l3) put-head'.result put-arrived'.result
     put-arrived'.ensures.1 (omega (
       arith,
       line-size "arrived" (groups 2 a.arrived.now),
       length-groups 2
           a.arrived.now,
     ))
-    (sets_then put-arrived'.last.1.0 _ _ l2 l3 put-arrived'.result put-words'.result
+    (sets_then put-arrived'.new.out _ _ l2 l3 put-arrived'.result put-words'.result
     put-words'.ensures.1 (omega (
       arith,
       line-size "text" (groups 8 a.cells.now),
@@ -106,15 +100,13 @@ returns c =
     (put_whole a.out.now (file_of (content_by a.page a.cells.now a.words.now a.arrived.now))
     pre'.1)
 
-pub put-file-spec : {M : Type 1} → statement M
-put-file-spec =
+pub put_file_spec : {M : Type 1} → statement M
+put_file_spec =
     tie.close
     (tie.spec
     put-head-requires
     put-arrived-requires
-    slice-aggregate-put-words
     put-words-requires
-    slice-aggregate-put-words-2
     put-words-requires-2
     same_length
     returns)

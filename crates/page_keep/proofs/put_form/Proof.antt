@@ -3,41 +3,33 @@ use borrow.Author.Rules.{rules}
 use Rattle.page_keep.proofs.put_form.Statement.{statement}
 use Rattle.page_keep.proofs.put_form.Tie as tie
 
-slice-aggregate-put-bytes : tie.Need-slice-aggregate-put-bytes
-slice-aggregate-put-bytes c = search rules
-
-put-bytes-requires : tie.Need-put-bytes-requires
+put-bytes-requires : tie.Need-put_bytes-requires
 put-bytes-requires c κs = search rules
 
-same_length : tie.Need-same-length
+same_length : tie.Need-shape_of-out-then-two
 same_length c = search rules
 
-returns : tie.Need-returns
+returns : tie.Need-returns-then-two
 returns c =
-    rw c.before.before.before.before.before.if1.true (omega arith, c.before.before.put-bytes.ensures.1)
+    rw c.if-two.true (omega arith, c.put_bytes.ensures.1)
 
-slice-aggregate-put-bytes-2 : tie.Need-slice-aggregate-put-bytes-2
-slice-aggregate-put-bytes-2 c = search rules
-
-put-bytes-requires-2 : tie.Need-put-bytes-requires-2
+put-bytes-requires-2 : tie.Need-put_bytes-requires-2
 put-bytes-requires-2 c κs = search rules
 
-same-length-2 : tie.Need-same-length-2
+same-length-2 : tie.Need-shape_of-out
 same-length-2 c = search rules
 
-returns-2 : tie.Need-returns-2
+returns-2 : tie.Need-returns
 returns-2 c =
-    rw c.before.before.before.before.before.if1.false (omega arith, c.before.before.put-bytes2.ensures.1)
+    rw c.if-two.false (omega arith, c.put_bytes-2.ensures.1)
 
-pub put-form-spec : {M : Type 1} → statement M
-put-form-spec =
+pub put_form_spec : {M : Type 1} → statement M
+put_form_spec =
     tie.close
     (tie.spec
-    slice-aggregate-put-bytes
     put-bytes-requires
     same_length
     returns
-    slice-aggregate-put-bytes-2
     put-bytes-requires-2
     same-length-2
     returns-2)

@@ -13,9 +13,9 @@ use borrow.Author.Rules.{rules}
 use Rattle.page_keep.proofs.put_head.Statement.{statement}
 use Rattle.page_keep.proofs.put_head.Tie as tie
 
-put-form-requires : tie.Need-put-form-requires
+put-form-requires : tie.Need-put_form-name-requires
 put-form-requires c κs =
-    let a = c.before.before.args in
+    let a = c.args in
     omega (
       arith,
       head-size a.two a.page,
@@ -23,9 +23,9 @@ put-form-requires c κs =
       line-size "saved" (mark_of (form_if a.two) a.page.saved),
     )
 
-put-kind-requires : tie.Need-put-kind-requires
+put-kind-requires : tie.Need-put_kind-opening-requires
 put-kind-requires c κs =
-    let a = c.before.before.before.before.before.before.args in
+    let a = c.args in
     omega (
       arith,
       head-size a.two a.page,
@@ -33,12 +33,9 @@ put-kind-requires c κs =
       line-size "saved" (mark_of (form_if a.two) a.page.saved),
     )
 
-slice-aggregate-put-number : tie.Need-slice-aggregate-put-number
-slice-aggregate-put-number c = search rules
-
-put-number-requires : tie.Need-put-number-requires
+put-number-requires : tie.Need-put_number-length-requires
 put-number-requires c κs =
-    let a = c.before.before.before.before.before.before.before.before.before.before.before.args in
+    let a = c.args in
     omega (
       arith,
       head-size a.two a.page,
@@ -46,12 +43,9 @@ put-number-requires c κs =
       line-size "saved" (mark_of (form_if a.two) a.page.saved),
     )
 
-slice-aggregate-put-number-2 : tie.Need-slice-aggregate-put-number-2
-slice-aggregate-put-number-2 c = search rules
-
-put-number-requires-2 : tie.Need-put-number-requires-2
+put-number-requires-2 : tie.Need-put_number-used-requires
 put-number-requires-2 c κs =
-    let a = c.before.before.before.before.before.before.before.before.before.before.before.before.before.before.before.before.args in
+    let a = c.args in
     omega (
       arith,
       head-size a.two a.page,
@@ -59,12 +53,9 @@ put-number-requires-2 c κs =
       line-size "saved" (mark_of (form_if a.two) a.page.saved),
     )
 
-slice-aggregate-put-number-3 : tie.Need-slice-aggregate-put-number-3
-slice-aggregate-put-number-3 c = search rules
-
-put-number-requires-3 : tie.Need-put-number-requires-3
+put-number-requires-3 : tie.Need-put_number-done-requires
 put-number-requires-3 c κs =
-    let a = c.before.before.before.before.before.before.before.before.before.before.before.before.before.before.before.before.before.before.before.before.before.args in
+    let a = c.args in
     omega (
       arith,
       head-size a.two a.page,
@@ -72,12 +63,9 @@ put-number-requires-3 c κs =
       line-size "saved" (mark_of (form_if a.two) a.page.saved),
     )
 
-slice-aggregate-put-number-4 : tie.Need-slice-aggregate-put-number-4
-slice-aggregate-put-number-4 c = search rules
-
-put-number-requires-4 : tie.Need-put-number-requires-4
+put-number-requires-4 : tie.Need-put_number-mark-requires
 put-number-requires-4 c κs =
-    let a = c.before.before.before.before.before.before.before.before.before.before.before.before.before.before.before.before.before.before.before.before.before.before.before.before.before.before.args in
+    let a = c.args in
     omega (
       arith,
       head-size a.two a.page,
@@ -85,16 +73,16 @@ put-number-requires-4 c κs =
       line-size "saved" (mark_of (form_if a.two) a.page.saved),
     )
 
-put-saved-requires : tie.Need-put-saved-requires
+put-saved-requires : tie.Need-put_saved-requires
 put-saved-requires c κs =
-    let a = c.before.before.before.before.before.before.before.before.before.before.before.before.before.before.before.before.before.before.before.before.before.before.before.before.before.before.before.before.before.before.args in
-    let pre' = c.before.before.before.before.before.before.before.before.before.before.before.before.before.before.before.before.before.before.before.before.before.before.before.before.before.before.before.before.before.before.requires in
-    let f = c.before.before.before.before.before.before.before.before.before.before.before.before.before.before.before.before.before.before.before.before.before.before.before.before.before.before.before.put-form in
-    let k = c.before.before.before.before.before.before.before.before.before.before.before.before.before.before.before.before.before.before.before.before.before.before.before.put-kind in
-    let n1 = c.before.before.before.before.before.before.before.before.before.before.before.before.before.before.before.before.before.before.put-number in
-    let n2 = c.before.before.before.before.before.before.before.before.before.before.before.before.before.put-number2 in
-    let n3 = c.before.before.before.before.before.before.before.before.put-number3 in
-    let n4 = c.before.before.before.put-number4 in
+    let a = c.args in
+    let pre' = c.requires in
+    let f = c.put_form-name in
+    let k = c.put_kind-opening in
+    let n1 = c.put_number-length in
+    let n2 = c.put_number-used in
+    let n3 = c.put_number-done in
+    let n4 = c.put_number-mark in
     let w : ℕ = (form_if a.two).width in
     let ek : k.result ≡ f.result + length (line "kind" (name_of a.page.kind)) = k.ensures.0 in
     let e1 : n1.result ≡ k.result + (8 + w + 1) = n1.ensures.0 in
@@ -104,26 +92,26 @@ put-saved-requires c κs =
     saved-room a.two a.page {at = n4.result} (omega (arith, pre'))
     (omega (arith, f.ensures.0, ek, e1, e2, e3, e4, line-size "kind" (name_of a.page.kind)))
 
-same_length : tie.Need-same-length
+same_length : tie.Need-shape_of-out
 same_length c =
-    ap length c.before.before.put-saved.ensures.1 ∙ simp length-sets
-    (ap length c.before.before.before.before.before.before.put-number4.ensures.1 ∙ simp length-sets
-    (ap length c.before.before.before.before.before.before.before.before.before.before.before.put-number3.ensures.1 ∙ simp length-sets
-    (ap length c.before.before.before.before.before.before.before.before.before.before.before.before.before.before.before.before.put-number2.ensures.1 ∙ simp length-sets
-    (ap length c.before.before.before.before.before.before.before.before.before.before.before.before.before.before.before.before.before.before.before.before.before.put-number.ensures.1 ∙ simp length-sets
-    (ap length c.before.before.before.before.before.before.before.before.before.before.before.before.before.before.before.before.before.before.before.before.before.before.before.before.before.before.put-kind.ensures.1 ∙ simp length-sets
-    (ap length c.before.before.before.before.before.before.before.before.before.before.before.before.before.before.before.before.before.before.before.before.before.before.before.before.before.before.before.before.before.before.put-form.ensures.1 ∙ simp length-sets))))))
+    ap length c.put_saved.ensures.1 ∙ simp length-sets
+    (ap length c.put_number-mark.ensures.1 ∙ simp length-sets
+    (ap length c.put_number-done.ensures.1 ∙ simp length-sets
+    (ap length c.put_number-used.ensures.1 ∙ simp length-sets
+    (ap length c.put_number-length.ensures.1 ∙ simp length-sets
+    (ap length c.put_kind-opening.ensures.1 ∙ simp length-sets
+    (ap length c.put_form-name.ensures.1 ∙ simp length-sets))))))
 
 returns : tie.Need-returns
 returns c =
-    let a = c.before.before.before.before.before.before.before.before.before.before.before.before.before.before.before.before.before.before.before.before.before.before.before.before.before.before.before.before.before.before.before.before.before.args in
-    let put-form' = c.before.before.before.before.before.before.before.before.before.before.before.before.before.before.before.before.before.before.before.before.before.before.before.before.before.before.before.before.before.before.put-form in
-    let put-kind' = c.before.before.before.before.before.before.before.before.before.before.before.before.before.before.before.before.before.before.before.before.before.before.before.before.before.before.put-kind in
-    let put-number' = c.before.before.before.before.before.before.before.before.before.before.before.before.before.before.before.before.before.before.before.before.before.put-number in
-    let put-number2' = c.before.before.before.before.before.before.before.before.before.before.before.before.before.before.before.before.put-number2 in
-    let put-number3' = c.before.before.before.before.before.before.before.before.before.before.before.put-number3 in
-    let put-number4' = c.before.before.before.before.before.before.put-number4 in
-    let put-saved' = c.before.before.put-saved in
+    let a = c.args in
+    let put-form' = c.put_form-name in
+    let put-kind' = c.put_kind-opening in
+    let put-number' = c.put_number-length in
+    let put-number2' = c.put_number-used in
+    let put-number3' = c.put_number-done in
+    let put-number4' = c.put_number-mark in
+    let put-saved' = c.put_saved in
     let p = a.page in
     let l6 : List ℕ = line "saved" (mark_of (form_if a.two) p.saved) in
     let l5 : List ℕ = line "done" (decimal a.two p.done) in
@@ -139,32 +127,28 @@ returns c =
       ),
       sets_then a.out.now _ _ (form_line a.two) (l1 ++ (l2 ++ (l3 ++ (l4 ++ (l5 ++ l6))))) 0 put-form'.result
           put-form'.ensures.1 (omega (arith, form-size a.two))
-          (sets_then put-form'.last.1.0 _ _ l1 (l2 ++ (l3 ++ (l4 ++ (l5 ++ l6)))) put-form'.result
+          (sets_then put-form'.new.out _ _ l1 (l2 ++ (l3 ++ (l4 ++ (l5 ++ l6)))) put-form'.result
           put-kind'.result put-kind'.ensures.1 put-kind'.ensures.0
-          (sets_then put-kind'.last.1.0 _ _ l2 (l3 ++ (l4 ++ (l5 ++ l6))) put-kind'.result put-number'.result
+          (sets_then put-kind'.new.out _ _ l2 (l3 ++ (l4 ++ (l5 ++ l6))) put-kind'.result put-number'.result
           put-number'.ensures.1 (omega (arith, number_size a.two "opening" p.opening))
-          (sets_then put-number'.last.1.1.1.0 _ _ l3 (l4 ++ (l5 ++ l6)) put-number'.result put-number2'.result
+          (sets_then put-number'.new.out _ _ l3 (l4 ++ (l5 ++ l6)) put-number'.result put-number2'.result
           put-number2'.ensures.1 (omega (arith, number_size a.two "length" p.length))
-          (sets_then put-number2'.last.1.1.1.0 _ _ l4 (l5 ++ l6) put-number2'.result put-number3'.result
+          (sets_then put-number2'.new.out _ _ l4 (l5 ++ l6) put-number2'.result put-number3'.result
           put-number3'.ensures.1 (omega (arith, number_size a.two "used" p.used))
-          (sets_then put-number3'.last.1.1.1.0 _ _ l5 l6 put-number3'.result put-number4'.result
+          (sets_then put-number3'.new.out _ _ l5 l6 put-number3'.result put-number4'.result
           put-number4'.ensures.1 (omega (arith, number_size a.two "done" p.done))
           put-saved'.ensures.1))))),
     )
 
-pub put-head-spec : {M : Type 1} → statement M
-put-head-spec =
+pub put_head_spec : {M : Type 1} → statement M
+put_head_spec =
     tie.close
     (tie.spec
     put-form-requires
     put-kind-requires
-    slice-aggregate-put-number
     put-number-requires
-    slice-aggregate-put-number-2
     put-number-requires-2
-    slice-aggregate-put-number-3
     put-number-requires-3
-    slice-aggregate-put-number-4
     put-number-requires-4
     put-saved-requires
     same_length

@@ -6,26 +6,26 @@ use borrow.Author.Rules.{rules}
 use Rattle.page_read.proofs.fill_bytes.Statement.{statement}
 use Rattle.page_read.proofs.fill_bytes.Tie as tie
 
-read-bytes-requires : tie.Need-read-bytes-requires
+read-bytes-requires : tie.Need-read_bytes-requires
 read-bytes-requires c κs = search rules
 
-clear-bytes-requires : tie.Need-clear-bytes-requires
+clear-bytes-requires : tie.Need-clear_bytes-requires
 clear-bytes-requires c κs =
-    let a = c.before.before.before.before.before.before.before.args in
-    let read-bytes' = c.before.before.before.read-bytes in
+    let a = c.args in
+    let read-bytes' = c.read_bytes in
     still-room (hexes_at a.file.now a.from 2 a.n) a.out.now _ a.n
     (length-hexes a.file.now a.from 2 a.n) (omega arith) read-bytes'.ensures
 
-same_length : tie.Need-same-length
+same_length : tie.Need-shape_of-out
 same_length c = search rules
 
 returns : tie.Need-returns
 returns c =
-    let a = c.before.before.before.before.before.before.before.before.before.before.args in
-    let read-bytes' = c.before.before.before.before.before.before.read-bytes in
-    let clear-bytes' = c.before.before.clear-bytes in
+    let a = c.args in
+    let read-bytes' = c.read_bytes in
+    let clear-bytes' = c.clear_bytes in
     pads-bytes (hexes_at a.file.now a.from 2 a.n) a.out.now _ a.n
     (length-hexes a.file.now a.from 2 a.n) (omega arith) read-bytes'.ensures clear-bytes'.ensures
 
-pub fill-bytes-spec : {M : Type 1} → statement M
-fill-bytes-spec = tie.close (tie.spec read-bytes-requires clear-bytes-requires same_length returns)
+pub fill_bytes_spec : {M : Type 1} → statement M
+fill_bytes_spec = tie.close (tie.spec read-bytes-requires clear-bytes-requires same_length returns)

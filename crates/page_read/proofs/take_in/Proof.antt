@@ -5,36 +5,36 @@ use borrow.Author.Rules.{rules}
 use Rattle.page_read.proofs.take_in.Statement.{statement}
 use Rattle.page_read.proofs.take_in.Tie as tie
 
-fill-bytes-requires : tie.Need-fill-bytes-requires
+fill-bytes-requires : tie.Need-fill_bytes-requires
 fill-bytes-requires c κs =
-    let pre' = c.before.before.before.before.before.before.requires in
+    let pre' = c.requires in
     (pre'.0.arrived, omega arith)
 
-fill-words-requires : tie.Need-fill-words-requires
+fill-words-requires : tie.Need-fill_words-requires
 fill-words-requires c κs =
-    let pre' = c.before.before.before.before.before.before.before.before.before.before.requires in
+    let pre' = c.requires in
     (pre'.0.text, omega arith)
 
-fill-words-requires-2 : tie.Need-fill-words-requires-2
+fill-words-requires-2 : tie.Need-fill_words-requires-2
 fill-words-requires-2 c κs =
-    let pre' = c.before.before.before.before.before.before.before.before.before.before.before.before.before.before.requires in
+    let pre' = c.requires in
     (pre'.0.history, omega arith)
 
-same_length : tie.Need-same-length
+same_length : tie.Need-shape_of-arrived
 same_length c = search rules
 
-same-length-2 : tie.Need-same-length-2
+same-length-2 : tie.Need-shape_of-text
 same-length-2 c = search rules
 
-same-length-3 : tie.Need-same-length-3
+same-length-3 : tie.Need-shape_of-history
 same-length-3 c = search rules
 
 returns : tie.Need-returns
 returns c =
-    let a = c.before.before.before.before.before.before.before.before.before.before.before.before.before.before.before.before.before.args in
-    let fill-bytes' = c.before.before.before.before.before.before.before.before.before.before.fill-bytes in
-    let fill-words' = c.before.before.before.before.before.before.fill-words in
-    let fill-words2' = c.before.before.fill-words2 in
+    let a = c.args in
+    let fill-bytes' = c.fill_bytes in
+    let fill-words' = c.fill_words in
+    let fill-words2' = c.fill_words-2 in
     rw (
       fill-bytes'.ensures,
       fill-words'.ensures,
@@ -43,8 +43,8 @@ returns c =
           a.plan.arrived 2 a.plan.count,
     )
 
-pub take-in-spec : {M : Type 1} → statement M
-take-in-spec =
+pub take_in_spec : {M : Type 1} → statement M
+take_in_spec =
     tie.close
     (tie.spec
     fill-bytes-requires

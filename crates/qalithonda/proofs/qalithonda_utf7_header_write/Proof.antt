@@ -6,15 +6,15 @@ use Rattle.qalithonda.proofs.qalithonda_utf7_header_write.Tie as tie
 write-requires : tie.Need-write-requires
 write-requires c κs = search rules
 
-in-numbers-requires : tie.Need-in-numbers-requires
+in-numbers-requires : tie.Need-in_numbers-requires
 in-numbers-requires c κs = search rules
 
-same_length : tie.Need-same-length
+same_length : tie.Need-shape_of-out
 same_length c = search rules
 
 returns : tie.Need-returns
-returns c = handed-on _ c.before.before.before.write.result c.in-numbers.ensures c.before.before.before.write.ensures
+returns c = handed-on _ c.write.result c.in_numbers.ensures c.write.ensures
 
-pub qalithonda-utf7-header-write-spec : {M : Type 1} → statement M
-qalithonda-utf7-header-write-spec =
+pub qalithonda_utf7_header_write_spec : {M : Type 1} → statement M
+qalithonda_utf7_header_write_spec =
     tie.close (tie.spec write-requires in-numbers-requires same_length returns)

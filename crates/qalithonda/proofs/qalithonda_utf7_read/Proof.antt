@@ -6,15 +6,15 @@ use Rattle.qalithonda.proofs.qalithonda_utf7_read.Tie as tie
 read-requires : tie.Need-read-requires
 read-requires c κs = search rules
 
-in-numbers-requires : tie.Need-in-numbers-requires
+in-numbers-requires : tie.Need-in_numbers-requires
 in-numbers-requires c κs = search rules
 
-same_length : tie.Need-same-length
+same_length : tie.Need-shape_of-cells
 same_length c = search rules
 
 returns : tie.Need-returns
-returns c = handed-on _ c.before.before.before.read.result c.in-numbers.ensures c.before.before.before.read.ensures
+returns c = handed-on _ c.read.result c.in_numbers.ensures c.read.ensures
 
-pub qalithonda-utf7-read-spec : {M : Type 1} → statement M
-qalithonda-utf7-read-spec =
+pub qalithonda_utf7_read_spec : {M : Type 1} → statement M
+qalithonda_utf7_read_spec =
     tie.close (tie.spec read-requires in-numbers-requires same_length returns)

@@ -5,18 +5,18 @@ use Rattle.qalithonda_benches.proofs.qalithonda_benches_open.Tie as tie
 open-requires : tie.Need-open-requires
 open-requires c κs = search rules
 
-same_length : tie.Need-same-length
+same_length : tie.Need-shape_of-text0
 same_length c = search rules
 
-same-length-2 : tie.Need-same-length-2
+same-length-2 : tie.Need-shape_of-text1
 same-length-2 c = search rules
 
-same-length-3 : tie.Need-same-length-3
+same-length-3 : tie.Need-shape_of-history
 same-length-3 c = search rules
 
 returns : tie.Need-returns
 returns c = c.before.before.before.before.before.before.«open».ensures
 
-pub qalithonda-benches-open-spec : {M : Type 1} → statement M
-qalithonda-benches-open-spec =
+pub qalithonda_benches_open_spec : {M : Type 1} → statement M
+qalithonda_benches_open_spec =
     tie.close (tie.spec open-requires same_length same-length-2 same-length-3 returns)

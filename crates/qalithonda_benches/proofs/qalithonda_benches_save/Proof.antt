@@ -5,11 +5,11 @@ use Rattle.qalithonda_benches.proofs.qalithonda_benches_save.Tie as tie
 save-requires : tie.Need-save-requires
 save-requires c κs = search rules
 
-same_length : tie.Need-same-length
+same_length : tie.Need-shape_of-out
 same_length c = search rules
 
 returns : tie.Need-returns
-returns c = c.before.before.save.ensures
+returns c = c.save.ensures
 
-pub qalithonda-benches-save-spec : {M : Type 1} → statement M
-qalithonda-benches-save-spec = tie.close (tie.spec save-requires same_length returns)
+pub qalithonda_benches_save_spec : {M : Type 1} → statement M
+qalithonda_benches_save_spec = tie.close (tie.spec save-requires same_length returns)

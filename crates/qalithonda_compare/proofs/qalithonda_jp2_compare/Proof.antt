@@ -8,5 +8,5 @@ compare-requires c κs = search rules
 returns : tie.Need-returns
 returns c = c.compare.ensures
 
-pub qalithonda-jp2-compare-spec : {M : Type 1} → statement M
-qalithonda-jp2-compare-spec = tie.close (tie.spec compare-requires returns)
+pub qalithonda_jp2_compare_spec : {M : Type 1} → statement M
+qalithonda_jp2_compare_spec = tie.close (tie.spec compare-requires returns)

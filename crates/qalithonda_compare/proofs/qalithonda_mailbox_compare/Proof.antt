@@ -8,5 +8,5 @@ compare-requires c κs = search rules
 returns : tie.Need-returns
 returns c = c.compare.ensures
 
-pub qalithonda-mailbox-compare-spec : {M : Type 1} → statement M
-qalithonda-mailbox-compare-spec = tie.close (tie.spec compare-requires returns)
+pub qalithonda_mailbox_compare_spec : {M : Type 1} → statement M
+qalithonda_mailbox_compare_spec = tie.close (tie.spec compare-requires returns)

@@ -6,17 +6,17 @@ use Rattle.qalithonda_subject.proofs.qalithonda_subject_write.Tie as tie
 write-requires : tie.Need-write-requires
 write-requires c κs = search rules
 
-in-numbers-requires : tie.Need-in-numbers-requires
+in-numbers-requires : tie.Need-in_numbers-requires
 in-numbers-requires c κs = search rules
 
-same_length : tie.Need-same-length
+same_length : tie.Need-shape_of-line
 same_length c = search rules
 
 returns : tie.Need-returns
 returns c =
-    handed-on _ c.before.before.before.write.result c.in-numbers.ensures
-    c.before.before.before.write.ensures
+    handed-on _ c.write.result c.in_numbers.ensures
+    c.write.ensures
 
-pub qalithonda-subject-write-spec : {M : Type 1} → statement M
-qalithonda-subject-write-spec =
+pub qalithonda_subject_write_spec : {M : Type 1} → statement M
+qalithonda_subject_write_spec =
     tie.close (tie.spec write-requires in-numbers-requires same_length returns)

@@ -6,13 +6,13 @@ use borrow.Author.Rules.{rules}
 use Rattle.reading.proofs.mark.Statement.{statement}
 use Rattle.reading.proofs.mark.Tie as tie
 
-returns : tie.Need-returns
+returns : tie.Need-returns-then-end-count
 returns c =
-    let a = c.before.args in
+    let a = c.args in
     let none : a.end - a.count ≡ 0 = omega arith in
     rw none
 
-returns-2 : tie.Need-returns-2
+returns-2 : tie.Need-returns
 returns-2 c = search rules
 
 pub mark_spec : {M : Type 1} → statement M

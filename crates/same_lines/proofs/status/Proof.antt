@@ -5,12 +5,12 @@ use Rattle.same_lines.specs.Told.{laid}
 use Rattle.same_lines.proofs.status.Statement.{statement}
 use Rattle.same_lines.proofs.status.Tie as tie
 
-with-line-requires : tie.Need-with-line-requires
+with-line-requires : tie.Need-with_line-requires
 with-line-requires c κs = search rules
 
 returns : tie.Need-returns
 unfolding laid
-returns c = (c.with-line.ensures.0, c.with-line.ensures.1 [] refl)
+returns c = (c.with_line.ensures.0, c.with_line.ensures.1 [] refl)
 
-pub status-spec : {M : Type 1} → statement M
-status-spec = tie.close (tie.spec (λ c. search rules) with-line-requires returns)
+pub status_spec : {M : Type 1} → statement M
+status_spec = tie.close (tie.spec with-line-requires returns)

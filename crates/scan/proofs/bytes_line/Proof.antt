@@ -22,18 +22,18 @@ list-least k (suc least) (suc most) =
 smaller-requires : tie.Need-smaller-requires
 smaller-requires c κs = search rules
 
-line-of-requires : tie.Need-line-of-requires
+line-of-requires : tie.Need-line_of-requires
 line-of-requires c κs = omega (arith, c.smaller.ensures)
 
 returns : tie.Need-returns
 returns c =
-    let a = c.before.before.before.args in
-    let line-of' = c.Line-of in
-    let smaller' = c.before.smaller in
+    let a = c.args in
+    let line-of' = c.line_of in
+    let smaller' = c.smaller in
     let e = line-of'.ensures in (
       e.0 ∙ rw smaller'.ensures (rw (list-least 2 a.least a.most)),
       (λ h. (omega arith, (e.1 h).1, (e.1 h).2, (e.1 h).3)),
     )
 
-pub bytes-line-spec : {M : Type 1} → statement M
-bytes-line-spec = tie.close (tie.spec smaller-requires line-of-requires returns)
+pub bytes_line_spec : {M : Type 1} → statement M
+bytes_line_spec = tie.close (tie.spec smaller-requires line-of-requires returns)

@@ -5,15 +5,15 @@ use borrow.Author.Rules.{rules}
 use Rattle.scan.proofs.digit_value.Statement.{statement}
 use Rattle.scan.proofs.digit_value.Tie as tie
 
-counted-requires : tie.Need-counted-requires
+counted-requires : tie.Need-counted-decimal-requires
 counted-requires c κs = search rules
 
-counted-requires-2 : tie.Need-counted-requires-2
+counted-requires-2 : tie.Need-counted-requires
 counted-requires-2 c κs = search rules
 
 returns : tie.Need-returns
-returns c = c.counted2.ensures ∙ rw c.before.counted.ensures
-    (value-ranged c.before.before.args.b (omega arith))
+returns c = c.counted.ensures ∙ rw c.counted-decimal.ensures
+    (value-ranged c.args.b (omega arith))
 
-pub digit-value-spec : {M : Type 1} → statement M
-digit-value-spec = tie.close (tie.spec counted-requires counted-requires-2 returns)
+pub digit_value_spec : {M : Type 1} → statement M
+digit_value_spec = tie.close (tie.spec counted-requires counted-requires-2 returns)

@@ -9,50 +9,50 @@ use borrow.Author.Rules.{rules}
 use Rattle.scan.proofs.past_digits.Statement.{statement}
 use Rattle.scan.proofs.past_digits.Tie as tie
 
-abbrev invariant-loop : tie.invariant-loop
+abbrev invariant-loop : tie.invariant-loop-at
 invariant-loop s from to at₀ at = (from ≤ at) × (at ≤ to) × Ahead IsDigit s from (at - from)
 
-abbrev decreases-loop : tie.decreases-loop
+abbrev decreases-loop : tie.decreases-loop-at
 decreases-loop s from to at₀ at = to - at
 
-loop-holds : tie.Need-loop-init invariant-loop decreases-loop
+loop-holds : tie.Need-loop-at-init invariant-loop decreases-loop
 loop-holds c =
-    let a = c.before.args in
+    let a = c.args in
     let e : a.from - a.from ≡ 0 = omega arith in
     (omega arith, omega arith, rw e (digits-none a.s.now a.from))
 
-sub-loop : tie.Need-overflow-sub-loop invariant-loop decreases-loop
+sub-loop : tie.Need-overflow_sub-to invariant-loop decreases-loop
 sub-loop c = search rules
 
-all-digits-requires : tie.Need-all-digits-requires invariant-loop decreases-loop
+all-digits-requires : tie.Need-all_digits-requires invariant-loop decreases-loop
 all-digits-requires c κs = search rules
 
-returns : tie.Need-returns invariant-loop decreases-loop
+returns : tie.Need-returns-then-not-all_digits invariant-loop decreases-loop
 returns c = search rules
 
-add_at : tie.Need-overflow-add-at invariant-loop decreases-loop
+add_at : tie.Need-overflow_add-at invariant-loop decreases-loop
 add_at c = search rules
 
-loop-less : tie.Need-loop-smaller invariant-loop decreases-loop
+loop-less : tie.Need-loop-at-smaller invariant-loop decreases-loop
 loop-less c = search rules
 
-loop-again : tie.Need-loop-preserved invariant-loop decreases-loop
+loop-again : tie.Need-loop-at-preserved invariant-loop decreases-loop
 loop-again c =
-    let a = c.before.before.before.before.before.args in
-    let l = c.before.before.before.loop in
-    let all-digits' = c.before.all_digits in
-    let if1' = c.if1 in (
+    let a = c.args in
+    let l = c.loop-at in
+    let all-digits' = c.all_digits in
+    let if1' = c.if-not-all_digits in (
       omega arith,
       omega arith,
       digits-block a.s.now a.from l.at 32 l.invariant.0 l.invariant.2
-          (all-digits'.ensures (not-false _ if1'.false)),
+          (all-digits'.ensures if1'.false),
     )
 
-returns-2 : tie.Need-returns-2 invariant-loop decreases-loop
+returns-2 : tie.Need-returns invariant-loop decreases-loop
 returns-2 c = search rules
 
-pub past-digits-spec : {M : Type 1} → statement M
-past-digits-spec =
+pub past_digits_spec : {M : Type 1} → statement M
+past_digits_spec =
     tie.close
     (tie.spec
     invariant-loop

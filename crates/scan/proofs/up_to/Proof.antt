@@ -13,37 +13,37 @@ fits n k x h q = (le-div_iff_mul-le {k = k} {x = n} {y = x} h).0 q
 past : (n k x : ℕ) → 0 < k → x / k < n → x < n * k
 past n k x h q = (div-lt_iff_lt-mul {k = k} {x = x} {y = n} h).0 q
 
-sub-if1 : tie.Need-overflow-sub-if1
+sub-if1 : tie.Need-overflow_sub-end
 sub-if1 c = search rules
 
-div-if1 : tie.Need-nonzero-div-if1
+div-if1 : tie.Need-nonzero_div-end
 div-if1 c = search rules
 
-mul-result : tie.Need-overflow-mul-result
+mul-result : tie.Need-overflow_mul-result
 mul-result c =
-    let a = c.before.args in
-    let if1' = c.if1 in
+    let a = c.args in
+    let if1' = c.if-n-end in
     let a = a in omega (arith, fits a.n a.k (a.end - a.from) (omega arith) if1'.true)
 
-add-result : tie.Need-overflow-add-result
+add-result : tie.Need-overflow_add-result
 add-result c =
-    let a = c.before.args in
-    let if1' = c.if1 in
+    let a = c.args in
+    let if1' = c.if-n-end in
     let a = a in omega (arith, fits a.n a.k (a.end - a.from) (omega arith) if1'.true)
 
-returns : tie.Need-returns
+returns : tie.Need-returns-then-n-end
 returns c =
-    let a = c.before.args in
-    let if1' = c.if1 in
+    let a = c.args in
+    let if1' = c.if-n-end in
     let f = fits a.n a.k (a.end - a.from) (omega arith) if1'.true in
     (omega arith, omega arith, omega arith, λ h. omega arith)
 
-returns-2 : tie.Need-returns-2
+returns-2 : tie.Need-returns
 returns-2 c =
-    let a = c.before.args in
-    let if1' = c.if1 in
+    let a = c.args in
+    let if1' = c.if-n-end in
     let f = past a.n a.k (a.end - a.from) (omega arith) (omega (arith, if1'.false)) in
     (omega arith, omega arith, omega arith, λ h. absurd (omega arith))
 
-pub up-to-spec : {M : Type 1} → statement M
-up-to-spec = tie.close (tie.spec sub-if1 div-if1 mul-result add-result returns returns-2)
+pub up_to_spec : {M : Type 1} → statement M
+up_to_spec = tie.close (tie.spec sub-if1 div-if1 mul-result add-result returns returns-2)

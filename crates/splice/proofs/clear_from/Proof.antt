@@ -4,16 +4,16 @@ use borrow.Author.Rules.{rules}
 use Rattle.splice.proofs.clear_from.Statement.{statement}
 use Rattle.splice.proofs.clear_from.Tie as tie
 
-clear-part-requires : tie.Need-clear-part-requires
+clear-part-requires : tie.Need-clear_part-requires
 clear-part-requires c κs = search rules
 
-same_length : tie.Need-same-length
+same_length : tie.Need-shape_of-s
 same_length c = search rules
 
 returns : tie.Need-returns
 returns c =
-    let a = c.before.before.before.before.before.args in
-    c.before.before.clear-part.ensures ∙ clear-all a.s.now a.at
+    let a = c.args in
+    c.clear_part.ensures ∙ clear-all a.s.now a.at
 
-pub clear-from-spec : {M : Type 1} → statement M
-clear-from-spec = tie.close (tie.spec clear-part-requires same_length returns)
+pub clear_from_spec : {M : Type 1} → statement M
+clear_from_spec = tie.close (tie.spec clear-part-requires same_length returns)

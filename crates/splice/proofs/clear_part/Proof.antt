@@ -9,47 +9,47 @@ use Rattle.splice.proofs.Splices.{clear-start, clear-turn}
 use Rattle.splice.proofs.clear_part.Statement.{statement}
 use Rattle.splice.proofs.clear_part.Tie as tie
 
-abbrev invariant-loop : tie.invariant-loop
+abbrev invariant-loop : tie.invariant-loop-i
 invariant-loop s₀ at to i₀ s i = (at ≤ i) × (i ≤ at + (to - at)) × (length s ≡ length s₀) × (s ≡ cleared at i s₀)
 
-abbrev decreases-loop : tie.decreases-loop
+abbrev decreases-loop : tie.decreases-loop-i
 decreases-loop s₀ at to i₀ s i = to - i
 
-loop-holds : tie.Need-loop-init invariant-loop decreases-loop
+loop-holds : tie.Need-loop-i-init invariant-loop decreases-loop
 loop-holds c =
     let a = c.args in
     (omega arith, omega arith, refl, clear-start a.s.now a.at)
 
-mul-s : tie.Need-overflow-mul-s invariant-loop decreases-loop
+mul-s : tie.Need-offset_bounds-s-i invariant-loop decreases-loop
 mul-s c = search rules
 
-slice-write-s : tie.Need-slice-write-s invariant-loop decreases-loop
+slice-write-s : tie.Need-bounds-s-i invariant-loop decreases-loop
 slice-write-s c = search rules
 
-add-i : tie.Need-overflow-add-i invariant-loop decreases-loop
+add-i : tie.Need-overflow_add-i invariant-loop decreases-loop
 add-i c = search rules
 
-loop-less : tie.Need-loop-smaller invariant-loop decreases-loop
+loop-less : tie.Need-loop-i-smaller invariant-loop decreases-loop
 loop-less c = search rules
 
-loop-again : tie.Need-loop-preserved invariant-loop decreases-loop
+loop-again : tie.Need-loop-i-preserved invariant-loop decreases-loop
 loop-again c =
-    let a = c.before.before.args in
-    let l = c.before.loop in
+    let a = c.args in
+    let l = c.loop-i in
     (omega arith, omega arith, simp length-set (omega arith), clear-turn a.s.now l.s a.at l.i l.invariant.3 (omega arith) (omega arith))
 
-same_length : tie.Need-same-length invariant-loop decreases-loop
-same_length c = c.before.loop.invariant.2
+same_length : tie.Need-shape_of-s invariant-loop decreases-loop
+same_length c = c.loop-i.invariant.2
 
 returns : tie.Need-returns invariant-loop decreases-loop
 returns c =
-    let a = c.before.before.args in
-    let l = c.before.loop in
+    let a = c.args in
+    let l = c.loop-i in
     let n : l.i - a.at ≡ a.to - a.at = omega arith in
     l.invariant.3 ∙ ap (paste a.s.now a.at (replicate (length a.s.now) 0)) n
 
-pub clear-part-spec : {M : Type 1} → statement M
-clear-part-spec =
+pub clear_part_spec : {M : Type 1} → statement M
+clear_part_spec =
     tie.close
     (tie.spec
     invariant-loop

@@ -9,130 +9,130 @@ use Rattle.squeeze.proofs.Tracing.{at-kept, at-end, on-passed, on-further}
 use Rattle.squeeze.proofs.follow.Statement.{statement}
 use Rattle.squeeze.proofs.follow.Tie as tie
 
-abbrev invariant-loop : tie.invariant-loop
+abbrev invariant-loop : tie.invariant-loop-at
 invariant-loop history from to text start most at₀ cell₀ count₀ at cell count =
     On from to history text start most at cell count
 
-abbrev decreases-loop : tie.decreases-loop
+abbrev decreases-loop : tie.decreases-loop-at
 decreases-loop history from to text start most at₀ cell₀ count₀ at cell count = to - at
 
-loop-holds : tie.Need-loop-init invariant-loop decreases-loop
+loop-holds : tie.Need-loop-at-init invariant-loop decreases-loop
 loop-holds c =
-    let p = c.before.before.requires in
+    let p = c.requires in
     record { leads = p.0; some = p.1; few = omega arith; part = p.2; same = refl }
 
-head-at-requires : tie.Need-head-at-requires invariant-loop decreases-loop
+head-at-requires : tie.Need-head_at-head-requires invariant-loop decreases-loop
 head-at-requires c κs =
-    let a = c.before.before.before.before.args in
-    let l = c.before.loop in
+    let a = c.args in
+    let l = c.loop-at in
     whole-next l.at a.to a.history.now a.text.now l.invariant.leads (omega arith)
 
-is-kept-requires : tie.Need-is-kept-requires invariant-loop decreases-loop
+is-kept-requires : tie.Need-is_kept-requires invariant-loop decreases-loop
 is-kept-requires c κs = search rules
 
-sub-behind : tie.Need-overflow-sub-behind invariant-loop decreases-loop
+sub-behind : tie.Need-overflow_sub-behind invariant-loop decreases-loop
 sub-behind c =
-    let a = c.before.before.before.before.before.before.before.before.args in
-    let l = c.before.before.before.before.before.loop in
-    let h = c.before.before.before.head_at in
-    let k = kept-within h.result l.cell (sym c.before.before.is-kept.ensures ∙ c.before.if1.true) in
+    let a = c.args in
+    let l = c.loop-at in
+    let h = c.head_at-head in
+    let k = kept-within h.result l.cell (sym c.is_kept.ensures ∙ c.if-is_kept.true) in
     k.0
 
-add-t16 : tie.Need-overflow-add-t16 invariant-loop decreases-loop
+add-t16 : tie.Need-overflow_add-result invariant-loop decreases-loop
 add-t16 c =
-    let a = c.before.before.before.before.before.before.before.before.args in
-    let l = c.before.before.before.before.before.loop in
-    let h = c.before.before.before.head_at in
+    let a = c.args in
+    let l = c.loop-at in
+    let h = c.head_at-head in
     let x = seen l.at a.to a.history.now a.text.now l.invariant.leads (omega arith) h.result
     h.ensures in
     omega (arith, x.size, x.ends, l.invariant.leads.within)
 
-add-t17 : tie.Need-overflow-add-t17 invariant-loop decreases-loop
+add-t17 : tie.Need-overflow_add-result-then-is_kept invariant-loop decreases-loop
 add-t17 c =
-    let a = c.before.before.before.before.before.before.before.before.args in
-    let l = c.before.before.before.before.before.loop in
-    let h = c.before.before.before.head_at in
+    let a = c.args in
+    let l = c.loop-at in
+    let h = c.head_at-head in
     let x = seen l.at a.to a.history.now a.text.now l.invariant.leads (omega arith) h.result
     h.ensures in
-    let k = kept-within h.result l.cell (sym c.before.before.is-kept.ensures ∙ c.before.if1.true) in
+    let k = kept-within h.result l.cell (sym c.is_kept.ensures ∙ c.if-is_kept.true) in
     omega (arith, x.size, x.ends, l.invariant.leads.within, k.1)
 
-sub-lesser : tie.Need-overflow-sub-lesser invariant-loop decreases-loop
+sub-lesser : tie.Need-overflow_sub-head invariant-loop decreases-loop
 sub-lesser c =
-    let a = c.before.before.before.before.before.before.before.before.before.args in
-    let l = c.before.before.before.before.before.before.loop in
-    let h = c.before.before.before.before.head_at in
+    let a = c.args in
+    let l = c.loop-at in
+    let h = c.head_at-head in
     let k = kept-within h.result l.cell
-    (sym c.before.before.before.is-kept.ensures ∙ c.before.before.if1.true) in
+    (sym c.is_kept.ensures ∙ c.if-is_kept.true) in
     omega (arith, k.1)
 
 lesser-requires : tie.Need-lesser-requires invariant-loop decreases-loop
 lesser-requires c κs = search rules
 
-returns : tie.Need-returns invariant-loop decreases-loop
+returns : tie.Need-returns-then-is_kept invariant-loop decreases-loop
 returns c =
-    let a = c.before.before.before.before.before.before.before.before.before.before.args in
-    let l = c.before.before.before.before.before.before.before.loop in
-    let h = c.before.before.before.before.before.head_at in
+    let a = c.args in
+    let l = c.loop-at in
+    let h = c.head_at-head in
     let x = seen l.at a.to a.history.now a.text.now l.invariant.leads (omega arith) h.result
     h.ensures in
     let k = kept-within h.result l.cell
-    (sym c.before.before.before.before.is-kept.ensures ∙ c.before.before.before.if1.true) in
+    (sym c.is_kept.ensures ∙ c.if-is_kept.true) in
     let m = h.result.removed - (l.cell - h.result.place) in
     let n = least-below l.count m l.invariant.some (omega (arith, k.1)) in
     rw c.lesser.ensures
     (at-kept x l.invariant k.0 (least l.count m) n.0 n.1 (omega (arith, k.1, n.2)))
 
-past-requires : tie.Need-past-requires invariant-loop decreases-loop
+past-requires : tie.Need-past-next-requires invariant-loop decreases-loop
 past-requires c κs =
-    let a = c.before.before.before.before.before.before.before.args in
-    let l = c.before.before.before.before.loop in
-    let h = c.before.before.head_at in
+    let a = c.args in
+    let l = c.loop-at in
+    let h = c.head_at-head in
     let x = seen l.at a.to a.history.now a.text.now l.invariant.leads (omega arith) h.result
     h.ensures in
-    let n = sym c.before.is-kept.ensures ∙ c.if1.false in
+    let n = sym c.is_kept.ensures ∙ c.if-is_kept.false in
     (n, omega (arith, x.after, x.below, x.inside, l.invariant.part))
 
-past-alike-requires : tie.Need-past-alike-requires invariant-loop decreases-loop
+past-alike-requires : tie.Need-past_alike-run-requires invariant-loop decreases-loop
 past-alike-requires c κs =
-    let a = c.before.before.before.before.before.before.before.before.args in
-    let l = c.before.before.before.before.before.loop in
-    let h = c.before.before.before.head_at in
+    let a = c.args in
+    let l = c.loop-at in
+    let h = c.head_at-head in
     let x = seen l.at a.to a.history.now a.text.now l.invariant.leads (omega arith) h.result
     h.ensures in
-    let n = sym c.before.before.is-kept.ensures ∙ c.before.if1.false in
-    let t = on-passed x l.invariant n c.past.result c.past.ensures in
+    let n = sym c.is_kept.ensures ∙ c.if-is_kept.false in
+    let t = on-passed x l.invariant n c.past-next.result c.past-next.ensures in
     (t.1.leads, t.1.some, omega (arith, x.size, x.ends), t.1.part)
 
-loop-less : tie.Need-loop-smaller invariant-loop decreases-loop
+loop-less : tie.Need-loop-at-smaller invariant-loop decreases-loop
 loop-less c =
-    let a = c.before.before.before.before.before.before.before.before.before.args in
-    let l = c.before.before.before.before.before.before.loop in
-    let h = c.before.before.before.before.head_at in
+    let a = c.args in
+    let l = c.loop-at in
+    let h = c.head_at-head in
     let x = seen l.at a.to a.history.now a.text.now l.invariant.leads (omega arith) h.result
     h.ensures in
-    let n = sym c.before.before.before.is-kept.ensures ∙ c.before.before.if1.false in
-    let q = c.before.past in
+    let n = sym c.is_kept.ensures ∙ c.if-is_kept.false in
+    let q = c.past-next in
     let t = on-passed x l.invariant n q.result q.ensures in
-    omega (arith, t.0, x.size, c.past-alike.ensures.0, c.past-alike.ensures.1)
+    omega (arith, t.0, x.size, c.past_alike-run.ensures.0, c.past_alike-run.ensures.1)
 
-loop-again : tie.Need-loop-preserved invariant-loop decreases-loop
+loop-again : tie.Need-loop-at-preserved invariant-loop decreases-loop
 loop-again c =
-    let a = c.before.before.before.before.before.before.before.before.before.args in
-    let l = c.before.before.before.before.before.before.loop in
-    let h = c.before.before.before.before.head_at in
+    let a = c.args in
+    let l = c.loop-at in
+    let h = c.head_at-head in
     let x = seen l.at a.to a.history.now a.text.now l.invariant.leads (omega arith) h.result
     h.ensures in
-    let n = sym c.before.before.before.is-kept.ensures ∙ c.before.before.if1.false in
-    let q = c.before.past in
+    let n = sym c.is_kept.ensures ∙ c.if-is_kept.false in
+    let q = c.past-next in
     let t = on-passed x l.invariant n q.result q.ensures in
-    on-further t.1 c.past-alike.ensures.2
+    on-further t.1 c.past_alike-run.ensures.2
 
-returns-2 : tie.Need-returns-2 invariant-loop decreases-loop
-returns-2 c = at-end c.before.loop.invariant (omega arith)
+returns-2 : tie.Need-returns invariant-loop decreases-loop
+returns-2 c = at-end c.loop-at.invariant (omega arith)
 
-pub follow-spec : {M : Type 1} → statement M
-follow-spec =
+pub follow_spec : {M : Type 1} → statement M
+follow_spec =
     tie.close
     (tie.spec
     invariant-loop

@@ -5,44 +5,44 @@ use borrow.Author.Rules.{rules}
 use Rattle.squeeze.proofs.squeeze.Statement.{statement}
 use Rattle.squeeze.proofs.squeeze.Tie as tie
 
-judge-requires : tie.Need-judge-requires
+judge-requires : tie.Need-judge-found-requires
 judge-requires c κs = search rules
 
-enum-known-found : tie.Need-enum-known-found
+enum-known-found : tie.Need-enum_known-found
 enum-known-found c = search rules
 
 refused-requires : tie.Need-refused-requires
 refused-requires c κs = search rules
 
-enum-known-found-2 : tie.Need-enum-known-found-2
+enum-known-found-2 : tie.Need-enum_known-found-in-Sound-1
 enum-known-found-2 c = search rules
 
-squeeze-sound-requires : tie.Need-squeeze-sound-requires
+squeeze-sound-requires : tie.Need-squeeze_sound-requires
 squeeze-sound-requires c κs =
-    sym c.before.before.before.before.before.judge.ensures
-    ∙ c.before.before.before.found2.given.1
+    sym c.judge-found.ensures
+    ∙ c.in-Sound.is
 
-same_length : tie.Need-same-length
+same_length : tie.Need-shape_of-history-in-Unfit
 same_length c = search rules
 
-returns : tie.Need-returns
+returns : tie.Need-returns-in-Unfit
 returns c =
-    let a = c.before.before.before.before.before.before.before.before.before.args in
+    let a = c.args in
     let s : State = state_of a.page a.text.now a.history.now in
     rw c.refused.ensures (sym (squeeze-unfit s a.k a.work.now
-    c.before.before.before.before.judge.ensures c.before.before.found.given.1))
+    c.judge-found.ensures c.in-Unfit.is))
 
-same-length-2 : tie.Need-same-length-2
+same-length-2 : tie.Need-shape_of-history-in-Sound
 same-length-2 c = search rules
 
-same-length-3 : tie.Need-same-length-3
+same-length-3 : tie.Need-shape_of-work
 same-length-3 c = search rules
 
-returns-2 : tie.Need-returns-2
+returns-2 : tie.Need-returns-in-Sound
 returns-2 c = search rules
 
-pub squeeze-spec : {M : Type 1} → statement M
-squeeze-spec =
+pub squeeze_spec : {M : Type 1} → statement M
+squeeze_spec =
     tie.close
     (tie.spec
     judge-requires

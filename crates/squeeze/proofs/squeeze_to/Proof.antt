@@ -8,92 +8,92 @@ use borrow.Author.Rules.{rules}
 use Rattle.squeeze.proofs.squeeze_to.Statement.{statement}
 use Rattle.squeeze.proofs.squeeze_to.Tie as tie
 
-add-size : tie.Need-overflow-add-size
+add-size : tie.Need-overflow_add-size
 add-size c =
-    let a = c.before.before.before.before.args in
-    let p = c.before.before.before.before.requires in
+    let a = c.args in
+    let p = c.requires in
     omega (arith, limit-small, p.0.small.0)
 
-add-size-2 : tie.Need-overflow-add-size-2
+add-size-2 : tie.Need-overflow_add-size-2
 add-size-2 c =
-    let a = c.before.before.before.before.before.args in
-    let p = c.before.before.before.before.before.requires in
+    let a = c.args in
+    let p = c.requires in
     omega (arith, limit-small, p.0.small.0, p.0.small.1)
 
-no-gain-requires : tie.Need-no-gain-requires
+no-gain-requires : tie.Need-no_gain-requires
 no-gain-requires c κs = search rules
 
 refused-requires : tie.Need-refused-requires
 refused-requires c κs = search rules
 
-returns : tie.Need-returns
+returns : tie.Need-returns-then-old-size
 returns c =
-    let a = c.before.before.before.before.before.before.before.before.args in
-    let p = c.before.before.before.before.before.before.before.before.requires in
+    let a = c.args in
+    let p = c.requires in
     let s : State = state_of a.page a.text.now a.history.now in
-    rw (c.refused.ensures, c.before.no-gain.ensures)
+    rw (c.refused.ensures, c.no_gain.ensures)
     (sym (no-gain s a.work.now a.fold p.0 (omega arith)))
 
-refused-requires-2 : tie.Need-refused-requires-2
+refused-requires-2 : tie.Need-refused-requires-then-work-size
 refused-requires-2 c κs = search rules
 
-returns-2 : tie.Need-returns-2
+returns-2 : tie.Need-returns-then-work-size
 returns-2 c =
-    let a = c.before.before.before.before.before.before.before.before.args in
-    let p = c.before.before.before.before.before.before.before.before.requires in
+    let a = c.args in
+    let p = c.requires in
     let s : State = state_of a.page a.text.now a.history.now in
-    rw c.refused2.ensures (sym (no_room s a.work.now a.fold p.0 (omega arith) (omega arith)))
+    rw c.refused-then-work-size.ensures (sym (no_room s a.work.now a.fold p.0 (omega arith) (omega arith)))
 
-slice-aggregate-write-record : tie.Need-slice-aggregate-write-record
+slice-aggregate-write-record : tie.Need-slice_bounds-write_record-end
 slice-aggregate-write-record c =
-    let a = c.before.before.before.before.before.before.before.before.before.before.args in
-    let p = c.before.before.before.before.before.before.before.before.before.before.requires in
+    let a = c.args in
+    let p = c.requires in
     sym (length-take-le a.page.length a.text.now p.1)
 
-write-record-requires : tie.Need-write-record-requires
+write-record-requires : tie.Need-write_record-requires
 write-record-requires c κs = search rules
 
-slice-reshare-prefix-splice-in : tie.Need-slice-reshare-prefix-splice-in
+slice-reshare-prefix-splice-in : tie.Need-slice_bounds-splice_in-end
 slice-reshare-prefix-splice-in c = search rules
 
-slice-aggregate-splice-in : tie.Need-slice-aggregate-splice-in
+slice-aggregate-splice-in : tie.Need-slice_bounds-splice_in-end-2
 slice-aggregate-splice-in c =
-    let w = c.before.before.before.before.write-record in
-    sym (length-take-le _ w.new.0 (omega arith))
+    let w = c.write_record in
+    sym (length-take-le _ w.new.work (omega arith))
 
-splice-in-requires : tie.Need-splice-in-requires
+splice-in-requires : tie.Need-splice_in-requires
 splice-in-requires c κs = search rules
 
 shrunk-requires : tie.Need-shrunk-requires
 shrunk-requires c κs = search rules
 
-same_length : tie.Need-same-length
+same_length : tie.Need-shape_of-history
 same_length c = search rules
 
-same-length-2 : tie.Need-same-length-2
+same-length-2 : tie.Need-shape_of-work
 same-length-2 c = search rules
 
-returns-3 : tie.Need-returns-3
+returns-3 : tie.Need-returns
 returns-3 c =
-    let a = c.before.before.before.before.before.before.before.before.before.before.before.before.before.before.before.before.before.before.before.args in
-    let p = c.before.before.before.before.before.before.before.before.before.before.before.before.before.before.before.before.before.before.before.requires in
+    let a = c.args in
+    let p = c.requires in
     let s : State = state_of a.page a.text.now a.history.now in
-    let w = c.before.before.before.before.before.before.before.before.write-record in
-    let h = c.before.before.before.splice-in in
+    let w = c.write_record in
+    let h = c.splice_in in
     rw c.shrunk.ensures
     (squeezed-so s a.work.now a.fold p.0
     (omega (
       arith,
-      c.before.before.before.before.before.before.before.before.before.before.before.before.before.if1.false,
+      c.if-old-size.false,
     ))
     (omega (
       arith,
-      c.before.before.before.before.before.before.before.before.before.before.before.before.if2.false,
+      c.if-work-size.false,
     ))
-    p.2 p.3 p.4 w.new.0 h.new.0 w.ensures h.ensures.1)
+    p.2 p.3 p.4 w.new.work h.new.buffer w.ensures h.ensures.1)
 
-pub squeeze-to-spec : {M : Type 1} → statement M
-squeeze-to-spec =
+pub squeeze_to_spec : {M : Type 1} → statement M
+squeeze_to_spec =
     tie.close
     (tie.spec
     add-size

@@ -19,5 +19,5 @@ tests = refl
 returns : tie.Need-returns
 returns c = sym (same-eq _ _ (below (λ k. same (tested k) (direct k)) 256 tests c.args.b (search rules)))
 
-pub is-direct-byte-spec : {M : Type 1} → statement M
-is-direct-byte-spec = tie.close (tie.spec returns)
+pub is_direct_byte_spec : {M : Type 1} → statement M
+is_direct_byte_spec = tie.close (tie.spec returns)

@@ -9,62 +9,62 @@ use borrow.Author.Rules.{rules}
 use Rattle.utf7.proofs.is_header.Statement.{statement}
 use Rattle.utf7.proofs.is_header.Tie as tie
 
-returns : tie.Need-returns
+returns : tie.Need-returns-then-u-gt122
 unfolding own direct set_d set_o alphanumeric all_below
-returns c = own-past Header 123 5 refl (omega arith) c.before.args.u c.if1.true
+returns c = own-past Header 123 5 refl (omega arith) c.args.u c.if-u-gt122.true
 
-returns-2 : tie.Need-returns-2
+returns-2 : tie.Need-returns-then-u-gt96
 unfolding own direct set_d set_o alphanumeric all_below
-returns-2 c = own_range Header true 97 26 refl c.before.before.args.u c.if2.true (omega arith)
+returns-2 c = own_range Header true 97 26 refl c.args.u c.if-u-gt96.true (omega arith)
 
-returns-3 : tie.Need-returns-3
+returns-3 : tie.Need-returns-then-u-gt90
 unfolding own direct set_d set_o alphanumeric all_below
-returns-3 c = own_range Header false 91 6 refl c.before.before.before.args.u c.if3.true (omega arith)
+returns-3 c = own_range Header false 91 6 refl c.args.u c.if-u-gt90.true (omega arith)
 
-returns-4 : tie.Need-returns-4
+returns-4 : tie.Need-returns-then-u-gt64
 unfolding own direct set_d set_o alphanumeric all_below
-returns-4 c = own_range Header true 65 26 refl c.before.before.before.before.args.u c.if4.true (omega arith)
+returns-4 c = own_range Header true 65 26 refl c.args.u c.if-u-gt64.true (omega arith)
 
-returns-5 : tie.Need-returns-5
+returns-5 : tie.Need-returns-then-u-gt63
 unfolding own direct set_d set_o alphanumeric all_below
-returns-5 c = own_range Header false 64 1 refl c.before.before.before.before.before.args.u c.if5.true (omega arith)
+returns-5 c = own_range Header false 64 1 refl c.args.u c.if-u-gt63.true (omega arith)
 
-returns-6 : tie.Need-returns-6
+returns-6 : tie.Need-returns-then-u-gt62
 unfolding own direct set_d set_o alphanumeric all_below
-returns-6 c = own_range Header true 63 1 refl c.before.before.before.before.before.before.args.u c.if6.true (omega arith)
+returns-6 c = own_range Header true 63 1 refl c.args.u c.if-u-gt62.true (omega arith)
 
-returns-7 : tie.Need-returns-7
+returns-7 : tie.Need-returns-then-u-gt58
 unfolding own direct set_d set_o alphanumeric all_below
-returns-7 c = own_range Header false 59 4 refl c.before.before.before.before.before.before.before.args.u c.if7.true (omega arith)
+returns-7 c = own_range Header false 59 4 refl c.args.u c.if-u-gt58.true (omega arith)
 
-returns-8 : tie.Need-returns-8
+returns-8 : tie.Need-returns-then-u-gt43
 unfolding own direct set_d set_o alphanumeric all_below
-returns-8 c = own_range Header true 44 15 refl c.before.before.before.before.before.before.before.before.args.u c.if8.true (omega arith)
+returns-8 c = own_range Header true 44 15 refl c.args.u c.if-u-gt43.true (omega arith)
 
-returns-9 : tie.Need-returns-9
+returns-9 : tie.Need-returns-then-u-gt41
 unfolding own direct set_d set_o alphanumeric all_below
-returns-9 c = own_range Header false 42 2 refl c.before.before.before.before.before.before.before.before.before.args.u c.if9.true (omega arith)
+returns-9 c = own_range Header false 42 2 refl c.args.u c.if-u-gt41.true (omega arith)
 
-returns-10 : tie.Need-returns-10
+returns-10 : tie.Need-returns-then-u-gt38
 unfolding own direct set_d set_o alphanumeric all_below
-returns-10 c = own_range Header true 39 3 refl c.before.before.before.before.before.before.before.before.before.before.args.u c.if10.true (omega arith)
+returns-10 c = own_range Header true 39 3 refl c.args.u c.if-u-gt38.true (omega arith)
 
-returns-11 : tie.Need-returns-11
+returns-11 : tie.Need-returns-then-u-gt32
 unfolding own direct set_d set_o alphanumeric all_below
-returns-11 c = own_range Header false 33 6 refl c.before.before.before.before.before.before.before.before.before.before.before.args.u c.if11.true (omega arith)
+returns-11 c = own_range Header false 33 6 refl c.args.u c.if-u-gt32.true (omega arith)
 
-returns-12 : tie.Need-returns-12
+returns-12 : tie.Need-returns-then-u-gt31
 unfolding own direct set_d set_o alphanumeric all_below
-returns-12 c = own_range Header true 32 1 refl c.before.before.before.before.before.before.before.before.before.before.before.before.args.u c.if12.true (omega arith)
+returns-12 c = own_range Header true 32 1 refl c.args.u c.if-u-gt31.true (omega arith)
 
-is-line-blank-requires : tie.Need-is-line-blank-requires
+is-line-blank-requires : tie.Need-is_line_blank-requires
 is-line-blank-requires c κs = search rules
 
-returns-13 : tie.Need-returns-13
-returns-13 c = c.is-line-blank.ensures ∙ sym (own-low Header tt c.before.before.before.before.before.before.before.before.before.before.before.before.before.args.u (omega arith))
+returns-13 : tie.Need-returns
+returns-13 c = c.is_line_blank.ensures ∙ sym (own-low Header tt c.args.u (omega arith))
 
-pub is-header-spec : {M : Type 1} → statement M
-is-header-spec =
+pub is_header_spec : {M : Type 1} → statement M
+is_header_spec =
     tie.close
     (tie.spec
     returns

@@ -5,23 +5,23 @@ use Rattle.utf7.specs.Rule.{end_does}
 use Rattle.utf7_read.proofs.close.Statement.{statement}
 use Rattle.utf7_read.proofs.close.Tie as tie
 
-may-end-requires : tie.Need-may-end-requires
+may-end-requires : tie.Need-may_end-requires
 may-end-requires c κs = search rules
 
-returns : tie.Need-returns
+returns : tie.Need-returns-then-b-eq45
 unfolding end_does
-returns c = record { so = simp (sym c.before.before.may-end.ensures ∙ c.before.if1.true, eq-eqb _ _ c.if2.true); settled = tt }
+returns c = record { so = simp (sym c.may_end.ensures ∙ c.if-may_end.true, eq-eqb _ _ c.if-b-eq45.true); settled = tt }
 
 outside-requires : tie.Need-outside-requires
 outside-requires c κs = search rules
 
-returns-2 : tie.Need-returns-2
+returns-2 : tie.Need-returns-then-may_end
 unfolding end_does
-returns-2 c = simp (sym c.before.before.before.may-end.ensures ∙ c.before.before.if1.true, ne_eqb _ _ c.before.if2.false) c.outside.ensures
+returns-2 c = simp (sym c.may_end.ensures ∙ c.if-may_end.true, ne_eqb _ _ c.if-b-eq45.false) c.outside.ensures
 
-returns-3 : tie.Need-returns-3
+returns-3 : tie.Need-returns
 unfolding end_does
-returns-3 c = record { so = simp (sym c.before.may-end.ensures ∙ c.if1.false); settled = tt }
+returns-3 c = record { so = simp (sym c.may_end.ensures ∙ c.if-may_end.false); settled = tt }
 
 pub close_spec : {M : Type 1} → statement M
 close_spec = tie.close (tie.spec may-end-requires returns outside-requires returns-2 returns-3)

@@ -9,7 +9,7 @@ finish-requires : tie.Need-finish-requires
 finish-requires c κs = c.settled.ensures.0
 
 returns : tie.Need-returns
-returns c = rw (← c.before.settled.ensures.1) c.finish.ensures
+returns c = rw (← c.settled.ensures.1) c.finish.ensures
 
-pub ends-in-spec : {M : Type 1} → statement M
-ends-in-spec = tie.close (tie.spec settled-requires finish-requires returns)
+pub ends_in_spec : {M : Type 1} → statement M
+ends_in_spec = tie.close (tie.spec settled-requires finish-requires returns)

@@ -16,16 +16,16 @@ use Rattle.utf7_read.specs.declared.State.TheVariants.{Run}
 use Rattle.utf7_read.proofs.low.Statement.{statement}
 use Rattle.utf7_read.proofs.low.Tie as tie
 
-value-of-requires : tie.Need-value-of-requires
+value-of-requires : tie.Need-value_of-x-requires
 value-of-requires c κs = search rules
 
-enum_told : tie.Need-enum-told
+enum_told : tie.Need-enum_told-1
 enum_told c = search rules
 
 outside-requires : tie.Need-outside-requires
 outside-requires c κs = search rules
 
-enum-told-2 : tie.Need-enum-told-2
+enum-told-2 : tie.Need-enum_told-in-Opening
 enum-told-2 c = search rules
 
 letter-requires : tie.Need-letter-requires
@@ -33,68 +33,68 @@ letter-requires c κs = search rules
 
 -- what a byte of value x does after the '+', and in a run of settled numbers
 opened :
-    (c : tie.After-enum-told2) →
-    let a = c.before.before.before.args in
-    let x = c.before.before.value_of_lem.result in
+    (c : tie.In-Opening) →
+    let a = c.args in
+    let x = c.value_of-x.result in
     low_does (shift_of a.st) a.b ≡ cond (ltb x 64) (unit_does (bits 6 x)) (cond (eqb a.b 45) (give 43 outside) (bad 2))
 unfolding low_does set_b
-opened c = rw (c.enum-told2.given.1, c.before.before.value_of_lem.ensures)
+opened c = rw (c.in-Opening.is, c.value_of-x.ensures)
 
-running : (c : tie.After-st) → Settled (Run c.st.given.0.0 c.st.given.0.1.0)
-running c = rw c.st.given.1 at c.before.before.before.requires.1
+running : (c : tie.In-Run) → Settled (Run c.in-Run.n c.in-Run.v)
+running c = rw c.in-Run.is at c.requires.1
 
 in-run :
-    (c : tie.After-st) →
-    let a = c.before.before.before.args in
-    let x = c.before.before.value_of_lem.result in
-    let n = c.st.given.0.0 in
-    let v = c.st.given.0.1.0 in
+    (c : tie.In-Run) →
+    let a = c.args in
+    let x = c.value_of-x.result in
+    let n = c.in-Run.n in
+    let v = c.in-Run.v in
     low_does (shift_of a.st) a.b ≡ cond (ltb x 64) (unit_does (bits n v ++ bits 6 x)) (end_does (may_end (bits n v)) a.b)
 unfolding low_does set_b
 in-run c =
     let h = running c in
-    simp (c.st.given.1, mod-eq_of_lt h.0, c.before.before.value_of_lem.ensures)
+    simp (c.in-Run.is, mod-eq_of_lt h.0, c.value_of-x.ensures)
 
-returns : tie.Need-returns
+returns : tie.Need-returns-then-x-lt64
 unfolding bits
-returns c = simp (opened c.before.before, lt-ltb _ _ c.before.if1.true) c.letter.ensures
+returns c = simp (opened c.before.before, lt-ltb _ _ c.if-x-lt64.true) c.letter.ensures
 
-returns-2 : tie.Need-returns-2
+returns-2 : tie.Need-returns-then-b-eq45
 returns-2 c =
-    record { so = simp (opened c.before.before, le-ltb _ _ c.before.if1.false, eq-eqb _ _ c.if2.true); settled = tt }
+    record { so = simp (opened c.before.before, le-ltb _ _ c.if-x-lt64.false, eq-eqb _ _ c.if-b-eq45.true); settled = tt }
 
-enum-known-st : tie.Need-enum-known-st
+enum-known-st : tie.Need-enum_known-st
 enum-known-st c = search rules
 
 close-requires : tie.Need-close-requires
-close-requires c κs = (search rules, (running c.before.before).1)
+close-requires c κs = (search rules, (running c.before).1)
 
 -- only a byte that is no letter ends a run
-returns-3 : tie.Need-returns-3
+returns-3 : tie.Need-returns-then-x-gt63
 returns-3 c =
-    let r = c.before.before.before in
-    let past : 64 ≤ r.before.before.value_of_lem.result = omega (arith, c.before.if3.true) in
+    let r = c.before.before in
+    let past : 64 ≤ r.value_of-x.result = omega (arith, c.if-x-gt63.true) in
     simp (in-run r, le-ltb _ _ past) c.close.ensures
 
-letter-requires-2 : tie.Need-letter-requires-2
-letter-requires-2 c κs = let h = running c.before.before in (h.0, h.1, search rules)
+letter-requires-2 : tie.Need-letter-requires-in-Run
+letter-requires-2 c κs = let h = running c.before in (h.0, h.1, search rules)
 
-returns-4 : tie.Need-returns-4
+returns-4 : tie.Need-returns-in-Outside
 unfolding low_does
-returns-4 c = simp c.before.enum_told.given.1 c.outside.ensures
+returns-4 c = simp c.in-Outside.is c.outside.ensures
 
-returns-5 : tie.Need-returns-5
+returns-5 : tie.Need-returns-else-b-eq45
 returns-5 c =
-    record { so = simp (opened c.before.before, le-ltb _ _ c.before.if1.false, ne_eqb _ _ c.if2.false); settled = tt }
+    record { so = simp (opened c.before.before, le-ltb _ _ c.if-x-lt64.false, ne_eqb _ _ c.if-b-eq45.false); settled = tt }
 
-returns-6 : tie.Need-returns-6
+returns-6 : tie.Need-returns-else-x-gt63
 returns-6 c =
-    let r = c.before.before.before in
-    let letter : r.before.before.value_of_lem.result < 64 = omega (arith, c.before.if3.false) in
-    simp (in-run r, lt-ltb _ _ letter) c.letter2.ensures
+    let r = c.before.before in
+    let letter : r.value_of-x.result < 64 = omega (arith, c.if-x-gt63.false) in
+    simp (in-run r, lt-ltb _ _ letter) c.letter-in-Run.ensures
 
-pub low-spec : {M : Type 1} → statement M
-low-spec =
+pub low_spec : {M : Type 1} → statement M
+low_spec =
     tie.close
     (tie.spec
     value-of-requires

@@ -4,11 +4,11 @@ use Rattle.utf7_read.proofs.Moves.{may-end}
 use Rattle.utf7_read.proofs.may_end.Statement.{statement}
 use Rattle.utf7_read.proofs.may_end.Tie as tie
 
-returns : tie.Need-returns
-returns c = rw (may-end _ _ c.before.requires, ne_eqb _ _ c.if1.true)
+returns : tie.Need-returns-then-v-ne0
+returns c = rw (may-end _ _ c.requires, ne_eqb _ _ c.if-v-ne0.true)
 
-returns-2 : tie.Need-returns-2
-returns-2 c = rw (may-end _ _ c.before.requires, eq-eqb _ _ c.if1.false)
+returns-2 : tie.Need-returns
+returns-2 c = rw (may-end _ _ c.requires, eq-eqb _ _ c.if-v-ne0.false)
 
-pub may-end-spec : {M : Type 1} → statement M
-may-end-spec = tie.close (tie.spec returns returns-2)
+pub may_end_spec : {M : Type 1} → statement M
+may_end_spec = tie.close (tie.spec returns returns-2)

@@ -9,57 +9,57 @@ use Rattle.answer.proofs.Put.{Put, put-start, put_as, put-lt, put_next, put-done
 use Rattle.utf7_whole.proofs.copy.Statement.{statement}
 use Rattle.utf7_whole.proofs.copy.Tie as tie
 
-abbrev invariant-loop : tie.invariant-loop
+abbrev invariant-loop : tie.invariant-loop-k
 invariant-loop cells n out₀ k₀ out k = (k ≤ n) × Put (take n cells) out₀ out k (drop k (take n cells))
 
-abbrev decreases-loop : tie.decreases-loop
+abbrev decreases-loop : tie.decreases-loop-k
 decreases-loop cells n out₀ k₀ out k = n - k
 
-loop-holds : tie.Need-loop-init invariant-loop decreases-loop
+loop-holds : tie.Need-loop-k-init invariant-loop decreases-loop
 loop-holds c = (omega arith, put-start _ _ (rw (length-take-le _ _ c.requires.0) c.requires.1))
 
-mul-out : tie.Need-overflow-mul-out invariant-loop decreases-loop
+mul-out : tie.Need-offset_bounds-cells-k invariant-loop decreases-loop
 mul-out c = search rules
 
-shared-slice-read-out : tie.Need-shared-slice-read-out invariant-loop decreases-loop
+shared-slice-read-out : tie.Need-bounds-cells-k invariant-loop decreases-loop
 shared-slice-read-out c = search rules
 
-mul-out-2 : tie.Need-overflow-mul-out-2 invariant-loop decreases-loop
+mul-out-2 : tie.Need-offset_bounds-out-k invariant-loop decreases-loop
 mul-out-2 c = search rules
 
 -- the next cell
 next :
-    (c : tie.In-loop invariant-loop decreases-loop) →
+    (c : tie.In-loop-k invariant-loop decreases-loop) →
     let l = c.before in
-    let a = l.before.args in
-    Put (take a.n a.cells.now) a.out.now l.loop.out l.loop.k (get_or a.cells.now l.loop.k 0 ∷ drop (l.loop.k + 1) (take a.n a.cells.now))
+    let a = l.args in
+    Put (take a.n a.cells.now) a.out.now l.loop-k.out l.loop-k.k (get_or a.cells.now l.loop-k.k 0 ∷ drop (l.loop-k.k + 1) (take a.n a.cells.now))
 next c =
-    let l = c.before in
-    let a = l.before.args in
-    let h = length-take-le a.n a.cells.now l.before.requires.0 in
+    let l = c in
+    let a = l.args in
+    let h = length-take-le a.n a.cells.now l.requires.0 in
     put_as
-    (rw (drop-cons (take a.n a.cells.now) l.loop.k 0 (omega (arith, h, c.loop-test.true)), get_or-take a.n a.cells.now l.loop.k 0 c.loop-test.true, add-one))
-    l.loop.invariant.1
+    (rw (drop-cons (take a.n a.cells.now) l.loop-k.k 0 (omega (arith, h, c.loop-k-test.true)), get_or-take a.n a.cells.now l.loop-k.k 0 c.loop-k-test.true, add-one))
+    l.loop-k.invariant.1
 
-slice-write-out : tie.Need-slice-write-out invariant-loop decreases-loop
+slice-write-out : tie.Need-bounds-out-k invariant-loop decreases-loop
 slice-write-out c = put-lt (next c.before)
 
-add-k : tie.Need-overflow-add-k invariant-loop decreases-loop
+add-k : tie.Need-overflow_add-k invariant-loop decreases-loop
 add-k c = search rules
 
-loop-less : tie.Need-loop-smaller invariant-loop decreases-loop
+loop-less : tie.Need-loop-k-smaller invariant-loop decreases-loop
 loop-less c = search rules
 
-loop-again : tie.Need-loop-preserved invariant-loop decreases-loop
+loop-again : tie.Need-loop-k-preserved invariant-loop decreases-loop
 loop-again c = (omega arith, put_next (next c.before))
 
-same_length : tie.Need-same-length invariant-loop decreases-loop
-same_length c = c.before.loop.invariant.1.same
+same_length : tie.Need-shape_of-out invariant-loop decreases-loop
+same_length c = c.loop-k.invariant.1.same
 
 returns : tie.Need-returns invariant-loop decreases-loop
-returns c = let s = c.before.before in
+returns c = let s = c in
     let h = length-take-le s.args.n s.args.cells.now s.requires.0 in
-    put-done (put_as (drop_of_length-le _ {i = c.before.loop.k} (omega (arith, h, c.loop-test.false))) c.before.loop.invariant.1)
+    put-done (put_as (drop_of_length-le _ {i = c.loop-k.k} (omega (arith, h, c.loop-k-test.false))) c.loop-k.invariant.1)
 
 pub copy_spec : {M : Type 1} → statement M
 copy_spec =

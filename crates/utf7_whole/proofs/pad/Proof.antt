@@ -7,38 +7,38 @@ use Rattle.utf7_whole.proofs.Buffers.{Padding, padding-start, padding-more, padd
 use Rattle.utf7_whole.proofs.pad.Statement.{statement}
 use Rattle.utf7_whole.proofs.pad.Tie as tie
 
-abbrev invariant-loop : tie.invariant-loop
+abbrev invariant-loop : tie.invariant-loop-k
 invariant-loop text room₀ k₀ room k = (k ≤ length text) × (length room ≡ length room₀) × Padding text k room
 
-abbrev decreases-loop : tie.decreases-loop
+abbrev decreases-loop : tie.decreases-loop-k
 decreases-loop text room₀ k₀ room k = length text - k
 
-loop-holds : tie.Need-loop-init invariant-loop decreases-loop
+loop-holds : tie.Need-loop-k-init invariant-loop decreases-loop
 loop-holds c = (omega arith, refl, padding-start _ _ c.requires.1)
 
-shared-slice-read-room : tie.Need-shared-slice-read-room invariant-loop decreases-loop
+shared-slice-read-room : tie.Need-bounds-text-k invariant-loop decreases-loop
 shared-slice-read-room c = search rules
 
-slice-write-room : tie.Need-slice-write-room invariant-loop decreases-loop
+slice-write-room : tie.Need-bounds-room-k invariant-loop decreases-loop
 slice-write-room c = search rules
 
-add-k : tie.Need-overflow-add-k invariant-loop decreases-loop
+add-k : tie.Need-overflow_add-k invariant-loop decreases-loop
 add-k c = search rules
 
-loop-less : tie.Need-loop-smaller invariant-loop decreases-loop
+loop-less : tie.Need-loop-k-smaller invariant-loop decreases-loop
 loop-less c = search rules
 
-loop-again : tie.Need-loop-preserved invariant-loop decreases-loop
-loop-again c = let l = c.before.before in
-    let h : l.loop.k < length l.loop.room = omega (arith, l.loop.invariant.1, c.before.loop-test.true, l.before.requires.0) in
-    (omega arith, simp length-set l.loop.invariant.1, padding-more l.loop.invariant.2 h)
+loop-again : tie.Need-loop-k-preserved invariant-loop decreases-loop
+loop-again c = let l = c in
+    let h : l.loop-k.k < length l.loop-k.room = omega (arith, l.loop-k.invariant.1, c.loop-k-test.true, l.requires.0) in
+    (omega arith, simp length-set l.loop-k.invariant.1, padding-more l.loop-k.invariant.2 h)
 
-same_length : tie.Need-same-length invariant-loop decreases-loop
-same_length c = c.before.loop.invariant.1
+same_length : tie.Need-shape_of-room invariant-loop decreases-loop
+same_length c = c.loop-k.invariant.1
 
 returns : tie.Need-returns invariant-loop decreases-loop
-returns c = padding-done c.before.loop.invariant.2 (omega (arith, c.before.loop.invariant.0, c.loop-test.false))
+returns c = padding-done c.loop-k.invariant.2 (omega (arith, c.loop-k.invariant.0, c.loop-k-test.false))
 
-pub pad-spec : {M : Type 1} → statement M
-pad-spec =
+pub pad_spec : {M : Type 1} → statement M
+pad_spec =
     tie.close (tie.spec invariant-loop decreases-loop loop-holds shared-slice-read-room slice-write-room add-k loop-less loop-again same_length returns)

@@ -9,61 +9,61 @@ use Rattle.utf7.proofs.Kept.{utf7-kept}
 use Rattle.utf7_whole.proofs.read.Statement.{statement}
 use Rattle.utf7_whole.proofs.read.Tie as tie
 
-over-limit-requires : tie.Need-over-limit-requires
+over-limit-requires : tie.Need-over_limit-requires
 over-limit-requires c κs = search rules
 
-too-long-requires : tie.Need-too-long-requires
+too-long-requires : tie.Need-too_long-requires
 too-long-requires c κs = search rules
 
-returns : tie.Need-returns
-returns c = into-long utf7-kept _ _ c.too_long.result (sym c.before.before.over-limit.ensures ∙ c.before.if1.true) c.too_long.ensures
+returns : tie.Need-returns-then-over_limit
+returns c = into-long utf7-kept _ _ c.too_long.result (sym c.over_limit.ensures ∙ c.if-over_limit.true) c.too_long.ensures
 
-within : (c : tie.Else1) → length c.before.before.before.before.args.text.now ≤ limit
-within c = ltb-false limit _ (sym c.before.over-limit.ensures ∙ c.if1.false)
+within : (c : tie.Else-over_limit) → length c.args.text.now ≤ limit
+within c = ltb-false limit _ (sym c.over_limit.ensures ∙ c.if-over_limit.false)
 
-through-64-requires : tie.Need-through-64-requires
+through-64-requires : tie.Need-through_64-requires
 through-64-requires c κs = search rules
 
-same_length : tie.Need-same-length
+same_length : tie.Need-shape_of-out-then-text-le64
 same_length c = search rules
 
-returns-2 : tie.Need-returns-2
+returns-2 : tie.Need-returns-then-text-le64
 returns-2 c = search rules
 
-through-256-requires : tie.Need-through-256-requires
+through-256-requires : tie.Need-through_256-requires
 through-256-requires c κs = search rules
 
-same-length-2 : tie.Need-same-length-2
+same-length-2 : tie.Need-shape_of-out-then-text-le256
 same-length-2 c = search rules
 
-returns-3 : tie.Need-returns-3
+returns-3 : tie.Need-returns-then-text-le256
 returns-3 c = search rules
 
-through-1024-requires : tie.Need-through-1024-requires
+through-1024-requires : tie.Need-through_1024-requires
 through-1024-requires c κs = search rules
 
-same-length-3 : tie.Need-same-length-3
+same-length-3 : tie.Need-shape_of-out-then-text-le1024
 same-length-3 c = search rules
 
-returns-4 : tie.Need-returns-4
+returns-4 : tie.Need-returns-then-text-le1024
 returns-4 c = search rules
 
-through-4096-requires : tie.Need-through-4096-requires
+through-4096-requires : tie.Need-through_4096-requires
 through-4096-requires c κs = search rules
 
-same-length-4 : tie.Need-same-length-4
+same-length-4 : tie.Need-shape_of-out-then-text-le4096
 same-length-4 c = search rules
 
-returns-5 : tie.Need-returns-5
+returns-5 : tie.Need-returns-then-text-le4096
 returns-5 c = search rules
 
 straight-requires : tie.Need-straight-requires
 straight-requires c κs = within c.before.before.before.before.before
 
-same-length-5 : tie.Need-same-length-5
+same-length-5 : tie.Need-shape_of-out
 same-length-5 c = search rules
 
-returns-6 : tie.Need-returns-6
+returns-6 : tie.Need-returns
 returns-6 c = search rules
 
 pub read_spec : {M : Type 1} → statement M

@@ -2,17 +2,17 @@ use borrow.Author.Rules.{rules}
 use Rattle.utf7_whole.proofs.reads_as.Statement.{statement}
 use Rattle.utf7_whole.proofs.reads_as.Tie as tie
 
-compare-requires : tie.Need-compare-requires
+compare-requires : tie.Need-compare-found-requires
 compare-requires c κs = search rules
 
-rest-reads-as-requires : tie.Need-rest-reads-as-requires
-rest-reads-as-requires c κs = c.before.compare.ensures.agrees c.if1.true
+rest-reads-as-requires : tie.Need-rest_reads_as-requires
+rest-reads-as-requires c κs = c.compare-found.ensures.agrees c.if-found.true
 
-returns : tie.Need-returns
+returns : tie.Need-returns-then-found
 returns c = search rules
 
-returns-2 : tie.Need-returns-2
-returns-2 c = c.before.compare.ensures.differs c.if1.false
+returns-2 : tie.Need-returns
+returns-2 c = c.compare-found.ensures.differs c.if-found.false
 
-pub reads-as-spec : {M : Type 1} → statement M
-reads-as-spec = tie.close (tie.spec compare-requires rest-reads-as-requires returns returns-2)
+pub reads_as_spec : {M : Type 1} → statement M
+reads_as_spec = tie.close (tie.spec compare-requires rest-reads-as-requires returns returns-2)

@@ -10,105 +10,105 @@ use Rattle.utf7_read.proofs.Moves.{byte-moved}
 use Rattle.utf7_whole.proofs.rest_reads_as.Statement.{statement}
 use Rattle.utf7_whole.proofs.rest_reads_as.Tie as tie
 
-abbrev invariant-loop : tie.invariant-loop
+abbrev invariant-loop : tie.invariant-loop-at
 invariant-loop text cells from before at₀ n₀ st₀ at n st = Matching utf7 text cells at (shift_of st) n
 
-abbrev decreases-loop : tie.decreases-loop
+abbrev decreases-loop : tie.decreases-loop-at
 decreases-loop text cells from before at₀ n₀ st₀ at n st = length text - at
 
-loop-holds : tie.Need-loop-init invariant-loop decreases-loop
-loop-holds c = let g = c.before.before.requires in record { few = g.few; inside = g.inside; so = g.so }
+loop-holds : tie.Need-loop-at-init invariant-loop decreases-loop
+loop-holds c = let g = c.requires in record { few = g.few; inside = g.inside; so = g.so }
 
-shared-slice-read-byte-does : tie.Need-shared-slice-read-byte-does invariant-loop decreases-loop
+shared-slice-read-byte-does : tie.Need-bounds-text-at invariant-loop decreases-loop
 shared-slice-read-byte-does c = search rules
 
-byte-does-requires : tie.Need-byte-does-requires invariant-loop decreases-loop
+byte-does-requires : tie.Need-byte_does-requires invariant-loop decreases-loop
 byte-does-requires c κs = search rules
 
-enum-known-value : tie.Need-enum-known-value invariant-loop decreases-loop
+enum-known-value : tie.Need-enum_known-value invariant-loop decreases-loop
 enum-known-value c = search rules
 
-returns : tie.Need-returns invariant-loop decreases-loop
+returns : tie.Need-returns-then-cells-n invariant-loop decreases-loop
 returns c =
-    let v = c.before.before in
-    let f = v.before.before in
-    let i = f.before.before in
-    matching-past i.before.loop.invariant i.loop-test.true (byte-moved _ _ f.byte-does.ensures v.value.given.1) c.if1.true
+    let v = c in
+    let f = v in
+    let i = f in
+    matching-past i.loop-at.invariant i.loop-at-test.true (byte-moved _ _ f.byte_does.ensures v.in-Give.is) c.if-cells-n.true
 
-mul-if2 : tie.Need-overflow-mul-if2 invariant-loop decreases-loop
+mul-if2 : tie.Need-offset_bounds-cells-n invariant-loop decreases-loop
 mul-if2 c = search rules
 
-shared-slice-read-if2 : tie.Need-shared-slice-read-if2 invariant-loop decreases-loop
+shared-slice-read-if2 : tie.Need-bounds-cells-n invariant-loop decreases-loop
 shared-slice-read-if2 c = search rules
 
-returns-2 : tie.Need-returns-2 invariant-loop decreases-loop
+returns-2 : tie.Need-returns-then-cells-n-2 invariant-loop decreases-loop
 returns-2 c =
-    let v = c.before.before.before.before in
-    let f = v.before.before in
-    let i = f.before.before in
-    matching-other i.before.loop.invariant i.loop-test.true (byte-moved _ _ f.byte-does.ensures v.value.given.1) (omega (arith, c.before.before.if1.false)) c.if2.true
+    let v = c in
+    let f = v in
+    let i = f in
+    matching-other i.loop-at.invariant i.loop-at-test.true (byte-moved _ _ f.byte_does.ensures v.in-Give.is) (omega (arith, c.if-cells-n.false)) c.if-cells-n-2.true
 
-add-n : tie.Need-overflow-add-n invariant-loop decreases-loop
+add-n : tie.Need-overflow_add-n invariant-loop decreases-loop
 add-n c = search rules
 
-add_at : tie.Need-overflow-add-at invariant-loop decreases-loop
+add_at : tie.Need-overflow_add-at invariant-loop decreases-loop
 add_at c = search rules
 
-loop-less : tie.Need-loop-smaller invariant-loop decreases-loop
+loop-less : tie.Need-loop-at-smaller-in-Give invariant-loop decreases-loop
 loop-less c = search rules
 
-loop-again : tie.Need-loop-preserved invariant-loop decreases-loop
+loop-again : tie.Need-loop-at-preserved-in-Give invariant-loop decreases-loop
 loop-again c =
-    let v = c.before.before.before.before in
-    let f = v.before.before in
-    let i = f.before.before in
-    matching-give i.before.loop.invariant i.loop-test.true (byte-moved _ _ f.byte-does.ensures v.value.given.1) (omega (arith, c.before.before.if1.false)) c.if2.false
+    let v = c in
+    let f = v in
+    let i = f in
+    matching-give i.loop-at.invariant i.loop-at-test.true (byte-moved _ _ f.byte_does.ensures v.in-Give.is) (omega (arith, c.if-cells-n.false)) c.if-cells-n-2.false
 
-enum-known-state : tie.Need-enum-known-state invariant-loop decreases-loop
+enum-known-state : tie.Need-enum_known-state invariant-loop decreases-loop
 enum-known-state c = search rules
 
-add-at-2 : tie.Need-overflow-add-at-2 invariant-loop decreases-loop
+add-at-2 : tie.Need-overflow_add-at-in-Go invariant-loop decreases-loop
 add-at-2 c = search rules
 
-loop-less-2 : tie.Need-loop-smaller-2 invariant-loop decreases-loop
+loop-less-2 : tie.Need-loop-at-smaller invariant-loop decreases-loop
 loop-less-2 c = search rules
 
-loop-again-2 : tie.Need-loop-preserved-2 invariant-loop decreases-loop
+loop-again-2 : tie.Need-loop-at-preserved invariant-loop decreases-loop
 loop-again-2 c =
-    let f = c.before.before.before in
-    let i = f.before.before in
-    matching-go i.before.loop.invariant i.loop-test.true (byte-moved _ _ f.byte-does.ensures c.before.state.given.1)
+    let f = c in
+    let i = f in
+    matching-go i.loop-at.invariant i.loop-at-test.true (byte-moved _ _ f.byte_does.ensures c.in-Go.is)
 
-enum_told : tie.Need-enum-told invariant-loop decreases-loop
+enum_told : tie.Need-enum_told-1 invariant-loop decreases-loop
 enum_told c = search rules
 
-returns-3 : tie.Need-returns-3 invariant-loop decreases-loop
+returns-3 : tie.Need-returns-in-Bad invariant-loop decreases-loop
 returns-3 c =
-    let f = c.before.before in
-    let i = f.before.before in
-    matching-bad i.before.loop.invariant i.loop-test.true (byte-moved _ _ f.byte-does.ensures c.enum_told.given.1)
+    let f = c in
+    let i = f in
+    matching-bad i.loop-at.invariant i.loop-at-test.true (byte-moved _ _ f.byte_does.ensures c.in-Bad.is)
 
-ends-in-requires : tie.Need-ends-in-requires invariant-loop decreases-loop
+ends-in-requires : tie.Need-ends_in-requires invariant-loop decreases-loop
 ends-in-requires c κs = search rules
 
-enum-told-2 : tie.Need-enum-told-2 invariant-loop decreases-loop
+enum-told-2 : tie.Need-enum_told-in-Accepted invariant-loop decreases-loop
 enum-told-2 c = search rules
 
-enum-told-3 : tie.Need-enum-told-3 invariant-loop decreases-loop
+enum-told-3 : tie.Need-enum_told-in-Refused invariant-loop decreases-loop
 enum-told-3 c = search rules
 
-returns-4 : tie.Need-returns-4 invariant-loop decreases-loop
+returns-4 : tie.Need-returns-in-Accepted invariant-loop decreases-loop
 returns-4 c =
-    let f = c.before.before in
-    matching-accepted f.before.before.loop.invariant f.before.loop-test.false _ (ends-sound _ _) f.ends-in.ensures c.enum-told2.given.1
+    let f = c in
+    matching-accepted f.loop-at.invariant f.loop-at-test.false _ (ends-sound _ _) f.ends_in.ensures c.in-Accepted.is
 
-returns-5 : tie.Need-returns-5 invariant-loop decreases-loop
+returns-5 : tie.Need-returns-in-Refused invariant-loop decreases-loop
 returns-5 c =
-    let f = c.before.before in
-    matching-refused f.before.before.loop.invariant f.before.loop-test.false _ f.ends-in.ensures c.enum-told3.given.1
+    let f = c in
+    matching-refused f.loop-at.invariant f.loop-at-test.false _ f.ends_in.ensures c.in-Refused.is
 
-pub rest-reads-as-spec : {M : Type 1} → statement M
-rest-reads-as-spec =
+pub rest_reads_as_spec : {M : Type 1} → statement M
+rest_reads_as_spec =
     tie.close
     (tie.spec
     invariant-loop

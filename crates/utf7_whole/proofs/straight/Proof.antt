@@ -17,63 +17,63 @@ use Rattle.utf7_whole.proofs.Buffers.{padded-self, all-front}
 use Rattle.utf7_whole.proofs.straight.Statement.{statement}
 use Rattle.utf7_whole.proofs.straight.Tie as tie
 
-judge-requires : tie.Need-judge-requires
+judge-requires : tie.Need-judge-found-requires
 judge-requires c κs = search rules
 
-within : (c : tie.After-judge) → ltb limit (length c.before.before.before.args.text.now) ≡ false
-within c = le-ltb limit _ c.before.before.before.requires
+within : (c : tie.After-judge-found) → ltb limit (length c.args.text.now) ≡ false
+within c = le-ltb limit _ c.requires
 
-enum_told : tie.Need-enum-told
+enum_told : tie.Need-enum_told-1
 enum_told c = search rules
 
-returns : tie.Need-returns
+returns : tie.Need-returns-in-Refused
 returns c =
-    let j = c.before.before in
-    into-refused utf7-kept _ _ (within j) j.judge.ensures c.enum_told.given.1
+    let j = c.before in
+    into-refused utf7-kept _ _ (within j) j.judge-found.ensures c.in-Refused.is
 
-enum-known-found : tie.Need-enum-known-found
+enum-known-found : tie.Need-enum_known-found
 enum-known-found c = search rules
 
-returns-2 : tie.Need-returns-2
+returns-2 : tie.Need-returns-then-out-count
 returns-2 c =
-    let f = c.before.before in
+    let f = c in
     let j = f.before.before in
-    into-short utf7-kept _ _ (within j) j.judge.ensures f.found.given.1 c.if1.true
+    into-short utf7-kept _ _ (within j) j.judge-found.ensures f.in-Accepted.is c.if-out-count.true
 
-slice-relend-prefix-decode : tie.Need-slice-relend-prefix-decode
+slice-relend-prefix-decode : tie.Need-slice_bounds-decode-end
 slice-relend-prefix-decode c = search rules
 
 -- as many as the text has cells
-count : (c : tie.After-found) → c.found.given.0.0 ≡ length (reading utf7 c.before.before.before.before.before.args.text.now).cells
-count f = let j = f.before.before in into-count utf7-kept _ [] (within j) j.judge.ensures f.found.given.1
+count : (c : tie.In-Accepted) → c.in-Accepted.count ≡ length (reading utf7 c.args.text.now).cells
+count f = let j = f.before in into-count utf7-kept _ [] (within j) j.judge-found.ensures f.in-Accepted.is
 
 -- and that many are lent
-lent : (c : tie.Else1) → length (take c.before.before.found.given.0.0 c.before.before.before.before.before.before.before.args.out.now) ≡ c.before.before.found.given.0.0
-lent c = length-take-le _ _ c.if1.false
+lent : (c : tie.Else-out-count) → length (take c.in-Accepted.count c.args.out.now) ≡ c.in-Accepted.count
+lent c = length-take-le _ _ c.if-out-count.false
 
-slice-aggregate-decode : tie.Need-slice-aggregate-decode
+slice-aggregate-decode : tie.Need-slice_bounds-decode-end-in-Accepted
 slice-aggregate-decode c = sym (lent c.before)
 
 decode-requires : tie.Need-decode-requires
-decode-requires c κs = (omega (arith, lent c.before, count c.before.before.before), padded-self _)
+decode-requires c κs = (omega (arith, lent c.before, count c.before.before), padded-self _)
 
-same_length : tie.Need-same-length
+same_length : tie.Need-shape_of-out
 same_length c = search rules
 
-returns-3 : tie.Need-returns-3
+returns-3 : tie.Need-returns
 returns-3 c =
-    let d = c.before.before in
-    let e = d.before.before in
-    let f = e.before.before in
-    let j = f.before.before in
-    let a = j.before.before.before.args in
-    let k : d.decode.new.1.1.0 ≡ (reading utf7 a.text.now).cells =
-    all-front (d.decode.auto.1.1.0 ∙ lent e ∙ count f) d.decode.ensures.1 in
-    into-filled utf7-kept _ _ (within j) (ap in_numbers (sym f.found.given.1) ∙ j.judge.ensures) refl e.if1.false
+    let d = c in
+    let e = d.before.before.before.before in
+    let f = e.before in
+    let j = f.before in
+    let a = j.args in
+    let k : d.decode.new.out ≡ (reading utf7 a.text.now).cells =
+    all-front (d.decode.auto.out ∙ lent e ∙ count f) d.decode.ensures.1 in
+    into-filled utf7-kept _ _ (within j) (ap in_numbers (sym f.in-Accepted.is) ∙ j.judge-found.ensures) refl e.if-out-count.false
     (rw (k, count f))
 
-pub straight-spec : {M : Type 1} → statement M
-straight-spec =
+pub straight_spec : {M : Type 1} → statement M
+straight_spec =
     tie.close
     (tie.spec
     judge-requires

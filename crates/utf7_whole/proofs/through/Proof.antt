@@ -17,77 +17,77 @@ use Rattle.utf7_whole.proofs.through.Statement.{statement}
 use Rattle.utf7_whole.proofs.through.Tie as tie
 
 -- what was known at the start, from behind the reading
-abbrev start : tie.After-decode → tie.Start
-start d = d.before.before.before.before.before.before.before.before.before.before.before
+abbrev start : tie.After-decode-found → tie.Start
+start d = d.before.before.before.before.before.before.before.before.before.before
 
 pad-requires : tie.Need-pad-requires
 pad-requires c κs = search rules
 
-decode-requires : tie.Need-decode-requires
-decode-requires c κs = let s = c.before.before.before.before.before.before.before.before.before.before in (omega (arith, few-cells utf7 s.args.text.now, s.requires.1.1.1), c.before.before.before.before.pad.ensures)
+decode-requires : tie.Need-decode-found-requires
+decode-requires c κs = let s = c in (omega (arith, few-cells utf7 s.args.text.now, s.requires.1.1.1), c.pad.ensures)
 
-within : (c : tie.After-decode) → ltb limit (length (start c).args.text.now) ≡ false
+within : (c : tie.After-decode-found) → ltb limit (length (start c).args.text.now) ≡ false
 within c = le-ltb limit _ (start c).requires.0
 
-enum_told : tie.Need-enum-told
+enum_told : tie.Need-enum_told-1
 enum_told c = search rules
 
-same_length : tie.Need-same-length
+same_length : tie.Need-shape_of-room-in-Refused
 same_length c = search rules
 
-same-length-2 : tie.Need-same-length-2
+same-length-2 : tie.Need-shape_of-cells-in-Refused
 same-length-2 c = search rules
 
-returns : tie.Need-returns
+returns : tie.Need-returns-in-Refused
 returns c =
-    let d = c.before.before.before.before in
-    into-refused utf7-kept _ _ (within d) d.decode.ensures.0 c.enum_told.given.1
+    let d = c.before.before.before in
+    into-refused utf7-kept _ _ (within d) d.decode-found.ensures.0 c.in-Refused.is
 
-enum-known-found : tie.Need-enum-known-found
+enum-known-found : tie.Need-enum_known-found
 enum-known-found c = search rules
 
-same-length-3 : tie.Need-same-length-3
+same-length-3 : tie.Need-shape_of-room-then-out-n
 same-length-3 c = search rules
 
-same-length-4 : tie.Need-same-length-4
+same-length-4 : tie.Need-shape_of-cells-then-out-n
 same-length-4 c = search rules
 
-returns-2 : tie.Need-returns-2
+returns-2 : tie.Need-returns-then-out-n
 returns-2 c =
-    let f = c.before.before in
+    let f = c in
     let d = f.before.before.before.before in
-    into-short utf7-kept _ _ (within d) d.decode.ensures.0 f.found.given.1 c.if1.true
+    into-short utf7-kept _ _ (within d) d.decode-found.ensures.0 f.in-Accepted.is c.if-out-n.true
 
 copy-requires : tie.Need-copy-requires
 copy-requires c κs =
-    let f = c.before.before.before.before in
-    let d = f.before.before.before.before in
+    let f = c in
+    let d = f.before.before.before.before.before in
     let t = (start d).args.text.now in
-    let n = into-count utf7-kept t [] (within d) d.decode.ensures.0 f.found.given.1 in
-    (omega (arith, n, few-cells utf7 t, (start d).requires.1.1.1, d.decode.auto.1.1.0), c.before.before.if1.false)
+    let n = into-count utf7-kept t [] (within d) d.decode-found.ensures.0 f.in-Accepted.is in
+    (omega (arith, n, few-cells utf7 t, (start d).requires.1.1.1, d.decode-found.auto.out), c.if-out-n.false)
 
-same-length-5 : tie.Need-same-length-5
+same-length-5 : tie.Need-shape_of-room
 same-length-5 c = search rules
 
-same-length-6 : tie.Need-same-length-6
+same-length-6 : tie.Need-shape_of-cells
 same-length-6 c = search rules
 
-same-length-7 : tie.Need-same-length-7
+same-length-7 : tie.Need-shape_of-out
 same-length-7 c = search rules
 
-returns-3 : tie.Need-returns-3
+returns-3 : tie.Need-returns
 returns-3 c =
-    let f = c.before.before.before.before.before.before.before in
-    let d = f.before.before.before.before in
+    let f = c in
+    let d = f.before.before.before.before.before.before.before.before in
     let a = (start d).args in
-    let n = into-count utf7-kept a.text.now [] (within d) d.decode.ensures.0 f.found.given.1 in
-    let k : take f.found.given.0.0 d.decode.new.1.1.0 ≡ (reading utf7 a.text.now).cells =
-    ap (λ (m : ℕ). take m d.decode.new.1.1.0) n ∙ d.decode.ensures.1 in
-    into-filled utf7-kept _ _ (within d) (ap in_numbers (sym f.found.given.1) ∙ d.decode.ensures.0) refl c.before.before.before.before.before.if1.false
-    (c.before.before.copy.ensures ∙ ap (λ (z : List ℕ). filled z a.out.now) k)
+    let n = into-count utf7-kept a.text.now [] (within d) d.decode-found.ensures.0 f.in-Accepted.is in
+    let k : take f.in-Accepted.n d.decode-found.new.out ≡ (reading utf7 a.text.now).cells =
+    ap (λ (m : ℕ). take m d.decode-found.new.out) n ∙ d.decode-found.ensures.1 in
+    into-filled utf7-kept _ _ (within d) (ap in_numbers (sym f.in-Accepted.is) ∙ d.decode-found.ensures.0) refl c.if-out-n.false
+    (c.copy.ensures ∙ ap (λ (z : List ℕ). filled z a.out.now) k)
 
-pub through-spec : {M : Type 1} → statement M
-through-spec =
+pub through_spec : {M : Type 1} → statement M
+through_spec =
     tie.close
     (tie.spec
     pad-requires

@@ -3,14 +3,14 @@ use borrow.Author.Rules.{rules}
 use Rattle.utf7_write.proofs.byte_of.Statement.{statement}
 use Rattle.utf7_write.proofs.byte_of.Tie as tie
 
-cast-result : tie.Need-overflow-cast-result
+cast-result : tie.Need-overflow_cast-result
 cast-result c = search rules
 
-returns : tie.Need-returns
-returns c = simp (lt-ltb _ _ c.if1.true)
+returns : tie.Need-returns-then-u-lt128
+returns c = simp (lt-ltb _ _ c.if-u-lt128.true)
 
-returns-2 : tie.Need-returns-2
-returns-2 c = simp (le-ltb _ _ c.if1.false)
+returns-2 : tie.Need-returns
+returns-2 c = simp (le-ltb _ _ c.if-u-lt128.false)
 
-pub byte-of-spec : {M : Type 1} → statement M
-byte-of-spec = tie.close (tie.spec cast-result returns returns-2)
+pub byte_of_spec : {M : Type 1} → statement M
+byte_of_spec = tie.close (tie.spec cast-result returns returns-2)

@@ -4,21 +4,21 @@ use borrow.Author.Rules.{rules}
 use Rattle.utf7_write.proofs.is_other.Statement.{statement}
 use Rattle.utf7_write.proofs.is_other.Tie as tie
 
-is-own-requires : tie.Need-is-own-requires
+is-own-requires : tie.Need-is_own-requires
 is-own-requires c κs = search rules
 
-returns : tie.Need-returns
+returns : tie.Need-returns-then-is_own
 unfolding other
-returns c = simp (sym c.before.is-own.ensures ∙ c.if1.true)
+returns c = simp (sym c.is_own.ensures ∙ c.if-is_own.true)
 
-sign-of-requires : tie.Need-sign-of-requires
+sign-of-requires : tie.Need-sign_of-requires
 sign-of-requires c κs = search rules
 
-returns-2 : tie.Need-returns-2
+returns-2 : tie.Need-returns
 unfolding other
 returns-2 c =
     let o = c.before in
-    simp (sym o.before.is-own.ensures ∙ o.if1.false, c.sign_of.ensures)
+    simp (sym o.is_own.ensures ∙ o.if-is_own.false, c.sign_of.ensures)
 
-pub is-other-spec : {M : Type 1} → statement M
-is-other-spec = tie.close (tie.spec is-own-requires returns sign-of-requires returns-2)
+pub is_other_spec : {M : Type 1} → statement M
+is_other_spec = tie.close (tie.spec is-own-requires returns sign-of-requires returns-2)

@@ -8,53 +8,53 @@ use borrow.Author.Rules.{rules}
 use Rattle.utf7_write.proofs.low_bytes.Statement.{statement}
 use Rattle.utf7_write.proofs.low_bytes.Tie as tie
 
-abbrev invariant-loop : tie.invariant-loop
+abbrev invariant-loop : tie.invariant-loop-k
 invariant-loop cells i bytes₀ k₀ bytes k = (length bytes ≡ 16) × Low cells i bytes k × (k ≤ 16)
 
-abbrev decreases-loop : tie.decreases-loop
+abbrev decreases-loop : tie.decreases-loop-k
 decreases-loop cells i bytes₀ k₀ bytes k = 16 - k
 
-loop-holds : tie.Need-loop-init invariant-loop decreases-loop
+loop-holds : tie.Need-loop-k-init invariant-loop decreases-loop
 loop-holds c = (refl, λ m h. absurd (omega arith), omega arith)
 
-add-bytes : tie.Need-overflow-add-bytes invariant-loop decreases-loop
+add-bytes : tie.Need-overflow_add-bytes invariant-loop decreases-loop
 add-bytes c = search rules
 
-mul-bytes : tie.Need-overflow-mul-bytes invariant-loop decreases-loop
+mul-bytes : tie.Need-offset_bounds-cells-i invariant-loop decreases-loop
 mul-bytes c = search rules
 
-shared-slice-read-bytes : tie.Need-shared-slice-read-bytes invariant-loop decreases-loop
+shared-slice-read-bytes : tie.Need-bounds-cells-i invariant-loop decreases-loop
 shared-slice-read-bytes c = search rules
 
-cast-bytes : tie.Need-overflow-cast-bytes invariant-loop decreases-loop
+cast-bytes : tie.Need-overflow_cast-bytes invariant-loop decreases-loop
 cast-bytes c = search rules
 
-array-write-bytes : tie.Need-array-write-bytes invariant-loop decreases-loop
+array-write-bytes : tie.Need-bounds-bytes-k invariant-loop decreases-loop
 array-write-bytes c = search rules
 
-add-k : tie.Need-overflow-add-k invariant-loop decreases-loop
+add-k : tie.Need-overflow_step-k invariant-loop decreases-loop
 add-k c = search rules
 
-loop-less : tie.Need-loop-smaller invariant-loop decreases-loop
+loop-less : tie.Need-loop-k-smaller invariant-loop decreases-loop
 loop-less c = search rules
 
-loop-again : tie.Need-loop-preserved invariant-loop decreases-loop
+loop-again : tie.Need-loop-k-preserved invariant-loop decreases-loop
 loop-again c =
     let l = c.before.before in
-    let a = l.before.args in (
-      simp length-set l.loop.invariant.0,
-      made_more (λ u. u % 256) a.cells.now a.i l.loop.bytes l.loop.k _ (omega arith) l.loop.invariant.1 refl,
+    let a = l.args in (
+      simp length-set l.loop-k.invariant.0,
+      made_more (λ u. u % 256) a.cells.now a.i l.loop-k.bytes l.loop-k.k _ (omega arith) l.loop-k.invariant.1 refl,
       omega arith,
     )
 
 returns : tie.Need-returns invariant-loop decreases-loop
 returns c =
     let l = c.before in
-    let e : l.loop.k ≡ 16 = omega (arith, c.loop-test.false) in
-    rw e at l.loop.invariant.1
+    let e : l.loop-k.k ≡ 16 = omega (arith, c.loop-k-test.false) in
+    rw e at l.loop-k.invariant.1
 
-pub low-bytes-spec : {M : Type 1} → statement M
-low-bytes-spec =
+pub low_bytes_spec : {M : Type 1} → statement M
+low_bytes_spec =
     tie.close
     (tie.spec
     invariant-loop

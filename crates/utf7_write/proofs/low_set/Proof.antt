@@ -7,26 +7,26 @@ use borrow.Author.Rules.{rules}
 use Rattle.utf7_write.proofs.low_set.Statement.{statement}
 use Rattle.utf7_write.proofs.low_set.Tie as tie
 
-enum_told : tie.Need-enum-told
+enum_told : tie.Need-enum_told-1
 enum_told c = search rules
 
-enum-told-2 : tie.Need-enum-told-2
+enum-told-2 : tie.Need-enum_told-in-Body
 enum-told-2 c = search rules
 
-enum-told-3 : tie.Need-enum-told-3
+enum-told-3 : tie.Need-enum_told-in-Name
 enum-told-3 c = search rules
 
-returns : tie.Need-returns
+returns : tie.Need-returns-in-Header
 unfolding own direct set_d set_o alphanumeric all_below
-returns c = simp c.enum_told.given.1 (own-from Header 0 _ refl)
+returns c = simp c.in-Header.is (own-from Header 0 _ refl)
 
-returns-2 : tie.Need-returns-2
+returns-2 : tie.Need-returns-in-Body
 unfolding own direct set_d set_o alphanumeric all_below
-returns-2 c = simp c.enum-told2.given.1 (own-from Body 0 _ refl)
+returns-2 c = simp c.in-Body.is (own-from Body 0 _ refl)
 
-returns-3 : tie.Need-returns-3
+returns-3 : tie.Need-returns-in-Name
 unfolding own direct set_d set_o alphanumeric all_below
-returns-3 c = simp c.enum-told3.given.1 (own-from Name 0 _ refl)
+returns-3 c = simp c.in-Name.is (own-from Name 0 _ refl)
 
-pub low-set-spec : {M : Type 1} → statement M
-low-set-spec = tie.close (tie.spec enum_told enum-told-2 enum-told-3 returns returns-2 returns-3)
+pub low_set_spec : {M : Type 1} → statement M
+low_set_spec = tie.close (tie.spec enum_told enum-told-2 enum-told-3 returns returns-2 returns-3)

@@ -10,113 +10,113 @@ use borrow.Author.Rules.{rules}
 use Rattle.utf7_write.proofs.size.Statement.{statement}
 use Rattle.utf7_write.proofs.size.Tie as tie
 
-abbrev invariant-loop : tie.invariant-loop
+abbrev invariant-loop : tie.invariant-loop-i
 invariant-loop style cells sign i₀ total₀ i total =
     (total + length (writing style (drop i cells)) ≡ length (writing style cells)) × (i ≤ length cells) × (length (writing style cells) < 2 ^ 35)
 
-abbrev decreases-loop : tie.decreases-loop
+abbrev decreases-loop : tie.decreases-loop-i
 decreases-loop style cells sign i₀ total₀ i total = length cells - i
 
 -- where the loop stands once a unit is told apart, and the bytes from a place on
-abbrev loop-at : tie.After-is-other invariant-loop decreases-loop → tie.At-loop invariant-loop decreases-loop
+abbrev loop-at : tie.After-is_other invariant-loop decreases-loop → tie.At-loop-i invariant-loop decreases-loop
 loop-at c = c.before.before.before
 
-abbrev bytes : tie.At-loop invariant-loop decreases-loop → ℕ → ℕ
-bytes l i = length (writing l.before.before.before.args.style (drop i l.before.before.before.args.cells.now))
+abbrev bytes : tie.At-loop-i invariant-loop decreases-loop → ℕ → ℕ
+bytes l i = length (writing l.args.style (drop i l.args.cells.now))
 
 -- what a stretch, a sign and a unit that is written as itself take
 found :
-    (c : tie.After-stretch-end invariant-loop decreases-loop) → let l = loop-at c.before.before in
-    Stretched l.before.before.before.args.style l.before.before.before.args.cells.now l.loop.i c.stretch-end.result
+    (c : tie.After-stretch_end-j invariant-loop decreases-loop) → let l = loop-at c.before.before in
+    Stretched l.args.style l.args.cells.now l.loop-i.i c.stretch_end-j.result
 found c =
     let t = c.before.before in
-    stretched _ _ _ t.before.before.loop-test.true _ (sym t.is-other.ensures ∙ c.before.if1.true) c.stretch-end.ensures
+    stretched _ _ _ t.loop-i-test.true _ (sym t.is_other.ensures ∙ c.if-is_other.true) c.stretch_end-j.ensures
 
 signed :
-    (c : tie.Then2 invariant-loop decreases-loop) → let l = loop-at c.before.before in bytes l l.loop.i ≡ suc (suc (bytes l (l.loop.i + 1)))
+    (c : tie.Then-u-sign invariant-loop decreases-loop) → let l = loop-at c.before.before in bytes l l.loop-i.i ≡ suc (suc (bytes l (l.loop-i.i + 1)))
 signed c =
     let t = c.before.before in
-    ap length (write-sign _ _ _ t.before.before.loop-test.true (loop-at t).before.sign_of.ensures c.if2.true)
+    ap length (write-sign _ _ _ t.loop-i-test.true (loop-at t).sign_of-sign.ensures c.if-u-sign.true)
 
 owned :
-    (c : tie.Else2 invariant-loop decreases-loop) → let l = loop-at c.before.before in bytes l l.loop.i ≡ suc (bytes l (l.loop.i + 1))
+    (c : tie.Else-u-sign invariant-loop decreases-loop) → let l = loop-at c.before.before in bytes l l.loop-i.i ≡ suc (bytes l (l.loop-i.i + 1))
 owned c =
     let t = c.before.before in
-    ap length (itself _ _ _ t.before.before.loop-test.true (loop-at t).before.sign_of.ensures (sym t.is-other.ensures ∙ c.before.if1.false) c.if2.false).cut
+    ap length (itself _ _ _ t.loop-i-test.true (loop-at t).sign_of-sign.ensures (sym t.is_other.ensures ∙ c.if-is_other.false) c.if-u-sign.false).cut
 
-sign-of-requires : tie.Need-sign-of-requires invariant-loop decreases-loop
+sign-of-requires : tie.Need-sign_of-sign-requires invariant-loop decreases-loop
 sign-of-requires c κs = search rules
 
-loop-holds : tie.Need-loop-init invariant-loop decreases-loop
+loop-holds : tie.Need-loop-i-init invariant-loop decreases-loop
 loop-holds c =
     let s = c.before.before in
     (omega arith, omega arith, omega (arith, size-bound s.args.style s.args.cells.now, s.requires, limit-small))
 
-mul-u : tie.Need-overflow-mul-u invariant-loop decreases-loop
+mul-u : tie.Need-offset_bounds-cells-i invariant-loop decreases-loop
 mul-u c = search rules
 
-shared-slice-read-u : tie.Need-shared-slice-read-u invariant-loop decreases-loop
+shared-slice-read-u : tie.Need-bounds-cells-i invariant-loop decreases-loop
 shared-slice-read-u c = search rules
 
-is-other-requires : tie.Need-is-other-requires invariant-loop decreases-loop
+is-other-requires : tie.Need-is_other-requires invariant-loop decreases-loop
 is-other-requires c κs = search rules
 
-stretch-end-requires : tie.Need-stretch-end-requires invariant-loop decreases-loop
+stretch-end-requires : tie.Need-stretch_end-j-requires invariant-loop decreases-loop
 stretch-end-requires c κs = search rules
 
-sub-total : tie.Need-overflow-sub-total invariant-loop decreases-loop
+sub-total : tie.Need-overflow_sub-total invariant-loop decreases-loop
 sub-total c = let s = found c in omega arith
 
-mul-total : tie.Need-overflow-mul-total invariant-loop decreases-loop
+mul-total : tie.Need-overflow_mul-total invariant-loop decreases-loop
 mul-total c = let s = found c in omega arith
 
-add_total : tie.Need-overflow-add-total invariant-loop decreases-loop
+add_total : tie.Need-overflow_add-total invariant-loop decreases-loop
 add_total c = let s = found c in omega arith
 
-add-total-2 : tie.Need-overflow-add-total-2 invariant-loop decreases-loop
+add-total-2 : tie.Need-overflow_add-total-then-is_other invariant-loop decreases-loop
 add-total-2 c = let s = found c in omega arith
 
-add-total-3 : tie.Need-overflow-add-total-3 invariant-loop decreases-loop
+add-total-3 : tie.Need-overflow_add-total-then-is_other-2 invariant-loop decreases-loop
 add-total-3 c = let s = found c in omega arith
 
-loop-less : tie.Need-loop-smaller invariant-loop decreases-loop
+loop-less : tie.Need-loop-i-smaller-then-is_other invariant-loop decreases-loop
 loop-less c = let s = found c in omega arith
 
-loop-again : tie.Need-loop-preserved invariant-loop decreases-loop
+loop-again : tie.Need-loop-i-preserved-then-is_other invariant-loop decreases-loop
 loop-again c = let s = found c in omega arith
 
-add-total-4 : tie.Need-overflow-add-total-4 invariant-loop decreases-loop
+add-total-4 : tie.Need-overflow_add-total-then-u-sign invariant-loop decreases-loop
 add-total-4 c = omega (arith, signed c)
 
-add-i : tie.Need-overflow-add-i invariant-loop decreases-loop
+add-i : tie.Need-overflow_add-i invariant-loop decreases-loop
 add-i c = search rules
 
-loop-less-2 : tie.Need-loop-smaller-2 invariant-loop decreases-loop
+loop-less-2 : tie.Need-loop-i-smaller-then-u-sign invariant-loop decreases-loop
 loop-less-2 c = search rules
 
-loop-again-2 : tie.Need-loop-preserved-2 invariant-loop decreases-loop
+loop-again-2 : tie.Need-loop-i-preserved-then-u-sign invariant-loop decreases-loop
 loop-again-2 c = omega (arith, signed c)
 
-add-total-5 : tie.Need-overflow-add-total-5 invariant-loop decreases-loop
+add-total-5 : tie.Need-overflow_add-total-else-u-sign invariant-loop decreases-loop
 add-total-5 c = omega (arith, owned c)
 
-add-i-2 : tie.Need-overflow-add-i-2 invariant-loop decreases-loop
+add-i-2 : tie.Need-overflow_add-i-else-u-sign invariant-loop decreases-loop
 add-i-2 c = search rules
 
-loop-less-3 : tie.Need-loop-smaller-3 invariant-loop decreases-loop
+loop-less-3 : tie.Need-loop-i-smaller invariant-loop decreases-loop
 loop-less-3 c = search rules
 
-loop-again-3 : tie.Need-loop-preserved-3 invariant-loop decreases-loop
+loop-again-3 : tie.Need-loop-i-preserved invariant-loop decreases-loop
 loop-again-3 c = omega (arith, owned c)
 
 returns : tie.Need-returns invariant-loop decreases-loop
 returns c =
     let l = c.before in
-    let a = l.before.before.before.args in
-    omega (arith, l.loop.invariant.0, ap length (write-end a.style a.cells.now l.loop.i c.loop-test.false))
+    let a = l.args in
+    omega (arith, l.loop-i.invariant.0, ap length (write-end a.style a.cells.now l.loop-i.i c.loop-i-test.false))
 
-pub size-spec : {M : Type 1} → statement M
-size-spec =
+pub size_spec : {M : Type 1} → statement M
+size_spec =
     tie.close
     (tie.spec
     invariant-loop

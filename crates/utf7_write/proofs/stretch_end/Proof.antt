@@ -11,76 +11,76 @@ use borrow.Author.Rules.{rules}
 use Rattle.utf7_write.proofs.stretch_end.Statement.{statement}
 use Rattle.utf7_write.proofs.stretch_end.Tie as tie
 
-abbrev invariant-loop : tie.invariant-loop
+abbrev invariant-loop : tie.invariant-loop-j
 invariant-loop style cells from j₀ j = (j + stretch_length style (drop j cells) ≡ from + stretch_length style (drop from cells)) × (j ≤ length cells)
 
-abbrev decreases-loop : tie.decreases-loop
+abbrev decreases-loop : tie.decreases-loop-j
 decreases-loop style cells from j₀ j = length cells - j
 
-loop-holds : tie.Need-loop-init invariant-loop decreases-loop
-loop-holds c = (refl, c.before.requires)
+loop-holds : tie.Need-loop-j-init invariant-loop decreases-loop
+loop-holds c = (refl, c.requires)
 
 -- a block of units of 128 or more
 found :
-    (c : tie.Then1 invariant-loop decreases-loop) → let l = c.before.before.before in
-    (l.loop.j + 16 ≤ length l.before.before.args.cells.now) × Ahead High l.before.before.args.cells.now l.loop.j 16
-found c = c.before.high-ahead.ensures c.if1.true
+    (c : tie.Then-high_ahead invariant-loop decreases-loop) → let l = c.before.before.before in
+    (l.loop-j.j + 16 ≤ length l.args.cells.now) × Ahead High l.args.cells.now l.loop-j.j 16
+found c = c.high_ahead.ensures c.if-high_ahead.true
 
-high-ahead-requires : tie.Need-high-ahead-requires invariant-loop decreases-loop
-high-ahead-requires c κs = c.before.loop.invariant.1
+high-ahead-requires : tie.Need-high_ahead-requires invariant-loop decreases-loop
+high-ahead-requires c κs = c.loop-j.invariant.1
 
-add-j : tie.Need-overflow-add-j invariant-loop decreases-loop
+add-j : tie.Need-overflow_add-j invariant-loop decreases-loop
 add-j c = let h = (found c).0 in search rules
 
-loop-less : tie.Need-loop-smaller invariant-loop decreases-loop
+loop-less : tie.Need-loop-j-smaller-then-high_ahead invariant-loop decreases-loop
 loop-less c = let h = (found c).0 in search rules
 
-loop-again : tie.Need-loop-preserved invariant-loop decreases-loop
+loop-again : tie.Need-loop-j-preserved-then-high_ahead invariant-loop decreases-loop
 loop-again c =
     let l = c.before.before.before in
-    let a = l.before.before.args in
+    let a = l.args in
     let f = found c in
-    (omega (arith, l.loop.invariant.0, stretch-block a.style a.cells.now 16 l.loop.j f.0 f.1), f.0)
+    (omega (arith, l.loop-j.invariant.0, stretch-block a.style a.cells.now 16 l.loop-j.j f.0 f.1), f.0)
 
-mul-is-other : tie.Need-overflow-mul-is-other invariant-loop decreases-loop
+mul-is-other : tie.Need-offset_bounds-cells-j invariant-loop decreases-loop
 mul-is-other c = search rules
 
-shared-slice-read-is-other : tie.Need-shared-slice-read-is-other invariant-loop decreases-loop
+shared-slice-read-is-other : tie.Need-bounds-cells-j invariant-loop decreases-loop
 shared-slice-read-is-other c = search rules
 
-is-other-requires : tie.Need-is-other-requires invariant-loop decreases-loop
+is-other-requires : tie.Need-is_other-requires invariant-loop decreases-loop
 is-other-requires c κs = search rules
 
-returns : tie.Need-returns invariant-loop decreases-loop
+returns : tie.Need-returns-then-not-is_other invariant-loop decreases-loop
 returns c =
     let t = c.before.before.before.before.before in
     let l = t.before in
-    let a = l.before.before.args in
-    omega (arith, l.loop.invariant.0, stretch-here a.style a.cells.now l.loop.j t.loop-test.true (sym c.before.is-other.ensures ∙ not-true _ c.if2.true))
+    let a = l.args in
+    omega (arith, l.loop-j.invariant.0, stretch-here a.style a.cells.now l.loop-j.j t.loop-j-test.true (sym c.is_other.ensures ∙ c.if-not-is_other.true))
 
-add-j-2 : tie.Need-overflow-add-j-2 invariant-loop decreases-loop
+add-j-2 : tie.Need-overflow_add-j-else-high_ahead invariant-loop decreases-loop
 add-j-2 c = search rules
 
-loop-less-2 : tie.Need-loop-smaller-2 invariant-loop decreases-loop
+loop-less-2 : tie.Need-loop-j-smaller invariant-loop decreases-loop
 loop-less-2 c = search rules
 
-loop-again-2 : tie.Need-loop-preserved-2 invariant-loop decreases-loop
+loop-again-2 : tie.Need-loop-j-preserved invariant-loop decreases-loop
 loop-again-2 c =
     let t = c.before.before.before.before.before in
     let l = t.before in
-    let a = l.before.before.args in (
-      omega (arith, l.loop.invariant.0, stretch-more a.style a.cells.now l.loop.j t.loop-test.true (sym c.before.is-other.ensures ∙ not-false _ c.if2.false)),
-      omega (arith, t.loop-test.true),
+    let a = l.args in (
+      omega (arith, l.loop-j.invariant.0, stretch-more a.style a.cells.now l.loop-j.j t.loop-j-test.true (sym c.is_other.ensures ∙ c.if-not-is_other.false)),
+      omega (arith, t.loop-j-test.true),
     )
 
-returns-2 : tie.Need-returns-2 invariant-loop decreases-loop
+returns-2 : tie.Need-returns invariant-loop decreases-loop
 returns-2 c =
     let l = c.before in
-    let a = l.before.before.args in
-    omega (arith, l.loop.invariant.0, stretch-end a.style a.cells.now l.loop.j c.loop-test.false)
+    let a = l.args in
+    omega (arith, l.loop-j.invariant.0, stretch-end a.style a.cells.now l.loop-j.j c.loop-j-test.false)
 
-pub stretch-end-spec : {M : Type 1} → statement M
-stretch-end-spec =
+pub stretch_end_spec : {M : Type 1} → statement M
+stretch_end_spec =
     tie.close
     (tie.spec
     invariant-loop

@@ -12,72 +12,72 @@ use borrow.Author.Rules.{rules}
 use Rattle.utf7_write.proofs.turn_letters.Statement.{statement}
 use Rattle.utf7_write.proofs.turn_letters.Tie as tie
 
-abbrev invariant-loop : tie.invariant-loop
+abbrev invariant-loop : tie.invariant-loop-k
 invariant-loop last out₀ from to k₀ out k = Put (take from out₀ ++ map (letter_of last) (take (to - from) (drop from out₀))) out₀ out k (map (letter_of last) (take (to - k) (drop k out₀))) × (from ≤ k) × (k ≤ to)
 
-abbrev decreases-loop : tie.decreases-loop
+abbrev decreases-loop : tie.decreases-loop-k
 decreases-loop last out₀ from to k₀ out k = to - k
 
 -- the letters, and the room that their values have
-abbrev part : tie.After-slice-known invariant-loop decreases-loop → List ℕ
-part c = let a = c.before.args in map (letter_of a.last) (take (a.to - a.from) (drop a.from a.out.now))
+abbrev part : tie.After-slice_known-1 invariant-loop decreases-loop → List ℕ
+part c = let a = c.args in map (letter_of a.last) (take (a.to - a.from) (drop a.from a.out.now))
 
-bound : (c : tie.After-slice-known invariant-loop decreases-loop) → c.before.args.from + length (part c) ≤ length c.before.args.out.now
-bound c = simp (length-map, length-take, length-drop) (omega (arith, c.before.requires.0, c.before.requires.1))
+bound : (c : tie.After-slice_known-1 invariant-loop decreases-loop) → c.args.from + length (part c) ≤ length c.args.out.now
+bound c = simp (length-map, length-take, length-drop) (omega (arith, c.requires.0, c.requires.1))
 
 -- the next value has a letter
 next :
-    (l : tie.At-loop invariant-loop decreases-loop) → let a = l.before.before.args in l.loop.k < a.to →
-    Put (take a.from a.out.now ++ part l.before) a.out.now l.loop.out l.loop.k
-    (letter_of a.last (get_or a.out.now l.loop.k 0) ∷ map (letter_of a.last) (take (a.to - (l.loop.k + 1)) (drop (l.loop.k + 1) a.out.now)))
+    (l : tie.At-loop-k invariant-loop decreases-loop) → let a = l.args in l.loop-k.k < a.to →
+    Put (take a.from a.out.now ++ part l.before) a.out.now l.loop-k.out l.loop-k.k
+    (letter_of a.last (get_or a.out.now l.loop-k.k 0) ∷ map (letter_of a.last) (take (a.to - (l.loop-k.k + 1)) (drop (l.loop-k.k + 1) a.out.now)))
 next l h =
-    let a = l.before.before.args in
-    let k = l.loop.k in
+    let a = l.args in
+    let k = l.loop-k.k in
     let e : a.to - k ≡ suc (a.to - (k + 1)) = omega arith in
-    put_as (rw (e, drop-cons a.out.now k 0 (omega (arith, l.before.before.requires.1)), ← add-one k)) l.loop.invariant.0
+    put_as (rw (e, drop-cons a.out.now k 0 (omega (arith, l.requires.1)), ← add-one k)) l.loop-k.invariant.0
 
-loop-holds : tie.Need-loop-init invariant-loop decreases-loop
+loop-holds : tie.Need-loop-k-init invariant-loop decreases-loop
 loop-holds c =
-    let a = c.before.args in
-    (put-from a.out.now (part c) a.from (bound c), omega arith, c.before.requires.0)
+    let a = c.args in
+    (put-from a.out.now (part c) a.from (bound c), omega arith, c.requires.0)
 
-slice-read-letter-of : tie.Need-slice-read-letter-of invariant-loop decreases-loop
+slice-read-letter-of : tie.Need-bounds-out-k invariant-loop decreases-loop
 slice-read-letter-of c = search rules
 
-cast-letter-of : tie.Need-overflow-cast-letter-of invariant-loop decreases-loop
-cast-letter-of c = let h = c.slice-known2.given c.before.before.loop.k in search rules
+cast-letter-of : tie.Need-overflow_cast-out invariant-loop decreases-loop
+cast-letter-of c = let h = c.slice_known-in-loop-k-1.given c.loop-k.k in search rules
 
-letter-of-requires : tie.Need-letter-of-requires invariant-loop decreases-loop
+letter-of-requires : tie.Need-letter_of-requires invariant-loop decreases-loop
 letter-of-requires c κs = search rules
 
-slice-write-out : tie.Need-slice-write-out invariant-loop decreases-loop
+slice-write-out : tie.Need-bounds-out-k-in-loop-k invariant-loop decreases-loop
 slice-write-out c = search rules
 
-add-k : tie.Need-overflow-add-k invariant-loop decreases-loop
+add-k : tie.Need-overflow_add-k invariant-loop decreases-loop
 add-k c = search rules
 
-loop-less : tie.Need-loop-smaller invariant-loop decreases-loop
+loop-less : tie.Need-loop-k-smaller invariant-loop decreases-loop
 loop-less c = search rules
 
-loop-again : tie.Need-loop-preserved invariant-loop decreases-loop
+loop-again : tie.Need-loop-k-preserved invariant-loop decreases-loop
 loop-again c =
     let t = c.before in
     let l = t.before.before in
-    let a = l.before.before.args in
-    (rw (c.letter-of.ensures, put-ahead _ l.loop.invariant.0 (omega arith)) (put_next (next l t.before.loop-test.true)), omega arith, omega arith)
+    let a = l.args in
+    (rw (c.letter_of.ensures, put-ahead _ l.loop-k.invariant.0 (omega arith)) (put_next (next l t.loop-k-test.true)), omega arith, omega arith)
 
-same_length : tie.Need-same-length invariant-loop decreases-loop
-same_length c = c.before.loop.invariant.0.same
+same_length : tie.Need-shape_of-out invariant-loop decreases-loop
+same_length c = c.loop-k.invariant.0.same
 
 returns : tie.Need-returns invariant-loop decreases-loop
 returns c =
     let l = c.before in
-    let a = l.before.before.args in
-    let e : a.to - l.loop.k ≡ 0 = omega (arith, c.loop-test.false) in
-    (put-sets a.out.now (part l.before) a.from (bound l.before) (put_as (rw e) l.loop.invariant.0)).1
+    let a = l.args in
+    let e : a.to - l.loop-k.k ≡ 0 = omega (arith, c.loop-k-test.false) in
+    (put-sets a.out.now (part l.before) a.from (bound l.before) (put_as (rw e) l.loop-k.invariant.0)).1
 
-pub turn-letters-spec : {M : Type 1} → statement M
-turn-letters-spec =
+pub turn_letters_spec : {M : Type 1} → statement M
+turn_letters_spec =
     tie.close
     (tie.spec
     invariant-loop

@@ -8,54 +8,54 @@ use borrow.Author.Rules.{rules}
 use Rattle.utf7_write.proofs.turn_marks.Statement.{statement}
 use Rattle.utf7_write.proofs.turn_marks.Tie as tie
 
-abbrev invariant-loop : tie.invariant-loop
+abbrev invariant-loop : tie.invariant-loop-k
 invariant-loop style marks₀ n k₀ marks k =
     Turned style marks₀ marks k × ((m : ℕ) → k ≤ m → get_or marks m 0 ≡ get_or marks₀ m 0) × (length marks ≡ length marks₀) × (k ≤ n)
 
-abbrev decreases-loop : tie.decreases-loop
+abbrev decreases-loop : tie.decreases-loop-k
 decreases-loop style marks₀ n k₀ marks k = n - k
 
-loop-holds : tie.Need-loop-init invariant-loop decreases-loop
+loop-holds : tie.Need-loop-k-init invariant-loop decreases-loop
 loop-holds c = (λ m h. absurd (omega arith), λ m h. refl, refl, omega arith)
 
-slice-read-mark-of : tie.Need-slice-read-mark-of invariant-loop decreases-loop
+slice-read-mark-of : tie.Need-bounds-marks-k invariant-loop decreases-loop
 slice-read-mark-of c = search rules
 
-mark-of-requires : tie.Need-mark-of-requires invariant-loop decreases-loop
+mark-of-requires : tie.Need-mark_of-requires invariant-loop decreases-loop
 mark-of-requires c κs = search rules
 
-slice-write-marks : tie.Need-slice-write-marks invariant-loop decreases-loop
+slice-write-marks : tie.Need-bounds-marks-k-in-loop-k invariant-loop decreases-loop
 slice-write-marks c = search rules
 
-add-k : tie.Need-overflow-add-k invariant-loop decreases-loop
+add-k : tie.Need-overflow_add-k invariant-loop decreases-loop
 add-k c = search rules
 
-loop-less : tie.Need-loop-smaller invariant-loop decreases-loop
+loop-less : tie.Need-loop-k-smaller invariant-loop decreases-loop
 loop-less c = search rules
 
-loop-again : tie.Need-loop-preserved invariant-loop decreases-loop
+loop-again : tie.Need-loop-k-preserved invariant-loop decreases-loop
 loop-again c =
     let l = c.before.before.before in
-    let a = l.before.before.args in
-    let v = l.loop.invariant in
-    let h : l.loop.k < length l.loop.marks = omega (arith, v.2, c.before.before.loop-test.true, l.before.before.requires) in (
-      turned_more a.style a.marks.now l.loop.marks l.loop.k c.mark-of.result h v.0 v.1 c.mark-of.ensures,
-      left-more a.style a.marks.now l.loop.marks l.loop.k c.mark-of.result h v.1,
+    let a = l.args in
+    let v = l.loop-k.invariant in
+    let h : l.loop-k.k < length l.loop-k.marks = omega (arith, v.2, c.loop-k-test.true, l.requires) in (
+      turned_more a.style a.marks.now l.loop-k.marks l.loop-k.k c.mark_of.result h v.0 v.1 c.mark_of.ensures,
+      left-more a.style a.marks.now l.loop-k.marks l.loop-k.k c.mark_of.result h v.1,
       simp length-set v.2,
       omega arith,
     )
 
-same_length : tie.Need-same-length invariant-loop decreases-loop
-same_length c = c.before.loop.invariant.2
+same_length : tie.Need-shape_of-marks invariant-loop decreases-loop
+same_length c = c.loop-k.invariant.2
 
 returns : tie.Need-returns invariant-loop decreases-loop
 returns c =
     let l = c.before in
-    let e : l.loop.k ≡ l.before.before.args.n = omega (arith, c.loop-test.false, l.loop.invariant.3) in
-    rw e at l.loop.invariant.0
+    let e : l.loop-k.k ≡ l.args.n = omega (arith, c.loop-k-test.false, l.loop-k.invariant.3) in
+    rw e at l.loop-k.invariant.0
 
-pub turn-marks-spec : {M : Type 1} → statement M
-turn-marks-spec =
+pub turn_marks_spec : {M : Type 1} → statement M
+turn_marks_spec =
     tie.close
     (tie.spec
     invariant-loop

@@ -7,41 +7,41 @@ use borrow.Author.Rules.{rules}
 use Rattle.utf7_write.proofs.window_at.Statement.{statement}
 use Rattle.utf7_write.proofs.window_at.Tie as tie
 
-sub-if1 : tie.Need-overflow-sub-if1
+sub-if1 : tie.Need-overflow_sub-i
 sub-if1 c = search rules
 
-add-if1 : tie.Need-overflow-add-if1
+add-if1 : tie.Need-overflow_add-i
 add-if1 c = search rules
 
-returns : tie.Need-returns
-returns c = let p = c.before.before.before.requires in (p.2, p.3, omega (arith, c.if1.true, p.3), p.4)
+returns : tie.Need-returns-then-i-base
+returns c = let p = c.requires in (p.2, p.3, omega (arith, c.if-i-base.true, p.3), p.4)
 
-put-bytes-requires : tie.Need-put-bytes-requires
+put-bytes-requires : tie.Need-put_bytes-n-requires
 put-bytes-requires c κs = search rules
 
-turn-marks-requires : tie.Need-turn-marks-requires
+turn-marks-requires : tie.Need-turn_marks-requires
 turn-marks-requires c κs =
-    let p = c.before.before.before.put-bytes in
-    let h : p.result ≤ length p.new.1.1.0 = omega (arith, p.ensures.0, p.auto.1.1.0) in
+    let p = c.put_bytes-n in
+    let h : p.result ≤ length p.new.out = omega (arith, p.ensures.0, p.auto.out) in
     h
 
-same_length : tie.Need-same-length
-same_length c = c.before.before.turn-marks.auto.1.0 ∙ c.before.before.before.before.before.before.put-bytes.auto.1.1.0
+same_length : tie.Need-shape_of-marks
+same_length c = c.turn_marks.auto.marks ∙ c.put_bytes-n.auto.out
 
-returns-2 : tie.Need-returns-2
+returns-2 : tie.Need-returns
 returns-2 c =
-    let t = c.before.before.turn-marks in
-    let p = c.before.before.before.before.before.before.put-bytes in
+    let t = c.turn_marks in
+    let p = c.put_bytes-n in
     let s = c.before.before.before.before.before.before.before.before.before.before.before in
     let a = s.args in (
-      marked-of a.style a.cells.now a.i p.new.1.1.0 t.new.1.0 p.result p.ensures.1 t.ensures,
+      marked-of a.style a.cells.now a.i p.new.out t.new.marks p.result p.ensures.1 t.ensures,
       omega arith,
       omega (arith, p.ensures.2 s.requires.0 s.requires.1),
       p.ensures.0,
     )
 
-pub window-at-spec : {M : Type 1} → statement M
-window-at-spec =
+pub window_at_spec : {M : Type 1} → statement M
+window_at_spec =
     tie.close
     (tie.spec
     sub-if1

@@ -18,78 +18,78 @@ bits s k n h m q =
     rw e (s.requires.1 (k + m) (omega arith))
 
 first :
-    (d : tie.After-four-at4) → let s = d.before.before.before.before.before in
-    d.before.before.before.four-at.result + d.before.before.four-at2.result * 4294967296 ≡ word_at s.args.marks.now s.args.j 8
+    (d : tie.After-four_at-4) → let s = d.before.before.before.before.before in
+    d.four_at.result + d.four_at-2.result * 4294967296 ≡ word_at s.args.marks.now s.args.j 8
 first d =
     let s = d.before.before.before.before.before in
     let a = s.args in
-    omega (arith, word-eight a.marks.now a.j (omega (arith, s.requires.0)), d.before.before.before.four-at.ensures.0, d.before.before.four-at2.ensures.0)
+    omega (arith, word-eight a.marks.now a.j (omega (arith, s.requires.0)), d.four_at.ensures.0, d.four_at-2.ensures.0)
 
 second :
-    (d : tie.After-four-at4) → let s = d.before.before.before.before.before in
-    d.before.four-at3.result + d.four-at4.result * 4294967296 ≡ word_at s.args.marks.now (s.args.j + 8) 8
+    (d : tie.After-four_at-4) → let s = d.before.before.before.before.before in
+    d.four_at-3.result + d.four_at-4.result * 4294967296 ≡ word_at s.args.marks.now (s.args.j + 8) 8
 second d =
     let s = d.before.before.before.before.before in
     let a = s.args in
     let e : a.j + 8 + 4 ≡ a.j + 12 = omega arith in
-    omega (arith, rw e at (word-eight a.marks.now (a.j + 8) (omega (arith, s.requires.0))), d.before.four-at3.ensures.0, d.four-at4.ensures.0)
+    omega (arith, rw e at (word-eight a.marks.now (a.j + 8) (omega (arith, s.requires.0))), d.four_at-3.ensures.0, d.four_at-4.ensures.0)
 
-four-at-requires : tie.Need-four-at-requires
+four-at-requires : tie.Need-four_at-requires
 four-at-requires c κs = let s = c.before in (omega (arith, s.requires.0), λ m q. s.requires.1 m (omega arith))
 
-add-four-at : tie.Need-overflow-add-four-at
+add-four-at : tie.Need-overflow_add-j
 add-four-at c = search rules
 
-four-at-requires-2 : tie.Need-four-at-requires-2
+four-at-requires-2 : tie.Need-four_at-requires-2
 four-at-requires-2 c κs = let s = c.before.before in (omega (arith, s.requires.0), bits s 4 4 (omega arith))
 
-mul-a : tie.Need-overflow-mul-a
+mul-a : tie.Need-overflow_mul-a
 mul-a c = search rules
 
-add_a : tie.Need-overflow-add-a
+add_a : tie.Need-overflow_add-a
 add_a c = search rules
 
-add-four-at-2 : tie.Need-overflow-add-four-at-2
+add-four-at-2 : tie.Need-overflow_add-j-2
 add-four-at-2 c = search rules
 
-four-at-requires-3 : tie.Need-four-at-requires-3
+four-at-requires-3 : tie.Need-four_at-requires-3
 four-at-requires-3 c κs = let s = c.before.before.before in (omega (arith, s.requires.0), bits s 8 4 (omega arith))
 
-add-four-at-3 : tie.Need-overflow-add-four-at-3
+add-four-at-3 : tie.Need-overflow_add-j-3
 add-four-at-3 c = search rules
 
-four-at-requires-4 : tie.Need-four-at-requires-4
+four-at-requires-4 : tie.Need-four_at-requires-4
 four-at-requires-4 c κs = let s = c.before.before.before.before in (omega (arith, s.requires.0), bits s 12 4 (omega arith))
 
-mul-b : tie.Need-overflow-mul-b
+mul-b : tie.Need-overflow_mul-b
 mul-b c = search rules
 
-add-b : tie.Need-overflow-add-b
+add-b : tie.Need-overflow_add-b
 add-b c = search rules
 
-cast-result : tie.Need-overflow-cast-result
-cast-result c = let d = c.before in let h = trailing_le 64 (d.before.four-at3.result + d.four-at4.result * 4294967296) in search rules
+cast-result : tie.Need-overflow_cast-result
+cast-result c = let d = c.before in let h = trailing_le 64 (d.four_at-3.result + d.four_at-4.result * 4294967296) in search rules
 
-add-result : tie.Need-overflow-add-result
-add-result c = let d = c.before in let h = trailing_le 64 (d.before.four-at3.result + d.four-at4.result * 4294967296) in search rules
+add-result : tie.Need-overflow_add-result
+add-result c = let d = c.before in let h = trailing_le 64 (d.four_at-3.result + d.four_at-4.result * 4294967296) in search rules
 
-returns : tie.Need-returns
+returns : tie.Need-returns-then-a-eq0
 returns c =
     let d = c.before in
     let s = d.before.before.before.before.before in
-    rw (second d) (before-second s.args.marks.now s.args.j s.requires.0 s.requires.1 (sym (first d) ∙ c.if1.true))
+    rw (second d) (before-second s.args.marks.now s.args.j s.requires.0 s.requires.1 (sym (first d) ∙ c.if-a-eq0.true))
 
-cast-result-2 : tie.Need-overflow-cast-result-2
-cast-result-2 c = let d = c.before in let h = trailing_le 64 (d.before.before.before.four-at.result + d.before.before.four-at2.result * 4294967296) in search rules
+cast-result-2 : tie.Need-overflow_cast-result-2
+cast-result-2 c = let d = c.before in let h = trailing_le 64 (d.four_at.result + d.four_at-2.result * 4294967296) in search rules
 
-returns-2 : tie.Need-returns-2
+returns-2 : tie.Need-returns
 returns-2 c =
     let d = c.before in
     let s = d.before.before.before.before.before in
-    rw (first d) (before-first s.args.marks.now s.args.j s.requires.0 s.requires.1 (λ e. c.if1.false (first d ∙ e)))
+    rw (first d) (before-first s.args.marks.now s.args.j s.requires.0 s.requires.1 (λ e. c.if-a-eq0.false (first d ∙ e)))
 
-pub zeros-ahead-spec : {M : Type 1} → statement M
-zeros-ahead-spec =
+pub zeros_ahead_spec : {M : Type 1} → statement M
+zeros_ahead_spec =
     tie.close
     (tie.spec
     four-at-requires

@@ -8,5 +8,5 @@ returns : tie.Need-returns
 unfolding limit bytes_per_cell bytes_at_end most_bytes
 returns c = refl
 
-pub most-bytes-spec : {M : Type 1} → statement M
-most-bytes-spec = tie.close (tie.spec returns)
+pub most_bytes_spec : {M : Type 1} → statement M
+most_bytes_spec = tie.close (tie.spec returns)

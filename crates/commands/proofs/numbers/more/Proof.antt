@@ -3,14 +3,14 @@ use borrow.Author.Rules.{rules}
 use Rattle.commands.proofs.numbers.more.Statement.{statement}
 use Rattle.commands.proofs.numbers.more.Tie as tie
 
-add-result : tie.Need-overflow-add-result
+add-result : tie.Need-overflow_add-result
 add-result c = search rules
 
-returns : tie.Need-returns
-returns c = rw (lt-ltb _ _ c.if1.true)
+returns : tie.Need-returns-then-seen-lt2
+returns c = rw (lt-ltb _ _ c.if-seen-lt2.true)
 
-returns-2 : tie.Need-returns-2
-returns-2 c = rw (le-ltb _ _ c.if1.false)
+returns-2 : tie.Need-returns
+returns-2 c = rw (le-ltb _ _ c.if-seen-lt2.false)
 
-pub more-spec : {M : Type 1} → statement M
-more-spec = tie.close (tie.spec add-result returns returns-2)
+pub more_spec : {M : Type 1} → statement M
+more_spec = tie.close (tie.spec add-result returns returns-2)

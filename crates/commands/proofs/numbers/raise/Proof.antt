@@ -7,44 +7,44 @@ use borrow.Author.Rules.{rules}
 use Rattle.commands.proofs.numbers.raise.Statement.{statement}
 use Rattle.commands.proofs.numbers.raise.Tie as tie
 
-radix-of-requires : tie.Need-radix-of-requires
+radix-of-requires : tie.Need-radix_of-radix-requires
 radix-of-requires c κs = search rules
 
-returns : tie.Need-returns
+returns : tie.Need-returns-then-radix-digit
 unfolding raised
-returns c = rw (← c.before.radix-of.ensures, le-ltb _ _ c.if1.true)
+returns c = rw (← c.radix_of-radix.ensures, le-ltb _ _ c.if-radix-digit.true)
 
-cast-next : tie.Need-overflow-cast-next
+cast-next : tie.Need-overflow_cast-next-2
 cast-next c = search rules
 
 -- a number's next value fits 64 bits
-product : (c : tie.Else1) → let a = c.before.before.args in a.value * c.before.radix-of.result ≤ 4294967295 * 16
-product c = product-most c.before.before.args.value _ (omega arith) (rw c.before.radix-of.ensures (base-most c.before.before.args.seen))
+product : (c : tie.Else-radix-digit) → let a = c.args in a.value * c.radix_of-radix.result ≤ 4294967295 * 16
+product c = product-most c.args.value _ (omega arith) (rw c.radix_of-radix.ensures (base-most c.args.seen))
 
-mul_next : tie.Need-overflow-mul-next
+mul_next : tie.Need-overflow_mul-next
 mul_next c = omega (arith, product c)
 
-add-next : tie.Need-overflow-add-next
+add-next : tie.Need-overflow_add-next
 add-next c = omega (arith, product c)
 
-returns-2 : tie.Need-returns-2
+returns-2 : tie.Need-returns-then-next-gt4294967295
 unfolding raised
 returns-2 c =
-    let r = c.before.before in
-    let over : 2 ^ 32 ≤ r.before.args.value * r.radix-of.result + r.before.args.digit = omega (arith, c.if2.true) in
-    rw (← r.radix-of.ensures, lt-ltb _ _ c.before.if1.false, le-ltb _ _ over)
+    let r = c in
+    let over : 2 ^ 32 ≤ r.args.value * r.radix_of-radix.result + r.args.digit = omega (arith, c.if-next-gt4294967295.true) in
+    rw (← r.radix_of-radix.ensures, lt-ltb _ _ c.if-radix-digit.false, le-ltb _ _ over)
 
-cast-t13 : tie.Need-overflow-cast-t13
+cast-t13 : tie.Need-overflow_cast-result
 cast-t13 c = search rules
 
-returns-3 : tie.Need-returns-3
+returns-3 : tie.Need-returns
 unfolding raised
 returns-3 c =
-    let r = c.before.before in
-    let fits : r.before.args.value * r.radix-of.result + r.before.args.digit < 2 ^ 32 = omega (arith, c.if2.false) in
-    rw (← r.radix-of.ensures, lt-ltb _ _ c.before.if1.false, lt-ltb _ _ fits)
+    let r = c in
+    let fits : r.args.value * r.radix_of-radix.result + r.args.digit < 2 ^ 32 = omega (arith, c.if-next-gt4294967295.false) in
+    rw (← r.radix_of-radix.ensures, lt-ltb _ _ c.if-radix-digit.false, lt-ltb _ _ fits)
 
-pub raise-spec : {M : Type 1} → statement M
-raise-spec =
+pub raise_spec : {M : Type 1} → statement M
+raise_spec =
     tie.close
     (tie.spec radix-of-requires returns cast-next mul_next add-next returns-2 cast-t13 returns-3)

@@ -6,19 +6,19 @@ use borrow.Author.Rules.{rules}
 use Rattle.comparer.proofs.blocks.is_front.Statement.{statement}
 use Rattle.comparer.proofs.blocks.is_front.Tie as tie
 
-returns : tie.Need-returns
+returns : tie.Need-returns-then-cells-n
 returns c = λ e. absurd (false≢true e)
 
-slice-aggregate-reads-as : tie.Need-slice-aggregate-reads-as
+slice-aggregate-reads-as : tie.Need-slice_bounds-reads_as-end
 slice-aggregate-reads-as c =
-    let a = c.before.before.before.before.args in
+    let a = c.args in
     sym (length-take-le a.n a.cells.now (omega arith))
 
-returns-2 : tie.Need-returns-2
+returns-2 : tie.Need-returns
 returns-2 c = λ e. sym c.reads_as.ensures ∙ e
 
-pub is-front-spec : {M : Type 1} → statement M
-is-front-spec =
+pub is_front_spec : {M : Type 1} → statement M
+is_front_spec =
     tie.close
     (tie.spec
     returns

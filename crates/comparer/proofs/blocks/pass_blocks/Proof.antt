@@ -4,14 +4,14 @@ use borrow.Author.Rules.{rules}
 use Rattle.comparer.proofs.blocks.pass_blocks.Statement.{statement}
 use Rattle.comparer.proofs.blocks.pass_blocks.Tie as tie
 
-abbrev invariant-loop : tie.invariant-loop
+abbrev invariant-loop : tie.invariant-loop-at
 invariant-loop text from count left₀ at₀ left at = (from ≤ at) × (at ≤ length text)
 
-abbrev decreases-loop : tie.decreases-loop
+abbrev decreases-loop : tie.decreases-loop-at
 decreases-loop text from count left₀ at₀ left at = length text - at
 
-pub pass-blocks-spec : {M : Type 1} → statement M
-pass-blocks-spec =
+pub pass_blocks_spec : {M : Type 1} → statement M
+pass_blocks_spec =
     tie.close
     (tie.spec
     invariant-loop

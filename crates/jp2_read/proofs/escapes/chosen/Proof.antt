@@ -1,11 +1,11 @@
 use Rattle.jp2_read.proofs.escapes.chosen.Statement.{statement}
 use Rattle.jp2_read.proofs.escapes.chosen.Tie as tie
 
-returns : tie.Need-returns
-returns c = rw c.if1.true
+returns : tie.Need-returns-then-t
+returns c = rw c.if-t.true
 
-returns-2 : tie.Need-returns-2
-returns-2 c = rw c.if1.false
+returns-2 : tie.Need-returns
+returns-2 c = rw c.if-t.false
 
-pub chosen-spec : {M : Type 1} → statement M
-chosen-spec = tie.close (tie.spec returns returns-2)
+pub chosen_spec : {M : Type 1} → statement M
+chosen_spec = tie.close (tie.spec returns returns-2)

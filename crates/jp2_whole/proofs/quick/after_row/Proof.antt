@@ -8,41 +8,41 @@ use Rattle.jp2_whole.proofs.Laying.{goes_of}
 use Rattle.jp2_whole.proofs.quick.after_row.Statement.{statement}
 use Rattle.jp2_whole.proofs.quick.after_row.Tie as tie
 
-row-at-requires : tie.Need-row-at-requires
+row-at-requires : tie.Need-row_at-d-requires
 row-at-requires c κs = search rules
 
-returns : tie.Need-returns
-returns c = (goes_of (stride-stay (omega (arith, c.before.before.before.requires.0))), refl)
+returns : tie.Need-returns-then-d-eq0
+returns c = (goes_of (stride-stay (omega (arith, c.requires.0))), refl)
 
 row :
-    (c : tie.Else1) →
-    let a = c.before.before.before.args in
-    Stands a.text.now a.from.at c.before.row_at.result
-row c = row-stands c.before.before.before.args.text.now c.before.before.before.args.from.at c.before.row_at.ensures c.if1.false
+    (c : tie.Else-d-eq0) →
+    let a = c.args in
+    Stands a.text.now a.from.at c.row_at-d.result
+row c = row-stands c.args.text.now c.args.from.at c.row_at-d.ensures c.if-d-eq0.false
 
-cast-t6 : tie.Need-overflow-cast-t6
+cast-t6 : tie.Need-overflow_cast-result
 cast-t6 c = search rules
 
-add-t7 : tie.Need-overflow-add-t7
+add-t7 : tie.Need-overflow_add-result
 add-t7 c =
     let r = row c.before in
-    omega (arith, r.1.0, (code-length r.1.1).1, c.before.before.before.before.well-formed)
+    omega (arith, r.1.0, (code-length r.1.1).1, c.well_formed)
 
-g0-after-requires : tie.Need-g0-after-requires
+g0-after-requires : tie.Need-g0_after-requires
 g0-after-requires c κs = search rules
 
-g2-after-requires : tie.Need-g2-after-requires
+g2-after-requires : tie.Need-g2_after-requires
 g2-after-requires c κs = search rules
 
-returns-2 : tie.Need-returns-2
+returns-2 : tie.Need-returns
 returns-2 c =
     let r = row c.before.before.before in (
-      rw (c.before.g0-after.ensures, c.g2-after.ensures) (goes_of (designation-stride _ _ r)),
+      rw (c.g0_after.ensures, c.g2_after.ensures) (goes_of (designation-stride _ _ r)),
       refl,
     )
 
-pub after-row-spec : {M : Type 1} → statement M
-after-row-spec =
+pub after_row_spec : {M : Type 1} → statement M
+after_row_spec =
     tie.close
     (tie.spec
     row-at-requires

@@ -1,11 +1,11 @@
 use Rattle.jp2_whole.proofs.quick.both.Statement.{statement}
 use Rattle.jp2_whole.proofs.quick.both.Tie as tie
 
-returns : tie.Need-returns
-returns c = rw c.if1.true
+returns : tie.Need-returns-then-s
+returns c = rw c.if-s.true
 
-returns-2 : tie.Need-returns-2
-returns-2 c = rw c.if1.false
+returns-2 : tie.Need-returns
+returns-2 c = rw c.if-s.false
 
-pub both-spec : {M : Type 1} → statement M
-both-spec = tie.close (tie.spec returns returns-2)
+pub both_spec : {M : Type 1} → statement M
+both_spec = tie.close (tie.spec returns returns-2)

@@ -6,32 +6,32 @@ use borrow.Author.Tests.{eq-eqb, ne_eqb}
 use Rattle.jp2_whole.proofs.quick.cleared.Statement.{statement}
 use Rattle.jp2_whole.proofs.quick.cleared.Tie as tie
 
-shared-slice-read-if1 : tie.Need-shared-slice-read-if1
+shared-slice-read-if1 : tie.Need-bounds-text-at
 shared-slice-read-if1 c = search rules
 
-returns : tie.Need-returns
-returns c = rw (ne_eqb _ _ c.if1.true)
+returns : tie.Need-returns-then-text-at-ne13
+returns c = rw (ne_eqb _ _ c.if-text-at-ne13.true)
 
-add-if2 : tie.Need-overflow-add-if2
+add-if2 : tie.Need-overflow_add-at
 add-if2 c = search rules
 
-returns-2 : tie.Need-returns-2
-returns-2 c = rw (eq-eqb _ _ c.before.if1.false, get_or-eq_default c.before.before.before.args.text.now 0 {n = c.before.before.before.args.at + 1} (omega (arith, c.if2.true)))
+returns-2 : tie.Need-returns-then-text-at
+returns-2 c = rw (eq-eqb _ _ c.if-text-at-ne13.false, get_or-eq_default c.args.text.now 0 {n = c.args.at + 1} (omega (arith, c.if-text-at.true)))
 
-add-if3 : tie.Need-overflow-add-if3
+add-if3 : tie.Need-overflow_add-at-2
 add-if3 c = search rules
 
-shared-slice-read-if3 : tie.Need-shared-slice-read-if3
+shared-slice-read-if3 : tie.Need-bounds-text-at-2
 shared-slice-read-if3 c = search rules
 
-returns-3 : tie.Need-returns-3
-returns-3 c = rw (eq-eqb _ _ c.before.before.before.if1.false, eq-eqb _ _ c.if3.true)
+returns-3 : tie.Need-returns-then-text-at-eq10
+returns-3 c = rw (eq-eqb _ _ c.if-text-at-ne13.false, eq-eqb _ _ c.if-text-at-eq10.true)
 
-returns-4 : tie.Need-returns-4
-returns-4 c = rw (eq-eqb _ _ c.before.before.before.if1.false, ne_eqb _ _ c.if3.false)
+returns-4 : tie.Need-returns
+returns-4 c = rw (eq-eqb _ _ c.if-text-at-ne13.false, ne_eqb _ _ c.if-text-at-eq10.false)
 
-pub cleared-spec : {M : Type 1} → statement M
-cleared-spec =
+pub cleared_spec : {M : Type 1} → statement M
+cleared_spec =
     tie.close
     (tie.spec
     shared-slice-read-if1

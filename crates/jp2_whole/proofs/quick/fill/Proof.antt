@@ -11,102 +11,102 @@ use Rattle.jp2_whole.proofs.Laying.{laying-start, laying-one, laying-more}
 use Rattle.jp2_whole.proofs.quick.fill.Statement.{statement}
 use Rattle.jp2_whole.proofs.quick.fill.Tie as tie
 
-abbrev invariant-loop : tie.invariant-loop
+abbrev invariant-loop : tie.invariant-loop-at
 invariant-loop text out₀ at₀ n₀ g0₀ g2₀ next₀ to out at n g0 g2 next =
     Laying text at₀ g0₀ g2₀ n₀ out₀ at g0 g2 n out × ((n + (to - at) ≤ length out) × (to ≤ length text))
 
-abbrev decreases-loop : tie.decreases-loop
+abbrev decreases-loop : tie.decreases-loop-at
 decreases-loop text out₀ at₀ n₀ g0₀ g2₀ next₀ to out at n g0 g2 next = length text - at
 
-sub-reach : tie.Need-overflow-sub-reach invariant-loop decreases-loop
+sub-reach : tie.Need-overflow_sub-out invariant-loop decreases-loop
 sub-reach c = search rules
 
-reach-requires : tie.Need-reach-requires invariant-loop decreases-loop
-reach-requires c κs = c.before.before.requires.0
+reach-requires : tie.Need-reach-to-requires invariant-loop decreases-loop
+reach-requires c κs = c.requires.0
 
-loop-holds : tie.Need-loop-init invariant-loop decreases-loop
+loop-holds : tie.Need-loop-at-init invariant-loop decreases-loop
 loop-holds c =
-    let p = c.before.before.before.requires in
-    let r = c.reach.ensures in
+    let p = c.requires in
+    let r = c.reach-to.ensures in
     (laying-start p.0 p.1, (omega (arith, r.0, r.1.1, p.1), r.1.0))
 
 -- there is a byte, and a place for its cell
-byte : (c : tie.In-loop invariant-loop decreases-loop) → c.before.loop.at < length c.before.before.before.before.before.args.text.now
-byte c = omega (arith, c.loop-test.true, c.before.loop.invariant.1.1)
+byte : (c : tie.In-loop-at invariant-loop decreases-loop) → c.loop-at.at < length c.args.text.now
+byte c = omega (arith, c.loop-at-test.true, c.loop-at.invariant.1.1)
 
-place : (c : tie.In-loop invariant-loop decreases-loop) → c.before.loop.n < length c.before.loop.out
-place c = omega (arith, c.loop-test.true, c.before.loop.invariant.1.0)
+place : (c : tie.In-loop-at invariant-loop decreases-loop) → c.loop-at.n < length c.loop-at.out
+place c = omega (arith, c.loop-at-test.true, c.loop-at.invariant.1.0)
 
-shared-slice-read-b : tie.Need-shared-slice-read-b invariant-loop decreases-loop
+shared-slice-read-b : tie.Need-bounds-text-at invariant-loop decreases-loop
 shared-slice-read-b c = byte c.before
 
-is-lone-requires : tie.Need-is-lone-requires invariant-loop decreases-loop
+is-lone-requires : tie.Need-is_lone-requires invariant-loop decreases-loop
 is-lone-requires c κs = search rules
 
-single-cell-requires : tie.Need-single-cell-requires invariant-loop decreases-loop
+single-cell-requires : tie.Need-single_cell-requires invariant-loop decreases-loop
 single-cell-requires c κs = search rules
 
 lone :
-    (c : tie.After-single-cell invariant-loop decreases-loop) →
+    (c : tie.After-single_cell invariant-loop decreases-loop) →
     let l = c.before.before.before.before.before in
-    Stride jp2 c.before.before.before.before.before.before.before.before.before.args.text.now l.loop.at (state l.loop.g0 l.loop.g2 plain) (l.loop.at + 1) (c.single-cell.result ∷ []) (state l.loop.g0 l.loop.g2 plain)
+    Stride jp2 c.args.text.now l.loop-at.at (state l.loop-at.g0 l.loop-at.g2 plain) (l.loop-at.at + 1) (c.single_cell.result ∷ []) (state l.loop-at.g0 l.loop-at.g2 plain)
 lone c =
-    let b = c.before.before.is-lone.ensures c.before.if1.true in
-    rw c.single-cell.ensures (high-stride (byte c.before.before.before.before) b.1 b.0.0 b.0.1)
+    let b = c.is_lone.ensures c.if-is_lone.true in
+    rw c.single_cell.ensures (high-stride (byte c.before.before.before.before) b.1 b.0.0 b.0.1)
 
-mul-out : tie.Need-overflow-mul-out invariant-loop decreases-loop
-mul-out c = omega (arith, place c.before.before.before.before, c.before.before.before.before.before.loop.invariant.0.laid.same, c.before.before.before.before.before.before.before.before.before.well-formed)
+mul-out : tie.Need-offset_bounds-out-n invariant-loop decreases-loop
+mul-out c = omega (arith, place c.before.before.before.before, c.loop-at.invariant.0.laid.same, c.well_formed)
 
-slice-write-out : tie.Need-slice-write-out invariant-loop decreases-loop
+slice-write-out : tie.Need-bounds-out-n invariant-loop decreases-loop
 slice-write-out c = place c.before.before.before.before
 
-add-n : tie.Need-overflow-add-n invariant-loop decreases-loop
-add-n c = omega (arith, place c.before.before.before.before, c.before.before.before.before.before.loop.invariant.0.laid.same, c.before.before.before.before.before.before.before.before.before.well-formed)
+add-n : tie.Need-overflow_add-n invariant-loop decreases-loop
+add-n c = omega (arith, place c.before.before.before.before, c.loop-at.invariant.0.laid.same, c.well_formed)
 
-add_at : tie.Need-overflow-add-at invariant-loop decreases-loop
-add_at c = omega (arith, byte c.before.before.before.before, c.before.before.before.before.before.before.before.before.before.well-formed)
+add_at : tie.Need-overflow_add-at invariant-loop decreases-loop
+add_at c = omega (arith, byte c.before.before.before.before, c.well_formed)
 
-loop-less : tie.Need-loop-smaller invariant-loop decreases-loop
+loop-less : tie.Need-loop-at-smaller-then-is_lone invariant-loop decreases-loop
 loop-less c = omega (arith, byte c.before.before.before.before)
 
-loop-again : tie.Need-loop-preserved invariant-loop decreases-loop
+loop-again : tie.Need-loop-at-preserved-then-is_lone invariant-loop decreases-loop
 loop-again c =
-    let i = c.before.before.before.before.before.loop.invariant in
+    let i = c.loop-at.invariant in
     let p = laying-one i.0 (lone c) (place c.before.before.before.before) in
-    (p, (omega (arith, i.1.0, c.before.before.before.before.loop-test.true, i.0.laid.same, p.laid.same), i.1.1))
+    (p, (omega (arith, i.1.0, c.loop-at-test.true, i.0.laid.same, p.laid.same), i.1.1))
 
-put-token-requires : tie.Need-put-token-requires invariant-loop decreases-loop
+put-token-requires : tie.Need-put_token-r-requires invariant-loop decreases-loop
 put-token-requires c κs =
-    let i = c.before.before.before.before.before.loop.invariant in
-    record { byte = c.before.before.before.before.loop-test.true; within = i.1.1; places = i.1.0 }
+    let i = c.loop-at.invariant in
+    record { byte = c.loop-at-test.true; within = i.1.1; places = i.1.0 }
 
 more :
-    (c : tie.After-put-token invariant-loop decreases-loop) →
-    let a = c.before.before.before.before.before.before.before.before.before.before.args in
-    let r = c.put-token.result in
-    Laying a.text.now a.from.at a.from.g0 a.from.g2 a.from.n a.out.now r.at r.g0 r.g2 r.n c.put-token.new.1.1.1.0
-more c = laying-more c.before.before.before.before.before.before.loop.invariant.0 c.put-token.ensures.0
+    (c : tie.After-put_token-r invariant-loop decreases-loop) →
+    let a = c.args in
+    let r = c.put_token-r.result in
+    Laying a.text.now a.from.at a.from.g0 a.from.g2 a.from.n a.out.now r.at r.g0 r.g2 r.n c.put_token-r.new.out
+more c = laying-more c.loop-at.invariant.0 c.put_token-r.ensures.0
 
-same_length : tie.Need-same-length invariant-loop decreases-loop
+same_length : tie.Need-shape_of-out-then-r-at invariant-loop decreases-loop
 same_length c = (more c.before.before.before.before).laid.same
 
-returns : tie.Need-returns invariant-loop decreases-loop
+returns : tie.Need-returns-then-r-at invariant-loop decreases-loop
 returns c = more c.before.before.before.before
 
-add-next : tie.Need-overflow-add-next invariant-loop decreases-loop
-add-next c = omega (arith, (more c.before.before.before.before).goes.within, c.before.before.before.before.before.before.before.before.before.before.before.before.before.before.well-formed)
+add-next : tie.Need-overflow_add-next invariant-loop decreases-loop
+add-next c = omega (arith, (more c.before.before.before.before).goes.within, c.well_formed)
 
-loop-less-2 : tie.Need-loop-smaller-2 invariant-loop decreases-loop
-loop-less-2 c = omega (arith, c.if2.false, byte c.before.before.before.before.before.before.before.before.before)
+loop-less-2 : tie.Need-loop-at-smaller invariant-loop decreases-loop
+loop-less-2 c = omega (arith, c.if-r-at.false, byte c.before.before.before.before.before.before.before.before.before)
 
-loop-again-2 : tie.Need-loop-preserved-2 invariant-loop decreases-loop
-loop-again-2 c = (more c.before.before.before.before, (c.before.before.before.before.put-token.ensures.1, c.before.before.before.before.before.before.before.before.before.before.loop.invariant.1.1))
+loop-again-2 : tie.Need-loop-at-preserved invariant-loop decreases-loop
+loop-again-2 c = (more c.before.before.before.before, (c.put_token-r.ensures.1, c.loop-at.invariant.1.1))
 
-same-length-2 : tie.Need-same-length-2 invariant-loop decreases-loop
-same-length-2 c = c.before.loop.invariant.0.laid.same
+same-length-2 : tie.Need-shape_of-out invariant-loop decreases-loop
+same-length-2 c = c.loop-at.invariant.0.laid.same
 
-returns-2 : tie.Need-returns-2 invariant-loop decreases-loop
-returns-2 c = c.before.loop.invariant.0
+returns-2 : tie.Need-returns invariant-loop decreases-loop
+returns-2 c = c.loop-at.invariant.0
 
 pub fill_spec : {M : Type 1} → statement M
 fill_spec =

@@ -9,41 +9,41 @@ use Rattle.jp2_whole.proofs.Tokens.{each_more}
 use Rattle.jp2_whole.proofs.quick.is_code_block.Statement.{statement}
 use Rattle.jp2_whole.proofs.quick.is_code_block.Tie as tie
 
-abbrev invariant-loop : tie.invariant-loop
+abbrev invariant-loop : tie.invariant-loop-k
 invariant-loop text at ok₀ k₀ ok k = (k ≤ 16) × (ok ≡ true → (i : ℕ) → at ≤ i → i < at + k → graphic (get_or text i 0) ≡ true)
 
-abbrev decreases-loop : tie.decreases-loop
+abbrev decreases-loop : tie.decreases-loop-k
 decreases-loop text at ok₀ k₀ ok k = 16 - k
 
-loop-holds : tie.Need-loop-init invariant-loop decreases-loop
+loop-holds : tie.Need-loop-k-init invariant-loop decreases-loop
 loop-holds c = (omega arith, λ e i h k. absurd (omega arith))
 
-add-is-code : tie.Need-overflow-add-is-code invariant-loop decreases-loop
+add-is-code : tie.Need-overflow_add-at invariant-loop decreases-loop
 add-is-code c = search rules
 
-shared-slice-read-is-code : tie.Need-shared-slice-read-is-code invariant-loop decreases-loop
+shared-slice-read-is-code : tie.Need-bounds-text-at invariant-loop decreases-loop
 shared-slice-read-is-code c = search rules
 
-is-code-requires : tie.Need-is-code-requires invariant-loop decreases-loop
+is-code-requires : tie.Need-is_code-requires invariant-loop decreases-loop
 is-code-requires c κs = search rules
 
-both-requires : tie.Need-both-requires invariant-loop decreases-loop
+both-requires : tie.Need-both-ok-requires invariant-loop decreases-loop
 both-requires c κs = search rules
 
-add-k : tie.Need-overflow-add-k invariant-loop decreases-loop
+add-k : tie.Need-overflow_step-k invariant-loop decreases-loop
 add-k c = search rules
 
-loop-less : tie.Need-loop-smaller invariant-loop decreases-loop
+loop-less : tie.Need-loop-k-smaller invariant-loop decreases-loop
 loop-less c = search rules
 
-loop-again : tie.Need-loop-preserved invariant-loop decreases-loop
-loop-again c = (omega arith, λ e. each_more graphic c.before.before.before.before.before.before.args.text.now _ _ c.before.before.before.before.loop.invariant.1 (sym c.both.ensures ∙ e) c.before.is_code.ensures)
+loop-again : tie.Need-loop-k-preserved invariant-loop decreases-loop
+loop-again c = (omega arith, λ e. each_more graphic c.args.text.now _ _ c.loop-k.invariant.1 (sym c.both-ok.ensures ∙ e) c.is_code.ensures)
 
 returns : tie.Need-returns invariant-loop decreases-loop
-returns c = λ e. record { ordered = omega arith; within = c.before.before.before.requires; each = λ i l m. c.before.loop.invariant.1 e i l (omega (arith, c.before.loop.invariant.0)) }
+returns c = λ e. record { ordered = omega arith; within = c.requires; each = λ i l m. c.loop-k.invariant.1 e i l (omega (arith, c.loop-k.invariant.0)) }
 
-pub is-code-block-spec : {M : Type 1} → statement M
-is-code-block-spec =
+pub is_code_block_spec : {M : Type 1} → statement M
+is_code_block_spec =
     tie.close
     (tie.spec
     invariant-loop

@@ -5,35 +5,35 @@ use borrow.Author.Rules.{rules}
 use Rattle.jp2_whole.proofs.quick.is_shift.Statement.{statement}
 use Rattle.jp2_whole.proofs.quick.is_shift.Tie as tie
 
-add-if1 : tie.Need-overflow-add-if1
+add-if1 : tie.Need-overflow_add-at
 add-if1 c = search rules
 
-returns : tie.Need-returns
+returns : tie.Need-returns-then-text-at
 returns c = λ e. absurd (false≢true e)
 
-add-if2 : tie.Need-overflow-add-if2
+add-if2 : tie.Need-overflow_add-at-2
 add-if2 c = search rules
 
-shared-slice-read-if2 : tie.Need-shared-slice-read-if2
+shared-slice-read-if2 : tie.Need-bounds-text-at
 shared-slice-read-if2 c = search rules
 
-returns-2 : tie.Need-returns-2
+returns-2 : tie.Need-returns-then-text-at-ne78
 returns-2 c = λ e. absurd (false≢true e)
 
-add-is-shifted : tie.Need-overflow-add-is-shifted
+add-is-shifted : tie.Need-overflow_add-at-3
 add-is-shifted c = search rules
 
-shared-slice-read-is-shifted : tie.Need-shared-slice-read-is-shifted
+shared-slice-read-is-shifted : tie.Need-bounds-text-at-2
 shared-slice-read-is-shifted c = search rules
 
-is-shifted-requires : tie.Need-is-shifted-requires
+is-shifted-requires : tie.Need-is_shifted-requires
 is-shifted-requires c κs = search rules
 
-returns-3 : tie.Need-returns-3
-returns-3 c = λ e. record { within = omega (arith, c.before.before.before.before.if1.false); letter = c.before.before.if2.false; code = sym c.is-shifted.ensures ∙ e }
+returns-3 : tie.Need-returns
+returns-3 c = λ e. record { within = omega (arith, c.if-text-at.false); letter = c.if-text-at-ne78.false; code = sym c.is_shifted.ensures ∙ e }
 
-pub is-shift-spec : {M : Type 1} → statement M
-is-shift-spec =
+pub is_shift_spec : {M : Type 1} → statement M
+is_shift_spec =
     tie.close
     (tie.spec
     add-if1

@@ -8,51 +8,51 @@ use Rattle.answer.proofs.Laid.{Laid, laid_none, laid_next}
 use Rattle.jp2_whole.proofs.quick.put_cells.Statement.{statement}
 use Rattle.jp2_whole.proofs.quick.put_cells.Tie as tie
 
-abbrev invariant-loop : tie.invariant-loop
+abbrev invariant-loop : tie.invariant-loop-k
 invariant-loop out₀ n x k₀ out k = (k ≤ 16) × Laid (take k x) n out₀ out
 
-abbrev decreases-loop : tie.decreases-loop
+abbrev decreases-loop : tie.decreases-loop-k
 decreases-loop out₀ n x k₀ out k = 16 - k
 
-loop-holds : tie.Need-loop-init invariant-loop decreases-loop
+loop-holds : tie.Need-loop-k-init invariant-loop decreases-loop
 loop-holds c = (omega arith, laid_none _ _)
 
-mul-out : tie.Need-overflow-mul-out invariant-loop decreases-loop
+mul-out : tie.Need-offset_bounds-x-k invariant-loop decreases-loop
 mul-out c = search rules
 
-array-read-out : tie.Need-array-read-out invariant-loop decreases-loop
+array-read-out : tie.Need-bounds-x-k invariant-loop decreases-loop
 array-read-out c = search rules
 
-add-out : tie.Need-overflow-add-out invariant-loop decreases-loop
+add-out : tie.Need-overflow_add-out invariant-loop decreases-loop
 add-out c = search rules
 
-mul-out-2 : tie.Need-overflow-mul-out-2 invariant-loop decreases-loop
+mul-out-2 : tie.Need-offset_bounds-out-n invariant-loop decreases-loop
 mul-out-2 c = search rules
 
-slice-write-out : tie.Need-slice-write-out invariant-loop decreases-loop
-slice-write-out c = omega (arith, c.before.loop.invariant.1.same)
+slice-write-out : tie.Need-bounds-out-n invariant-loop decreases-loop
+slice-write-out c = omega (arith, c.loop-k.invariant.1.same)
 
-add-k : tie.Need-overflow-add-k invariant-loop decreases-loop
+add-k : tie.Need-overflow_step-k invariant-loop decreases-loop
 add-k c = search rules
 
-loop-less : tie.Need-loop-smaller invariant-loop decreases-loop
+loop-less : tie.Need-loop-k-smaller invariant-loop decreases-loop
 loop-less c = search rules
 
-loop-again : tie.Need-loop-preserved invariant-loop decreases-loop
-loop-again c = let l = c.before in
-    (omega arith, laid_next l.before.args.t1 l.loop.k l.loop.invariant.1 (omega arith) (omega (arith, l.loop.invariant.1.same)))
+loop-again : tie.Need-loop-k-preserved invariant-loop decreases-loop
+loop-again c = let l = c in
+    (omega arith, laid_next l.args.x l.loop-k.k l.loop-k.invariant.1 (omega arith) (omega (arith, l.loop-k.invariant.1.same)))
 
-same_length : tie.Need-same-length invariant-loop decreases-loop
-same_length c = c.before.loop.invariant.1.same
+same_length : tie.Need-shape_of-out invariant-loop decreases-loop
+same_length c = c.loop-k.invariant.1.same
 
 returns : tie.Need-returns invariant-loop decreases-loop
-returns c = let l = c.before.loop in
-    let s = c.before.before in
-    let e : take l.k s.args.t1 ≡ s.args.t1 = take_all l.k s.args.t1 (omega (arith, s.requires.0, c.loop-test.false)) in
+returns c = let l = c.loop-k in
+    let s = c in
+    let e : take l.k s.args.x ≡ s.args.x = take_all l.k s.args.x (omega (arith, s.requires.0, c.loop-k-test.false)) in
     rw e at l.invariant.1
 
-pub put-cells-spec : {M : Type 1} → statement M
-put-cells-spec =
+pub put_cells_spec : {M : Type 1} → statement M
+put_cells_spec =
     tie.close
     (tie.spec
     invariant-loop

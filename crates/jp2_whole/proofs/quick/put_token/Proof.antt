@@ -23,98 +23,98 @@ place c = omega (arith, c.requires.byte, c.requires.places)
 stays : (c : tie.Start) → let f = c.args.from in Laying c.args.text.now f.at f.g0 f.g2 f.n c.args.out.now f.at f.g0 f.g2 f.n c.args.out.now
 stays c = laying-start (omega (arith, byte c)) (omega (arith, place c))
 
-shared-slice-read-b : tie.Need-shared-slice-read-b
+shared-slice-read-b : tie.Need-bounds-text-at
 shared-slice-read-b c = byte c.before.before.before
 
-is-shift-requires : tie.Need-is-shift-requires
+is-shift-requires : tie.Need-is_shift-requires
 is-shift-requires c κs = byte c.before.before.before.before
 
-put-shift-requires : tie.Need-put-shift-requires
-put-shift-requires c κs = (c.before.before.is-shift.ensures c.before.if2.true, c.before.before.before.if1.true, place c.before.before.before.before.before.before.before)
+put-shift-requires : tie.Need-put_shift-requires
+put-shift-requires c κs = (c.is_shift.ensures c.if-is_shift.true, c.if-b-eq27.true, place c.before.before.before.before.before.before.before)
 
-same_length : tie.Need-same-length
-same_length c = c.before.before.put-shift.ensures.laid.same
+same_length : tie.Need-shape_of-out-then-is_shift
+same_length c = c.put_shift.ensures.laid.same
 
-returns : tie.Need-returns
+returns : tie.Need-returns-then-is_shift
 returns c =
-    let p = c.before.before.put-shift.ensures in
-    (p, omega (arith, c.before.before.before.before.before.before.before.before.before.before.requires.byte, c.before.before.before.before.before.before.before.before.before.before.requires.places, p.laid.same, p.goes.few, p.count, p.fits))
+    let p = c.put_shift.ensures in
+    (p, omega (arith, c.requires.byte, c.requires.places, p.laid.same, p.goes.few, p.count, p.fits))
 
-after-row-requires : tie.Need-after-row-requires
-after-row-requires c κs = (byte c.before.before.before.before.before.before, c.before.before.if1.true)
+after-row-requires : tie.Need-after_row-requires
+after-row-requires c κs = (byte c.before.before.before.before.before.before, c.if-b-eq27.true)
 
-returns-2 : tie.Need-returns-2
+returns-2 : tie.Need-returns-then-b-eq27
 returns-2 c =
-    let e = c.after-row.ensures in
+    let e = c.after_row.ensures in
     let g = e.0 in
-    (rw e.1 (laying-none (stays c.before.before.before.before.before.before.before) (stride-of g)), omega (arith, c.before.before.before.before.before.before.before.requires.byte, c.before.before.before.before.before.before.before.requires.places, e.1, g.few))
+    (rw e.1 (laying-none (stays c.before.before.before.before.before.before.before) (stride-of g)), omega (arith, c.requires.byte, c.requires.places, e.1, g.few))
 
-is-single-requires : tie.Need-is-single-requires
+is-single-requires : tie.Need-is_single-requires
 is-single-requires c κs = search rules
 
-is-plain-requires : tie.Need-is-plain-requires
+is-plain-requires : tie.Need-is_plain-requires
 is-plain-requires c κs = search rules
 
-put-single-requires : tie.Need-put-single-requires
-put-single-requires c κs = (c.before.before.before.before.before.before.before.before.before.requires, (sym c.before.before.before.before.is-single.ensures ∙ c.before.before.before.if3.true, sym c.before.before.is_plain.ensures ∙ c.before.if4.true))
+put-single-requires : tie.Need-put_single-requires
+put-single-requires c κs = (c.requires, (sym c.is_single.ensures ∙ c.if-is_single.true, sym c.is_plain.ensures ∙ c.if-is_plain.true))
 
-same-length-2 : tie.Need-same-length-2
-same-length-2 c = c.before.before.put-single.ensures.0.laid.same
+same-length-2 : tie.Need-shape_of-out-then-is_plain
+same-length-2 c = c.put_single.ensures.0.laid.same
 
-returns-3 : tie.Need-returns-3
-returns-3 c = c.before.before.put-single.ensures
+returns-3 : tie.Need-returns-then-is_plain
+returns-3 c = c.put_single.ensures
 
-returns-4 : tie.Need-returns-4
-returns-4 c = (stays c.before.before.before.before.before.before.before.before, c.before.before.before.before.before.before.before.before.requires.places)
+returns-4 : tie.Need-returns-then-is_single
+returns-4 c = (stays c.before.before.before.before.before.before.before.before, c.requires.places)
 
-is-pair-requires : tie.Need-is-pair-requires
+is-pair-requires : tie.Need-is_pair-requires
 is-pair-requires c κs = byte c.before.before.before.before.before.before
 
-two : (c : tie.Then5) → c.before.before.before.before.before.before.before.before.args.from.at + 1 < length c.before.before.before.before.before.before.before.before.args.text.now
-two c = (c.before.is-pair.ensures c.if5.true).within
+two : (c : tie.Then-is_pair) → c.args.from.at + 1 < length c.args.text.now
+two c = (c.is_pair.ensures c.if-is_pair.true).within
 
-add-pair-cell : tie.Need-overflow-add-pair-cell
-add-pair-cell c = omega (arith, two c, c.before.before.before.before.before.before.before.before.well-formed)
+add-pair-cell : tie.Need-overflow_add-at
+add-pair-cell c = omega (arith, two c, c.well_formed)
 
-shared-slice-read-pair-cell : tie.Need-shared-slice-read-pair-cell
+shared-slice-read-pair-cell : tie.Need-bounds-text-at-then-is_pair
 shared-slice-read-pair-cell c = two c.before
 
-pair-cell-requires : tie.Need-pair-cell-requires
+pair-cell-requires : tie.Need-pair_cell-requires
 pair-cell-requires c κs = search rules
 
 pair :
-    (c : tie.After-pair-cell) →
-    let f = c.before.before.before.before.before.before.before.before.before.before.args.from in
-    Stride jp2 c.before.before.before.before.before.before.before.before.before.before.args.text.now f.at (state f.g0 f.g2 plain) (f.at + 2) (c.pair-cell.result ∷ []) (state f.g0 f.g2 plain)
+    (c : tie.After-pair_cell) →
+    let f = c.args.from in
+    Stride jp2 c.args.text.now f.at (state f.g0 f.g2 plain) (f.at + 2) (c.pair_cell.result ∷ []) (state f.g0 f.g2 plain)
 pair c =
-    rw c.pair-cell.ensures
-    (pair-stride (sym c.before.before.before.before.before.is-single.ensures ∙ c.before.before.before.before.if3.false) (c.before.before.before.is-pair.ensures c.before.before.if5.true))
+    rw c.pair_cell.ensures
+    (pair-stride (sym c.is_single.ensures ∙ c.if-is_single.false) (c.is_pair.ensures c.if-is_pair.true))
 
-mul-out : tie.Need-overflow-mul-out
-mul-out c = omega (arith, place c.before.before.before.before.before.before.before.before.before.before, c.before.before.before.before.before.before.before.before.before.before.well-formed)
+mul-out : tie.Need-offset_bounds-out-n
+mul-out c = omega (arith, place c.before.before.before.before.before.before.before.before.before.before, c.well_formed)
 
-slice-write-out : tie.Need-slice-write-out
+slice-write-out : tie.Need-bounds-out-n
 slice-write-out c = place c.before.before.before.before.before.before.before.before.before.before
 
-add-t22 : tie.Need-overflow-add-t22
-add-t22 c = omega (arith, two c.before.before, c.before.before.before.before.before.before.before.before.before.before.well-formed)
+add-t22 : tie.Need-overflow_add-result
+add-t22 c = omega (arith, two c.before.before, c.well_formed)
 
-add-t25 : tie.Need-overflow-add-t25
-add-t25 c = omega (arith, place c.before.before.before.before.before.before.before.before.before.before, c.before.before.before.before.before.before.before.before.before.before.well-formed)
+add-t25 : tie.Need-overflow_add-result-then-is_pair
+add-t25 c = omega (arith, place c.before.before.before.before.before.before.before.before.before.before, c.well_formed)
 
-same-length-3 : tie.Need-same-length-3
+same-length-3 : tie.Need-shape_of-out-then-is_pair
 same-length-3 c = (laying-one (stays c.before.before.before.before.before.before.before.before.before.before) (pair c) (place c.before.before.before.before.before.before.before.before.before.before)).laid.same
 
-returns-5 : tie.Need-returns-5
+returns-5 : tie.Need-returns-then-is_pair
 returns-5 c =
     let p = laying-one (stays c.before.before.before.before.before.before.before.before.before.before) (pair c) (place c.before.before.before.before.before.before.before.before.before.before) in
-    (p, omega (arith, c.before.before.before.before.before.before.before.before.before.before.requires.byte, c.before.before.before.before.before.before.before.before.before.before.requires.places, p.laid.same))
+    (p, omega (arith, c.requires.byte, c.requires.places, p.laid.same))
 
-returns-6 : tie.Need-returns-6
-returns-6 c = (stays c.before.before.before.before.before.before.before.before, c.before.before.before.before.before.before.before.before.requires.places)
+returns-6 : tie.Need-returns
+returns-6 c = (stays c.before.before.before.before.before.before.before.before, c.requires.places)
 
-pub put-token-spec : {M : Type 1} → statement M
-put-token-spec =
+pub put_token_spec : {M : Type 1} → statement M
+put_token_spec =
     tie.close
     (tie.spec
     shared-slice-read-b

@@ -3,47 +3,44 @@ use borrow.Author.Rules.{rules}
 use Rattle.page_keep.proofs.opened.answer_of.Statement.{statement}
 use Rattle.page_keep.proofs.opened.answer_of.Tie as tie
 
-enum_told : tie.Need-enum-told
+enum_told : tie.Need-enum_told-1
 enum_told c = search rules
 
-utf7-answer-requires : tie.Need-utf7-answer-requires
+utf7-answer-requires : tie.Need-utf7_answer-requires
 utf7-answer-requires c κs = search rules
 
-enum-told-2 : tie.Need-enum-told-2
+enum-told-2 : tie.Need-enum_told-in-Utf7Body
 enum-told-2 c = search rules
 
-utf7-answer-requires-2 : tie.Need-utf7-answer-requires-2
+utf7-answer-requires-2 : tie.Need-utf7_answer-requires-in-Utf7Body
 utf7-answer-requires-2 c κs = search rules
 
-enum-told-3 : tie.Need-enum-told-3
+enum-told-3 : tie.Need-enum_told-in-Jp2
 enum-told-3 c = search rules
 
-jp2-answer-requires : tie.Need-jp2-answer-requires
+jp2-answer-requires : tie.Need-jp2_answer-requires
 jp2-answer-requires c κs = search rules
 
-returns : tie.Need-returns
+returns : tie.Need-returns-in-Utf7Header
 unfolding format_of reading_of
 returns c =
-    let enum-told' = c.before.enum_told in
-    let utf7-answer' = c.utf7-answer in
-    rw enum-told'.given.1 utf7-answer'.ensures
+    let utf7-answer' = c.utf7_answer in
+    rw c.in-Utf7Header.is utf7-answer'.ensures
 
-returns-2 : tie.Need-returns-2
+returns-2 : tie.Need-returns-in-Utf7Body
 unfolding format_of reading_of
 returns-2 c =
-    let enum-told2' = c.before.enum-told2 in
-    let utf7-answer2' = c.utf7-answer2 in
-    rw enum-told2'.given.1 utf7-answer2'.ensures
+    let utf7-answer2' = c.utf7_answer-in-Utf7Body in
+    rw c.in-Utf7Body.is utf7-answer2'.ensures
 
-returns-3 : tie.Need-returns-3
+returns-3 : tie.Need-returns-in-Jp2
 unfolding format_of reading_of
 returns-3 c =
-    let enum-told3' = c.before.enum-told3 in
-    let jp2-answer' = c.jp2-answer in
-    rw enum-told3'.given.1 jp2-answer'.ensures
+    let jp2-answer' = c.jp2_answer in
+    rw c.in-Jp2.is jp2-answer'.ensures
 
-pub answer-of-spec : {M : Type 1} → statement M
-answer-of-spec =
+pub answer_of_spec : {M : Type 1} → statement M
+answer_of_spec =
     tie.close
     (tie.spec
     enum_told

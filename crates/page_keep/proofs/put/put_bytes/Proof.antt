@@ -8,54 +8,54 @@ use borrow.Author.Rules.{rules}
 use Rattle.page_keep.proofs.put.put_bytes.Statement.{statement}
 use Rattle.page_keep.proofs.put.put_bytes.Tie as tie
 
-abbrev invariant-loop : tie.invariant-loop
+abbrev invariant-loop : tie.invariant-loop-i
 invariant-loop bytes out₀ at i₀ out i = (i ≤ length bytes) × (length out ≡ length out₀) × (out ≡ sets out₀ at (take i bytes))
 
-abbrev decreases-loop : tie.decreases-loop
+abbrev decreases-loop : tie.decreases-loop-i
 decreases-loop bytes out₀ at i₀ out i = length bytes - i
 
-loop-holds : tie.Need-loop-init invariant-loop decreases-loop
+loop-holds : tie.Need-loop-i-init invariant-loop decreases-loop
 loop-holds c = (omega arith, refl, refl)
 
-shared-slice-read-out : tie.Need-shared-slice-read-out invariant-loop decreases-loop
+shared-slice-read-out : tie.Need-bounds-bytes-i invariant-loop decreases-loop
 shared-slice-read-out c = search rules
 
-add-out : tie.Need-overflow-add-out invariant-loop decreases-loop
+add-out : tie.Need-overflow_add-out invariant-loop decreases-loop
 add-out c = search rules
 
-slice-write-out : tie.Need-slice-write-out invariant-loop decreases-loop
+slice-write-out : tie.Need-bounds-out-at invariant-loop decreases-loop
 slice-write-out c = search rules
 
-add-i : tie.Need-overflow-add-i invariant-loop decreases-loop
+add-i : tie.Need-overflow_add-i invariant-loop decreases-loop
 add-i c = search rules
 
-loop-less : tie.Need-loop-smaller invariant-loop decreases-loop
+loop-less : tie.Need-loop-i-smaller invariant-loop decreases-loop
 loop-less c = search rules
 
-loop-again : tie.Need-loop-preserved invariant-loop decreases-loop
+loop-again : tie.Need-loop-i-preserved invariant-loop decreases-loop
 loop-again c = (
   omega arith,
-  simp length-set c.before.before.loop.invariant.1,
+  simp length-set c.loop-i.invariant.1,
   sets-next
-      c.before.before.before.args.out.now c.before.before.loop.out
-      c.before.before.before.args.bytes.now c.before.before.before.args.at c.before.before.loop.i
-      (omega arith) c.before.before.loop.invariant.2,
+      c.args.out.now c.loop-i.out
+      c.args.bytes.now c.args.at c.loop-i.i
+      (omega arith) c.loop-i.invariant.2,
 )
 
-add-result : tie.Need-overflow-add-result invariant-loop decreases-loop
+add-result : tie.Need-overflow_add-result invariant-loop decreases-loop
 add-result c = search rules
 
-same_length : tie.Need-same-length invariant-loop decreases-loop
-same_length c = c.before.loop.invariant.1
+same_length : tie.Need-shape_of-out invariant-loop decreases-loop
+same_length c = c.loop-i.invariant.1
 
 returns : tie.Need-returns invariant-loop decreases-loop
 returns c =
-    let b = c.before.before.args.bytes.now in
-    let e : c.before.loop.i ≡ length b = omega arith in
-    (omega arith, c.before.loop.invariant.2 ∙ rw (take_all c.before.loop.i b (omega arith)))
+    let b = c.args.bytes.now in
+    let e : c.loop-i.i ≡ length b = omega arith in
+    (omega arith, c.loop-i.invariant.2 ∙ rw (take_all c.loop-i.i b (omega arith)))
 
-pub put-bytes-spec : {M : Type 1} → statement M
-put-bytes-spec =
+pub put_bytes_spec : {M : Type 1} → statement M
+put_bytes_spec =
     tie.close
     (tie.spec
     invariant-loop

@@ -12,35 +12,35 @@ use borrow.Author.Rules.{rules}
 use Rattle.page_keep.proofs.put.put_number.Statement.{statement}
 use Rattle.page_keep.proofs.put.put_number.Tie as tie
 
-put-bytes-requires : tie.Need-put-bytes-requires
+put-bytes-requires : tie.Need-put_bytes-value-requires
 put-bytes-requires c κs = search rules
 
-put-front-requires : tie.Need-put-front-requires
+put-front-requires : tie.Need-put_front-last-requires
 put-front-requires c κs = search rules
 
-put-decimal-requires : tie.Need-put-decimal-requires
+put-decimal-requires : tie.Need-put_decimal-requires
 put-decimal-requires c κs = search rules
 
-add-out : tie.Need-overflow-add-out
+add-out : tie.Need-overflow_add-out
 add-out c = search rules
 
-slice-write-out : tie.Need-slice-write-out
+slice-write-out : tie.Need-bounds-out-last
 slice-write-out c = search rules
 
-add-result : tie.Need-overflow-add-result
+add-result : tie.Need-overflow_add-result
 add-result c = search rules
 
-same_length : tie.Need-same-length
+same_length : tie.Need-shape_of-out
 same_length c =
-    simp length-set (ap length c.before.before.put-decimal.ensures ∙ simp length-sets
-    (ap length c.before.before.before.before.before.before.put_front.ensures.1 ∙ simp length-sets
-    (ap length c.before.before.before.before.before.before.before.before.before.before.put-bytes.ensures.1 ∙ simp length-sets)))
+    simp length-set (ap length c.put_decimal.ensures ∙ simp length-sets
+    (ap length c.put_front-last.ensures.1 ∙ simp length-sets
+    (ap length c.put_bytes-value.ensures.1 ∙ simp length-sets)))
 
 returns : tie.Need-returns
 returns c =
-    let a = c.before.before.before.before.before.before.before.before.before.before.before.before.before.before.args in
-    let put-bytes' = c.before.before.before.before.before.before.before.before.before.before.put-bytes in
-    let put-front' = c.before.before.before.before.before.before.put_front in
+    let a = c.args in
+    let put-bytes' = c.put_bytes-value in
+    let put-front' = c.put_front-last in
     let v = put-bytes'.result in
     let l = put-front'.result in
     let d = digits 10 5 a.n in (
@@ -49,12 +49,12 @@ returns c =
           (rw (front-is a.two a.n, append_assoc (front a.two a.n) d LF)
           (sets_then _ _ _ (front a.two a.n) (d ++ LF) v l put-front'.ensures.1
           (omega (arith, put-front'.ensures.0, front-size a.two a.n))
-          (sets_then _ _ _ d LF l (l + 5) c.before.before.put-decimal.ensures
+          (sets_then _ _ _ d LF l (l + 5) c.put_decimal.ensures
           (omega (arith, length_digits 10 5 a.n)) refl))),
     )
 
-pub put-number-spec : {M : Type 1} → statement M
-put-number-spec =
+pub put_number_spec : {M : Type 1} → statement M
+put_number_spec =
     tie.close
     (tie.spec
     put-bytes-requires

@@ -9,57 +9,57 @@ use borrow.Author.Rules.{rules}
 use Rattle.page_read.proofs.hex.read_words.Statement.{statement}
 use Rattle.page_read.proofs.hex.read_words.Tie as tie
 
-abbrev invariant-loop : tie.invariant-loop
+abbrev invariant-loop : tie.invariant-loop-i
 invariant-loop s from n out₀ i₀ out i = (i ≤ n) × Put (hexes_at s from 8 n) out₀ out i (drop i (hexes_at s from 8 n))
 
-abbrev decreases-loop : tie.decreases-loop
+abbrev decreases-loop : tie.decreases-loop-i
 decreases-loop s from n out₀ i₀ out i = n - i
 
-loop-holds : tie.Need-loop-init invariant-loop decreases-loop
+loop-holds : tie.Need-loop-i-init invariant-loop decreases-loop
 loop-holds c = (
   omega arith,
-  read-start c.before.before.args.s.now c.before.before.args.from 8
-      c.before.before.args.n c.before.before.args.out.now (omega arith),
+  read-start c.args.s.now c.args.from 8
+      c.args.n c.args.out.now (omega arith),
 )
 
-mul-word-at : tie.Need-overflow-mul-word-at invariant-loop decreases-loop
+mul-word-at : tie.Need-overflow_mul-i invariant-loop decreases-loop
 mul-word-at c = search rules
 
-add-word-at : tie.Need-overflow-add-word-at invariant-loop decreases-loop
+add-word-at : tie.Need-overflow_add-from invariant-loop decreases-loop
 add-word-at c = search rules
 
-word-at-requires : tie.Need-word-at-requires invariant-loop decreases-loop
+word-at-requires : tie.Need-word_at-requires invariant-loop decreases-loop
 word-at-requires c κs = search rules
 
-mul-out : tie.Need-overflow-mul-out invariant-loop decreases-loop
+mul-out : tie.Need-offset_bounds-out-i invariant-loop decreases-loop
 mul-out c = search rules
 
-slice-write-out : tie.Need-slice-write-out invariant-loop decreases-loop
+slice-write-out : tie.Need-bounds-out-i invariant-loop decreases-loop
 slice-write-out c = search rules
 
-add-i : tie.Need-overflow-add-i invariant-loop decreases-loop
+add-i : tie.Need-overflow_add-i invariant-loop decreases-loop
 add-i c = search rules
 
-loop-less : tie.Need-loop-smaller invariant-loop decreases-loop
+loop-less : tie.Need-loop-i-smaller invariant-loop decreases-loop
 loop-less c = search rules
 
-loop-again : tie.Need-loop-preserved invariant-loop decreases-loop
+loop-again : tie.Need-loop-i-preserved invariant-loop decreases-loop
 loop-again c = (
   omega arith,
-  read_next c.before.before.before.before.before.args.s.now
-      c.before.before.before.before.before.args.from 8 c.before.before.before.before.before.args.n
-      c.before.before.loop.invariant.1 (omega arith) c.word_at.ensures,
+  read_next c.args.s.now
+      c.args.from 8 c.args.n
+      c.loop-i.invariant.1 (omega arith) c.word_at.ensures,
 )
 
-same_length : tie.Need-same-length invariant-loop decreases-loop
-same_length c = c.before.loop.invariant.1.same
+same_length : tie.Need-shape_of-out invariant-loop decreases-loop
+same_length c = c.loop-i.invariant.1.same
 
 returns : tie.Need-returns invariant-loop decreases-loop
-returns c = read_done c.before.before.before.before.args.s.now c.before.before.before.before.args.from
-    8 c.before.before.before.before.args.n c.before.loop.invariant.1 (omega arith)
+returns c = read_done c.args.s.now c.args.from
+    8 c.args.n c.loop-i.invariant.1 (omega arith)
 
-pub read-words-spec : {M : Type 1} → statement M
-read-words-spec =
+pub read_words_spec : {M : Type 1} → statement M
+read_words_spec =
     tie.close
     (tie.spec
     invariant-loop

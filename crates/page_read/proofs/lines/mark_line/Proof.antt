@@ -3,74 +3,65 @@ use borrow.Author.Rules.{rules}
 use Rattle.page_read.proofs.lines.mark_line.Statement.{statement}
 use Rattle.page_read.proofs.lines.mark_line.Tie as tie
 
-slice-aggregate-word : tie.Need-slice-aggregate-word
-slice-aggregate-word c = search rules
-
-word-requires : tie.Need-word-requires
+word-requires : tie.Need-word-start-requires
 word-requires c κs = search rules
 
-no-mark-requires : tie.Need-no-mark-requires
+no-mark-requires : tie.Need-no_mark-requires
 no-mark-requires c κs = search rules
 
-returns : tie.Need-returns
+returns : tie.Need-returns-then-not-start
 returns c =
-    let a = c.before.before.before.before.before.before.args in
-    let word' = c.before.before.before.word in
-    let if1' = c.before.if1 in
-    let no-mark' = c.no-mark in
+    let a = c.args in
+    let word' = c.word-start in
+    let no-mark' = c.no_mark in
     rw (
-      failed-if tt a.file.now word'.result word'.ensures if1'.true,
+      failed-if tt a.file.now word'.result word'.ensures c.if-not-start.true,
       no-mark'.ensures.0,
       no-mark'.ensures.1,
     )
 
-mark-value-requires : tie.Need-mark-value-requires
+mark-value-requires : tie.Need-mark_value-value-requires
 mark-value-requires c κs = search rules
 
-no-mark-requires-2 : tie.Need-no-mark-requires-2
+no-mark-requires-2 : tie.Need-no_mark-requires-then-not-value
 no-mark-requires-2 c κs = search rules
 
-returns-2 : tie.Need-returns-2
+returns-2 : tie.Need-returns-then-not-value
 returns-2 c =
-    let a = c.before.before.before.before.before.before.before.before.before.args in
-    let word' = c.before.before.before.before.before.before.word in
-    let if1' = c.before.before.before.before.if1 in
-    let mark-value' = c.before.before.before.mark-value in
-    let if2' = c.before.if2 in
-    let no-mark2' = c.no-mark2 in
+    let a = c.args in
+    let word' = c.word-start in
+    let mark-value' = c.mark_value-value in
+    let no-mark2' = c.no_mark-then-not-value in
     rw (
-      found-if tt a.file.now word'.result word'.ensures if1'.false,
+      found-if tt a.file.now word'.result word'.ensures c.if-not-start.false,
       is-failed mark-value'.result.mark
           a.file.now mark-value'.result.ok mark-value'.result.at mark-value'.ensures
-          (not_yes _ if2'.true),
+          (not_yes _ c.if-not-value.true),
       no-mark2'.ensures.0,
       no-mark2'.ensures.1,
     )
 
-ended-requires : tie.Need-ended-requires
+ended-requires : tie.Need-ended-end-requires
 ended-requires c κs = search rules
 
-returns-3 : tie.Need-returns-3
+returns-3 : tie.Need-returns
 returns-3 c =
-    let a = c.before.before.before.before.before.before.before.before.before.args in
-    let word' = c.before.before.before.before.before.before.word in
-    let if1' = c.before.before.before.before.if1 in
-    let mark-value' = c.before.before.before.mark-value in
-    let if2' = c.before.if2 in
-    let ended' = c.ended in
+    let a = c.args in
+    let word' = c.word-start in
+    let mark-value' = c.mark_value-value in
+    let ended' = c.ended-end in
     rw (
-      found-if tt a.file.now word'.result word'.ensures if1'.false,
+      found-if tt a.file.now word'.result word'.ensures c.if-not-start.false,
       is_found mark-value'.result.mark
           a.file.now mark-value'.result.ok mark-value'.result.at mark-value'.ensures
-          (not-no _ if2'.false),
+          (not-no _ c.if-not-value.false),
     ) (end-as mark-value'.result.mark a.file.now ended'.result.ok
     ended'.result.at ended'.ensures.1)
 
-pub mark-line-spec : {M : Type 1} → statement M
-mark-line-spec =
+pub mark_line_spec : {M : Type 1} → statement M
+mark_line_spec =
     tie.close
     (tie.spec
-    slice-aggregate-word
     word-requires
     no-mark-requires
     returns

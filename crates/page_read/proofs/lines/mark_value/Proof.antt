@@ -3,66 +3,57 @@ use borrow.Author.Rules.{rules}
 use Rattle.page_read.proofs.lines.mark_value.Statement.{statement}
 use Rattle.page_read.proofs.lines.mark_value.Tie as tie
 
-slice-aggregate-word : tie.Need-slice-aggregate-word
-slice-aggregate-word c = search rules
-
-word-requires : tie.Need-word-requires
+word-requires : tie.Need-word-none-requires
 word-requires c κs = search rules
 
-returns : tie.Need-returns
+returns : tie.Need-returns-then-none
 returns c =
-    let a = c.before.before.before.before.args in
-    let word' = c.before.word in
-    let if1' = c.if1 in
-    rw (is_found tt a.file.now word'.result.ok word'.result.at word'.ensures if1'.true)
+    let a = c.args in
+    let word' = c.word-none in
+    rw (is_found tt a.file.now word'.result.ok word'.result.at word'.ensures c.if-none.true)
 
-decimal-requires : tie.Need-decimal-requires
+decimal-requires : tie.Need-decimal-value-requires
 decimal-requires c κs = search rules
 
-returns-2 : tie.Need-returns-2
+returns-2 : tie.Need-returns-then-value
 returns-2 c =
-    let a = c.before.before.before.before.before.before.args in
-    let word' = c.before.before.before.word in
-    let if1' = c.before.before.if1 in
-    let decimal' = c.before.decimal in
-    let if2' = c.if2 in
+    let a = c.args in
+    let word' = c.word-none in
+    let decimal' = c.decimal-value in
     rw (
-      is-failed tt a.file.now word'.result.ok word'.result.at word'.ensures if1'.false,
+      is-failed tt a.file.now word'.result.ok word'.result.at word'.ensures c.if-none.false,
       is_found
           decimal'.result.value a.file.now decimal'.result.ok decimal'.result.at decimal'.ensures
-          if2'.true,
+          c.if-value.true,
     )
 
 greater-requires : tie.Need-greater-requires
 greater-requires c κs = search rules
 
-no-mark-requires : tie.Need-no-mark-requires
+no-mark-requires : tie.Need-no_mark-requires
 no-mark-requires c κs = search rules
 
-returns-3 : tie.Need-returns-3
+returns-3 : tie.Need-returns
 returns-3 c =
-    let a = c.before.before.before.before.before.before.before.before.args in
-    let word' = c.before.before.before.before.before.word in
-    let if1' = c.before.before.before.before.if1 in
-    let decimal' = c.before.before.before.decimal in
-    let if2' = c.before.before.if2 in
-    let greater' = c.before.greater in
-    let no-mark' = c.no-mark in
+    let a = c.args in
+    let word' = c.word-none in
+    let decimal' = c.decimal-value in
+    let greater' = c.greater in
+    let no-mark' = c.no_mark in
     rw (
-      is-failed tt a.file.now word'.result.ok word'.result.at word'.ensures if1'.false,
+      is-failed tt a.file.now word'.result.ok word'.result.at word'.ensures c.if-none.false,
       is-failed
           decimal'.result.value a.file.now decimal'.result.ok decimal'.result.at decimal'.ensures
-          if2'.false,
+          c.if-value.false,
       no-mark'.ensures.0,
       no-mark'.ensures.1,
       greater'.ensures,
     )
 
-pub mark-value-spec : {M : Type 1} → statement M
-mark-value-spec =
+pub mark_value_spec : {M : Type 1} → statement M
+mark_value_spec =
     tie.close
     (tie.spec
-    slice-aggregate-word
     word-requires
     returns
     decimal-requires

@@ -3,63 +3,58 @@ use borrow.Author.Rules.{rules}
 use Rattle.page_read.proofs.lines.number_line.Statement.{statement}
 use Rattle.page_read.proofs.lines.number_line.Tie as tie
 
-word-requires : tie.Need-word-requires
+word-requires : tie.Need-word-start-requires
 word-requires c κs = search rules
 
 failed-requires : tie.Need-failed-requires
 failed-requires c κs = search rules
 
-returns : tie.Need-returns
+returns : tie.Need-returns-then-not-start
 returns c =
-    let a = c.before.before.before.before.before.before.args in
-    let word' = c.before.before.before.word in
-    let if1' = c.before.if1 in
+    let a = c.args in
+    let word' = c.word-start in
     let failed' = c.failed in
-    rw (failed-if tt a.file.now word'.result word'.ensures if1'.true)
+    rw (failed-if tt a.file.now word'.result word'.ensures c.if-not-start.true)
     (handed failed'.result.value a.file.now failed'.result failed'.ensures)
 
-decimal-requires : tie.Need-decimal-requires
+decimal-requires : tie.Need-decimal-value-requires
 decimal-requires c κs = search rules
 
-failed-requires-2 : tie.Need-failed-requires-2
+failed-requires-2 : tie.Need-failed-requires-then-not-value
 failed-requires-2 c κs = search rules
 
-returns-2 : tie.Need-returns-2
+returns-2 : tie.Need-returns-then-not-value
 returns-2 c =
-    let a = c.before.before.before.before.before.before.before.before.before.args in
-    let word' = c.before.before.before.before.before.before.word in
-    let if1' = c.before.before.before.before.if1 in
-    let decimal' = c.before.before.before.decimal in
-    let if2' = c.before.if2 in
-    let failed2' = c.failed2 in
+    let a = c.args in
+    let word' = c.word-start in
+    let decimal' = c.decimal-value in
+    let failed2' = c.failed-then-not-value in
     rw (
-      found-if tt a.file.now word'.result word'.ensures if1'.false,
+      found-if tt a.file.now word'.result word'.ensures c.if-not-start.false,
       failed-if decimal'.result.value
-          a.file.now decimal'.result decimal'.ensures if2'.true,
+          a.file.now decimal'.result decimal'.ensures c.if-not-value.true,
     )
     (handed failed2'.result.value a.file.now failed2'.result failed2'.ensures)
 
 ended-requires : tie.Need-ended-requires
 ended-requires c κs = search rules
 
-returns-3 : tie.Need-returns-3
+returns-3 : tie.Need-returns
 returns-3 c =
-    let a = c.before.before.before.before.before.before.before.before.before.args in
-    let word' = c.before.before.before.before.before.before.word in
-    let if1' = c.before.before.before.before.if1 in
-    let decimal' = c.before.before.before.decimal in
-    let if2' = c.before.if2 in
+    let a = c.args in
+    let word' = c.word-start in
+    let decimal' = c.decimal-value in
     let ended' = c.ended in
     rw (
-      found-if tt a.file.now word'.result word'.ensures if1'.false,
+      found-if tt a.file.now word'.result word'.ensures c.if-not-start.false,
       found-if decimal'.result.value
-          a.file.now decimal'.result decimal'.ensures if2'.false,
+          a.file.now decimal'.result decimal'.ensures c.if-not-value.false,
       ended'.ensures.0,
     )
     (end-as decimal'.result.value a.file.now ended'.result.ok ended'.result.at ended'.ensures.1)
 
-pub number-line-spec : {M : Type 1} → statement M
-number-line-spec =
+pub number_line_spec : {M : Type 1} → statement M
+number_line_spec =
     tie.close
     (tie.spec
     word-requires

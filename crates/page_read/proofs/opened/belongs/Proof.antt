@@ -4,29 +4,27 @@ use borrow.Author.Rules.{rules}
 use Rattle.page_read.proofs.opened.belongs.Statement.{statement}
 use Rattle.page_read.proofs.opened.belongs.Tie as tie
 
-same-text-requires : tie.Need-same-text-requires
+same-text-requires : tie.Need-same_text-requires
 same-text-requires c κs =
-    let pre' = c.before.before.before.before.requires in
+    let pre' = c.requires in
     (pre'.arrived, pre'.text)
 
-returns : tie.Need-returns
+returns : tie.Need-returns-then-page-eq0
 returns c =
-    let a = c.before.before.before.before.before.args in
-    let if1' = c.before.if1 in
+    let a = c.args in
     let same-text' = c.same_text in
-    rw (eq-eqb a.plan.page.done 0 if1'.true) same-text'.ensures
+    rw (eq-eqb a.plan.page.done 0 c.if-page-eq0.true) same-text'.ensures
 
-has-cells-requires : tie.Need-has-cells-requires
+has-cells-requires : tie.Need-has_cells-requires
 has-cells-requires c κs =
-    let pre' = c.before.before.before.before.requires in
+    let pre' = c.requires in
     pre'.arrived
 
-returns-2 : tie.Need-returns-2
+returns-2 : tie.Need-returns
 returns-2 c =
-    let a = c.before.before.before.before.before.args in
-    let if1' = c.before.if1 in
+    let a = c.args in
     let has-cells' = c.has_cells in
-    rw (ne_eqb a.plan.page.done 0 if1'.false) has-cells'.ensures
+    rw (ne_eqb a.plan.page.done 0 c.if-page-eq0.false) has-cells'.ensures
 
-pub belongs-spec : {M : Type 1} → statement M
-belongs-spec = tie.close (tie.spec same-text-requires returns has-cells-requires returns-2)
+pub belongs_spec : {M : Type 1} → statement M
+belongs_spec = tie.close (tie.spec same-text-requires returns has-cells-requires returns-2)

@@ -12,103 +12,100 @@ use borrow.Author.Rules.{rules}
 use Rattle.page_read.proofs.opened.jp2_answer.Statement.{statement}
 use Rattle.page_read.proofs.opened.jp2_answer.Tie as tie
 
-abbrev invariant-loop : tie.invariant-loop
+abbrev invariant-loop : tie.invariant-loop-at
 invariant-loop file base n at₀ count₀ st₀ at count st = Left jp2 (hexes_at file base 2 n) at (state_of st) count
 
-abbrev decreases-loop : tie.decreases-loop
+abbrev decreases-loop : tie.decreases-loop-at
 decreases-loop file base n at₀ count₀ st₀ at count st = n - at
 
-begin-requires : tie.Need-begin-requires invariant-loop decreases-loop
+begin-requires : tie.Need-begin-st-requires invariant-loop decreases-loop
 begin-requires c κs = search rules
 
-loop-holds : tie.Need-loop-init invariant-loop decreases-loop
+loop-holds : tie.Need-loop-at-init invariant-loop decreases-loop
 loop-holds c =
-    let begin' = c.begin in
+    let begin' = c.begin-st in
     rw begin'.ensures (left-start jp2 _)
 
-mul-byte-at : tie.Need-overflow-mul-byte-at invariant-loop decreases-loop
+mul-byte-at : tie.Need-overflow_mul-at invariant-loop decreases-loop
 mul-byte-at c = search rules
 
-add-byte-at : tie.Need-overflow-add-byte-at invariant-loop decreases-loop
+add-byte-at : tie.Need-overflow_add-base invariant-loop decreases-loop
 add-byte-at c = search rules
 
-byte-at-requires : tie.Need-byte-at-requires invariant-loop decreases-loop
+byte-at-requires : tie.Need-byte_at-b-requires invariant-loop decreases-loop
 byte-at-requires c κs = search rules
 
 feed-requires : tie.Need-feed-requires invariant-loop decreases-loop
 feed-requires c κs = search rules
 
-enum-known-state : tie.Need-enum-known-state invariant-loop decreases-loop
+enum-known-state : tie.Need-enum_known-state invariant-loop decreases-loop
 enum-known-state c = search rules
 
-add-count : tie.Need-overflow-add-count invariant-loop decreases-loop
+add-count : tie.Need-overflow_add-count invariant-loop decreases-loop
 add-count c =
-    let l = c.before.before.before.before.before.before.loop in
+    let l = c.loop-at in
     omega (arith, l.invariant.few)
 
-add_at : tie.Need-overflow-add-at invariant-loop decreases-loop
+add_at : tie.Need-overflow_add-at invariant-loop decreases-loop
 add_at c = search rules
 
-loop-less : tie.Need-loop-smaller invariant-loop decreases-loop
+loop-less : tie.Need-loop-at-smaller-in-Give invariant-loop decreases-loop
 loop-less c = search rules
 
-loop-again : tie.Need-loop-preserved invariant-loop decreases-loop
+loop-again : tie.Need-loop-at-preserved-in-Give invariant-loop decreases-loop
 loop-again c =
-    let a = c.before.before.before.before.before.before.before.before.before.args in
-    let l = c.before.before.before.before.before.before.loop in
-    let byte-at' = c.before.before.before.before.byte_at in
-    let feed' = c.before.before.before.feed in
-    let state' = c.before.state in
+    let a = c.args in
+    let l = c.loop-at in
+    let byte-at' = c.byte_at-b in
+    let feed' = c.feed in
     left-give l.invariant (omega (arith, length-hexes a.file.now a.base 2 a.n))
     (at_byte jp2 (state_of l.st) (hexes-at a.file.now a.base 2 a.n l.at (omega arith) ∙ sym
-    byte-at'.ensures) (moved feed'.ensures state'.given.1))
+    byte-at'.ensures) (moved feed'.ensures c.in-Give.is))
 
-enum-known-state-2 : tie.Need-enum-known-state-2 invariant-loop decreases-loop
+enum-known-state-2 : tie.Need-enum_known-state-in-Go-1 invariant-loop decreases-loop
 enum-known-state-2 c = search rules
 
-add-at-2 : tie.Need-overflow-add-at-2 invariant-loop decreases-loop
+add-at-2 : tie.Need-overflow_add-at-in-Go invariant-loop decreases-loop
 add-at-2 c = search rules
 
-loop-less-2 : tie.Need-loop-smaller-2 invariant-loop decreases-loop
+loop-less-2 : tie.Need-loop-at-smaller invariant-loop decreases-loop
 loop-less-2 c = search rules
 
-loop-again-2 : tie.Need-loop-preserved-2 invariant-loop decreases-loop
+loop-again-2 : tie.Need-loop-at-preserved invariant-loop decreases-loop
 loop-again-2 c =
-    let a = c.before.before.before.before.before.before.before.before.before.args in
-    let l = c.before.before.before.before.before.before.loop in
-    let byte-at' = c.before.before.before.before.byte_at in
-    let feed' = c.before.before.before.feed in
-    let state2' = c.before.state2 in
+    let a = c.args in
+    let l = c.loop-at in
+    let byte-at' = c.byte_at-b in
+    let feed' = c.feed in
     left-go l.invariant (omega (arith, length-hexes a.file.now a.base 2 a.n))
     (at_byte jp2 (state_of l.st) (hexes-at a.file.now a.base 2 a.n l.at (omega arith) ∙ sym
-    byte-at'.ensures) (moved feed'.ensures state2'.given.1))
+    byte-at'.ensures) (moved feed'.ensures c.in-Go.is))
 
-enum-known-why : tie.Need-enum-known-why invariant-loop decreases-loop
+enum-known-why : tie.Need-enum_known-why invariant-loop decreases-loop
 enum-known-why c = search rules
 
-returns : tie.Need-returns invariant-loop decreases-loop
+returns : tie.Need-returns-in-Bad invariant-loop decreases-loop
 returns c =
-    let a = c.before.before.before.before.before.before.before.before.before.args in
-    let l = c.before.before.before.before.before.before.loop in
-    let byte-at' = c.before.before.before.before.byte_at in
-    let feed' = c.before.before.before.feed in
-    let why' = c.before.why in
+    let a = c.args in
+    let l = c.loop-at in
+    let byte-at' = c.byte_at-b in
+    let feed' = c.feed in
     (left-bad l.invariant (omega (arith, length-hexes a.file.now a.base 2 a.n))
     (at_byte jp2 (state_of l.st) (hexes-at a.file.now a.base 2 a.n l.at (omega arith) ∙ sym
-    byte-at'.ensures) (moved feed'.ensures why'.given.1))).1
+    byte-at'.ensures) (moved feed'.ensures c.in-Bad.is))).1
 
 finish-requires : tie.Need-finish-requires invariant-loop decreases-loop
 finish-requires c κs = search rules
 
-returns-2 : tie.Need-returns-2 invariant-loop decreases-loop
+returns-2 : tie.Need-returns invariant-loop decreases-loop
 returns-2 c =
-    let a = c.before.before.before.before.before.args in
-    let l = c.before.before.loop in
+    let a = c.args in
+    let l = c.loop-at in
     let finish' = c.finish in
     finish'.ensures ∙ (left_end l.invariant (omega (arith, length-hexes a.file.now a.base 2 a.n))).1
 
-pub jp2-answer-spec : {M : Type 1} → statement M
-jp2-answer-spec =
+pub jp2_answer_spec : {M : Type 1} → statement M
+jp2_answer_spec =
     tie.close
     (tie.spec
     invariant-loop

@@ -4,47 +4,44 @@ use borrow.Author.Rules.{rules}
 use Rattle.page_read.proofs.opened.same_text.Statement.{statement}
 use Rattle.page_read.proofs.opened.same_text.Tie as tie
 
-enum_told : tie.Need-enum-told
+enum_told : tie.Need-enum_told-1
 enum_told c = search rules
 
-utf7-same-requires : tie.Need-utf7-same-requires
+utf7-same-requires : tie.Need-utf7_same-requires
 utf7-same-requires c κs = search rules
 
-enum-told-2 : tie.Need-enum-told-2
+enum-told-2 : tie.Need-enum_told-in-Utf7Body
 enum-told-2 c = search rules
 
-utf7-same-requires-2 : tie.Need-utf7-same-requires-2
+utf7-same-requires-2 : tie.Need-utf7_same-requires-in-Utf7Body
 utf7-same-requires-2 c κs = search rules
 
-enum-told-3 : tie.Need-enum-told-3
+enum-told-3 : tie.Need-enum_told-in-Jp2
 enum-told-3 c = search rules
 
-jp2-same-requires : tie.Need-jp2-same-requires
+jp2-same-requires : tie.Need-jp2_same-requires
 jp2-same-requires c κs = search rules
 
-returns : tie.Need-returns
+returns : tie.Need-returns-in-Utf7Header
 unfolding format_of reading_of reads_in matching.reads_as
 returns c =
-    let enum-told' = c.before.enum_told in
-    let utf7-same' = c.utf7-same in
-    rw enum-told'.given.1 utf7-same'.ensures
+    let utf7-same' = c.utf7_same in
+    rw c.in-Utf7Header.is utf7-same'.ensures
 
-returns-2 : tie.Need-returns-2
+returns-2 : tie.Need-returns-in-Utf7Body
 unfolding format_of reading_of reads_in matching.reads_as
 returns-2 c =
-    let enum-told2' = c.before.enum-told2 in
-    let utf7-same2' = c.utf7-same2 in
-    rw enum-told2'.given.1 utf7-same2'.ensures
+    let utf7-same2' = c.utf7_same-in-Utf7Body in
+    rw c.in-Utf7Body.is utf7-same2'.ensures
 
-returns-3 : tie.Need-returns-3
+returns-3 : tie.Need-returns-in-Jp2
 unfolding format_of reading_of reads_in matching.reads_as
 returns-3 c =
-    let enum-told3' = c.before.enum-told3 in
-    let jp2-same' = c.jp2-same in
-    rw enum-told3'.given.1 jp2-same'.ensures
+    let jp2-same' = c.jp2_same in
+    rw c.in-Jp2.is jp2-same'.ensures
 
-pub same-text-spec : {M : Type 1} → statement M
-same-text-spec =
+pub same_text_spec : {M : Type 1} → statement M
+same_text_spec =
     tie.close
     (tie.spec
     enum_told

@@ -15,158 +15,149 @@ use borrow.Author.Rules.{rules}
 use Rattle.page_read.proofs.opened.utf7_same.Statement.{statement}
 use Rattle.page_read.proofs.opened.utf7_same.Tie as tie
 
-abbrev invariant-loop : tie.invariant-loop
+abbrev invariant-loop : tie.invariant-loop-at
 invariant-loop file base n text m at₀ count₀ st₀ at count st = Matching utf7 (hexes_at file base 2 n) (hexes_at file text 8 m)
     at (shift_of st) count
 
-abbrev decreases-loop : tie.decreases-loop
+abbrev decreases-loop : tie.decreases-loop-at
 decreases-loop file base n text m at₀ count₀ st₀ at count st = n - at
 
-loop-holds : tie.Need-loop-init invariant-loop decreases-loop
+loop-holds : tie.Need-loop-at-init invariant-loop decreases-loop
 loop-holds c = matching-start utf7 _ _
 
-mul-byte-at : tie.Need-overflow-mul-byte-at invariant-loop decreases-loop
+mul-byte-at : tie.Need-overflow_mul-at invariant-loop decreases-loop
 mul-byte-at c = search rules
 
-add-byte-at : tie.Need-overflow-add-byte-at invariant-loop decreases-loop
+add-byte-at : tie.Need-overflow_add-base invariant-loop decreases-loop
 add-byte-at c = search rules
 
-byte-at-requires : tie.Need-byte-at-requires invariant-loop decreases-loop
+byte-at-requires : tie.Need-byte_at-b-requires invariant-loop decreases-loop
 byte-at-requires c κs = search rules
 
-byte-does-requires : tie.Need-byte-does-requires invariant-loop decreases-loop
+byte-does-requires : tie.Need-byte_does-requires invariant-loop decreases-loop
 byte-does-requires c κs = search rules
 
-enum-known-value : tie.Need-enum-known-value invariant-loop decreases-loop
+enum-known-value : tie.Need-enum_known-value invariant-loop decreases-loop
 enum-known-value c = search rules
 
-returns : tie.Need-returns invariant-loop decreases-loop
+returns : tie.Need-returns-then-m-count invariant-loop decreases-loop
 returns c =
-    let a = c.before.before.before.before.before.before.before.before.before.args in
-    let l = c.before.before.before.before.before.before.before.loop in
-    let byte-at' = c.before.before.before.before.before.byte_at in
-    let byte-does' = c.before.before.before.before.byte-does in
-    let value' = c.before.before.value in
+    let a = c.args in
+    let l = c.loop-at in
+    let byte-at' = c.byte_at-b in
+    let byte-does' = c.byte_does in
     matching-past l.invariant (omega (arith, length-hexes a.file.now a.base 2 a.n))
     (at_byte utf7 (shift_of l.st) (hexes-at a.file.now a.base 2 a.n l.at (omega arith) ∙ sym
-    byte-at'.ensures) (byte-moved _ _ byte-does'.ensures value'.given.1))
+    byte-at'.ensures) (byte-moved _ _ byte-does'.ensures c.in-Give.is))
     (omega (arith, length-hexes a.file.now a.text 8 a.m))
 
-mul-word-at : tie.Need-overflow-mul-word-at invariant-loop decreases-loop
+mul-word-at : tie.Need-overflow_mul-count invariant-loop decreases-loop
 mul-word-at c = search rules
 
-add-word-at : tie.Need-overflow-add-word-at invariant-loop decreases-loop
+add-word-at : tie.Need-overflow_add-text invariant-loop decreases-loop
 add-word-at c = search rules
 
-word-at-requires : tie.Need-word-at-requires invariant-loop decreases-loop
+word-at-requires : tie.Need-word_at-requires invariant-loop decreases-loop
 word-at-requires c κs = search rules
 
-returns-2 : tie.Need-returns-2 invariant-loop decreases-loop
+returns-2 : tie.Need-returns-then-word_at-value invariant-loop decreases-loop
 returns-2 c =
-    let a = c.before.before.before.before.before.before.before.before.before.before.before.args in
-    let l = c.before.before.before.before.before.before.before.before.before.loop in
-    let byte-at' = c.before.before.before.before.before.before.before.byte_at in
-    let byte-does' = c.before.before.before.before.before.before.byte-does in
-    let value' = c.before.before.before.before.value in
-    let word-at' = c.before.word_at in
-    let if2' = c.if2 in
+    let a = c.args in
+    let l = c.loop-at in
+    let byte-at' = c.byte_at-b in
+    let byte-does' = c.byte_does in
+    let word-at' = c.word_at in
     matching-other l.invariant (omega (arith, length-hexes a.file.now a.base 2 a.n))
     (at_byte utf7 (shift_of l.st) (hexes-at a.file.now a.base 2 a.n l.at (omega arith) ∙ sym
-    byte-at'.ensures) (byte-moved _ _ byte-does'.ensures value'.given.1))
+    byte-at'.ensures) (byte-moved _ _ byte-does'.ensures c.in-Give.is))
     (omega (arith, length-hexes a.file.now a.text 8 a.m))
-    (λ q. if2'.true (word-at'.ensures ∙ sym (hexes-at a.file.now a.text 8 a.m l.count
+    (λ q. c.if-word_at-value.true (word-at'.ensures ∙ sym (hexes-at a.file.now a.text 8 a.m l.count
     (omega arith)) ∙ q))
 
-add-count : tie.Need-overflow-add-count invariant-loop decreases-loop
+add-count : tie.Need-overflow_add-count invariant-loop decreases-loop
 add-count c =
-    let l = c.before.before.before.before.before.before.before.before.before.loop in
+    let l = c.loop-at in
     omega (arith, l.invariant.few)
 
-add_at : tie.Need-overflow-add-at invariant-loop decreases-loop
+add_at : tie.Need-overflow_add-at invariant-loop decreases-loop
 add_at c = search rules
 
-loop-less : tie.Need-loop-smaller invariant-loop decreases-loop
+loop-less : tie.Need-loop-at-smaller-in-Give invariant-loop decreases-loop
 loop-less c = search rules
 
-loop-again : tie.Need-loop-preserved invariant-loop decreases-loop
+loop-again : tie.Need-loop-at-preserved-in-Give invariant-loop decreases-loop
 loop-again c =
-    let a = c.before.before.before.before.before.before.before.before.before.before.before.args in
-    let l = c.before.before.before.before.before.before.before.before.before.loop in
-    let byte-at' = c.before.before.before.before.before.before.before.byte_at in
-    let byte-does' = c.before.before.before.before.before.before.byte-does in
-    let value' = c.before.before.before.before.value in
-    let word-at' = c.before.word_at in
-    let if2' = c.if2 in
+    let a = c.args in
+    let l = c.loop-at in
+    let byte-at' = c.byte_at-b in
+    let byte-does' = c.byte_does in
+    let word-at' = c.word_at in
     matching-give l.invariant (omega (arith, length-hexes a.file.now a.base 2 a.n))
     (at_byte utf7 (shift_of l.st) (hexes-at a.file.now a.base 2 a.n l.at (omega arith) ∙ sym
-    byte-at'.ensures) (byte-moved _ _ byte-does'.ensures value'.given.1))
+    byte-at'.ensures) (byte-moved _ _ byte-does'.ensures c.in-Give.is))
     (omega (arith, length-hexes a.file.now a.text 8 a.m))
-    (hexes-at a.file.now a.text 8 a.m l.count (omega arith) ∙ sym word-at'.ensures ∙ if2'.false)
+    (hexes-at a.file.now a.text 8 a.m l.count (omega arith) ∙ sym word-at'.ensures ∙ c.if-word_at-value.false)
 
-enum-known-state : tie.Need-enum-known-state invariant-loop decreases-loop
+enum-known-state : tie.Need-enum_known-state invariant-loop decreases-loop
 enum-known-state c = search rules
 
-add-at-2 : tie.Need-overflow-add-at-2 invariant-loop decreases-loop
+add-at-2 : tie.Need-overflow_add-at-in-Go invariant-loop decreases-loop
 add-at-2 c = search rules
 
-loop-less-2 : tie.Need-loop-smaller-2 invariant-loop decreases-loop
+loop-less-2 : tie.Need-loop-at-smaller invariant-loop decreases-loop
 loop-less-2 c = search rules
 
-loop-again-2 : tie.Need-loop-preserved-2 invariant-loop decreases-loop
+loop-again-2 : tie.Need-loop-at-preserved invariant-loop decreases-loop
 loop-again-2 c =
-    let a = c.before.before.before.before.before.before.before.before.args in
-    let l = c.before.before.before.before.before.before.loop in
-    let byte-at' = c.before.before.before.before.byte_at in
-    let byte-does' = c.before.before.before.byte-does in
-    let state' = c.before.state in
+    let a = c.args in
+    let l = c.loop-at in
+    let byte-at' = c.byte_at-b in
+    let byte-does' = c.byte_does in
     matching-go l.invariant (omega (arith, length-hexes a.file.now a.base 2 a.n))
     (at_byte utf7 (shift_of l.st) (hexes-at a.file.now a.base 2 a.n l.at (omega arith) ∙ sym
-    byte-at'.ensures) (byte-moved _ _ byte-does'.ensures state'.given.1))
+    byte-at'.ensures) (byte-moved _ _ byte-does'.ensures c.in-Go.is))
 
-enum_told : tie.Need-enum-told invariant-loop decreases-loop
+enum_told : tie.Need-enum_told-1 invariant-loop decreases-loop
 enum_told c = search rules
 
-returns-3 : tie.Need-returns-3 invariant-loop decreases-loop
+returns-3 : tie.Need-returns-in-Bad invariant-loop decreases-loop
 returns-3 c =
-    let a = c.before.before.before.before.before.before.before.args in
-    let l = c.before.before.before.before.before.loop in
-    let byte-at' = c.before.before.before.byte_at in
-    let byte-does' = c.before.before.byte-does in
-    let enum-told' = c.enum_told in
+    let a = c.args in
+    let l = c.loop-at in
+    let byte-at' = c.byte_at-b in
+    let byte-does' = c.byte_does in
     matching-bad l.invariant (omega (arith, length-hexes a.file.now a.base 2 a.n))
     (at_byte utf7 (shift_of l.st) (hexes-at a.file.now a.base 2 a.n l.at (omega arith) ∙ sym
-    byte-at'.ensures) (byte-moved _ _ byte-does'.ensures enum-told'.given.1))
+    byte-at'.ensures) (byte-moved _ _ byte-does'.ensures c.in-Bad.is))
 
-ends-in-requires : tie.Need-ends-in-requires invariant-loop decreases-loop
+ends-in-requires : tie.Need-ends_in-requires invariant-loop decreases-loop
 ends-in-requires c κs = search rules
 
-enum-told-2 : tie.Need-enum-told-2 invariant-loop decreases-loop
+enum-told-2 : tie.Need-enum_told-in-Accepted invariant-loop decreases-loop
 enum-told-2 c = search rules
 
-enum-told-3 : tie.Need-enum-told-3 invariant-loop decreases-loop
+enum-told-3 : tie.Need-enum_told-in-Refused invariant-loop decreases-loop
 enum-told-3 c = search rules
 
-returns-4 : tie.Need-returns-4 invariant-loop decreases-loop
+returns-4 : tie.Need-returns-in-Accepted invariant-loop decreases-loop
 returns-4 c =
-    let a = c.before.before.before.before.before.before.args in
-    let l = c.before.before.before.before.loop in
-    let ends-in' = c.before.before.ends-in in
-    let enum-told2' = c.enum-told2 in
+    let a = c.args in
+    let l = c.loop-at in
+    let ends-in' = c.ends_in in
     ap (eqb l.count) (sym (length-hexes a.file.now a.text 8 a.m)) ∙
     (matching-accepted l.invariant (omega (arith, length-hexes a.file.now a.base 2 a.n)) _ (ends-sound _ _)
-    ends-in'.ensures enum-told2'.given.1)
+    ends-in'.ensures c.in-Accepted.is)
 
-returns-5 : tie.Need-returns-5 invariant-loop decreases-loop
+returns-5 : tie.Need-returns-in-Refused invariant-loop decreases-loop
 returns-5 c =
-    let a = c.before.before.before.before.before.before.args in
-    let l = c.before.before.before.before.loop in
-    let ends-in' = c.before.before.ends-in in
-    let enum-told3' = c.enum-told3 in
+    let a = c.args in
+    let l = c.loop-at in
+    let ends-in' = c.ends_in in
     matching-refused l.invariant (omega (arith, length-hexes a.file.now a.base 2 a.n)) _ ends-in'.ensures
-    enum-told3'.given.1
+    c.in-Refused.is
 
-pub utf7-same-spec : {M : Type 1} → statement M
-utf7-same-spec =
+pub utf7_same_spec : {M : Type 1} → statement M
+utf7_same_spec =
     tie.close
     (tie.spec
     invariant-loop

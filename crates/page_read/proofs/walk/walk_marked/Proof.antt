@@ -8,68 +8,63 @@ use borrow.Author.Rules.{rules}
 use Rattle.page_read.proofs.walk.walk_marked.Statement.{statement}
 use Rattle.page_read.proofs.walk.walk_marked.Tie as tie
 
-cut-in-requires : tie.Need-cut-in-requires
+cut-in-requires : tie.Need-cut_in-cut-requires
 cut-in-requires c κs = search rules
 
-walk-records-requires : tie.Need-walk-records-requires
+walk-records-requires : tie.Need-walk_records-first-requires
 walk-records-requires c κs =
-    let a = c.before.before.args in
-    let cut-in' = c.cut_in in
+    let a = c.args in
+    let cut-in' = c.cut_in-cut in
     let b = cut-between a.mark a.from a.to (omega arith) in
     omega (arith, cut-in'.ensures)
 
-enum-known-first : tie.Need-enum-known-first
+enum-known-first : tie.Need-enum_known-first
 enum-known-first c = search rules
 
-enum_told : tie.Need-enum-told
+enum_told : tie.Need-enum_told-1
 enum_told c = search rules
 
-returns : tie.Need-returns
+returns : tie.Need-returns-in_default
 returns c =
-    let a = c.before.before.before.before.before.args in
-    let cut-in' = c.before.before.before.cut_in in
-    let walk-records' = c.before.before.walk-records in
-    let enum-told' = c.enum_told in
+    let a = c.args in
+    let cut-in' = c.cut_in-cut in
+    let walk-records' = c.walk_records-first in
     let b = cut-between a.mark a.from a.to (omega arith) in
     let e = cut-in'.ensures in
     rw (← e)
     (sym (marked-broken (hexes_at a.file.now a.base 8 a.n) a.from _ a.to (rw e b.0) (rw e b.1)
     (omega (arith, length-hexes a.file.now a.base 8 a.n)) a.room a.start a.from
-    (sym walk-records'.ensures ∙ enum-told'.given.1)))
+    (sym walk-records'.ensures ∙ c.in_default.is)))
 
-walk-records-requires-2 : tie.Need-walk-records-requires-2
+walk-records-requires-2 : tie.Need-walk_records-requires
 walk-records-requires-2 c κs =
-    let a = c.before.before.before.before.before.before.args in
-    let cut-in' = c.before.before.before.before.cut_in in
-    let walk-records' = c.before.before.before.walk-records in
-    let first' = c.before.first in
+    let a = c.args in
+    let cut-in' = c.cut_in-cut in
+    let walk-records' = c.walk_records-first in
     let b = cut-between a.mark a.from a.to (omega arith) in
     let e = cut-in'.ensures in
-    let g = first'.given in
-    let f = walk-fits a.room a.from a.start a.from g.0.0 g.0.1.0
+    let f = walk-fits a.room a.from a.start a.from c.in-Led.len c.in-Led.last
     (slice a.from cut-in'.result (hexes_at a.file.now a.base 8 a.n)) (omega arith)
-    (sym walk-records'.ensures ∙ g.1) in
+    (sym walk-records'.ensures ∙ c.in-Led.is) in
     omega arith
 
-returns-2 : tie.Need-returns-2
+returns-2 : tie.Need-returns
 returns-2 c =
-    let a = c.before.before.before.before.before.before.before.args in
-    let cut-in' = c.before.before.before.before.before.cut_in in
-    let walk-records' = c.before.before.before.before.walk-records in
-    let first' = c.before.before.first in
-    let walk-records2' = c.walk-records2 in
+    let a = c.args in
+    let cut-in' = c.cut_in-cut in
+    let walk-records' = c.walk_records-first in
+    let walk-records2' = c.walk_records in
     let b = cut-between a.mark a.from a.to (omega arith) in
     let e = cut-in'.ensures in
-    let g = first'.given in
     walk-records2'.ensures
     ∙ rw (← e)
     (sym (marked-led (hexes_at a.file.now a.base 8 a.n) a.from _ a.to (rw e b.0) (rw e b.1)
-    (omega (arith, length-hexes a.file.now a.base 8 a.n)) a.room a.start a.from g.0.0
-    g.0.1.0
-    (sym walk-records'.ensures ∙ g.1)))
+    (omega (arith, length-hexes a.file.now a.base 8 a.n)) a.room a.start a.from c.in-Led.len
+    c.in-Led.last
+    (sym walk-records'.ensures ∙ c.in-Led.is)))
 
-pub walk-marked-spec : {M : Type 1} → statement M
-walk-marked-spec =
+pub walk_marked_spec : {M : Type 1} → statement M
+walk_marked_spec =
     tie.close
     (tie.spec
     cut-in-requires

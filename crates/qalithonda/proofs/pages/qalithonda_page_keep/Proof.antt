@@ -5,11 +5,11 @@ use Rattle.qalithonda.proofs.pages.qalithonda_page_keep.Tie as tie
 keep-requires : tie.Need-keep-requires
 keep-requires c κs = search rules
 
-same_length : tie.Need-same-length
+same_length : tie.Need-shape_of-out
 same_length c = search rules
 
 returns : tie.Need-returns
-returns c = c.before.before.keep.ensures
+returns c = c.keep.ensures
 
-pub qalithonda-page-keep-spec : {M : Type 1} → statement M
-qalithonda-page-keep-spec = tie.close (tie.spec keep-requires same_length returns)
+pub qalithonda_page_keep_spec : {M : Type 1} → statement M
+qalithonda_page_keep_spec = tie.close (tie.spec keep-requires same_length returns)

@@ -5,11 +5,11 @@ use Rattle.qalithonda.proofs.pages.qalithonda_redo.Tie as tie
 redo-requires : tie.Need-redo-requires
 redo-requires c κs = search rules
 
-same_length : tie.Need-same-length
+same_length : tie.Need-shape_of-text
 same_length c = search rules
 
 returns : tie.Need-returns
-returns c = c.before.before.redo.ensures
+returns c = c.redo.ensures
 
-pub qalithonda-redo-spec : {M : Type 1} → statement M
-qalithonda-redo-spec = tie.close (tie.spec redo-requires same_length returns)
+pub qalithonda_redo_spec : {M : Type 1} → statement M
+qalithonda_redo_spec = tie.close (tie.spec redo-requires same_length returns)

@@ -8,5 +8,5 @@ unchanged-requires c κs = search rules
 returns : tie.Need-returns
 returns c = c.unchanged.ensures
 
-pub qalithonda-unchanged-spec : {M : Type 1} → statement M
-qalithonda-unchanged-spec = tie.close (tie.spec unchanged-requires returns)
+pub qalithonda_unchanged_spec : {M : Type 1} → statement M
+qalithonda_unchanged_spec = tie.close (tie.spec unchanged-requires returns)

@@ -5,11 +5,11 @@ use Rattle.qalithonda.proofs.pages.qalithonda_undo.Tie as tie
 undo-requires : tie.Need-undo-requires
 undo-requires c κs = search rules
 
-same_length : tie.Need-same-length
+same_length : tie.Need-shape_of-text
 same_length c = search rules
 
 returns : tie.Need-returns
-returns c = c.before.before.undo.ensures
+returns c = c.undo.ensures
 
-pub qalithonda-undo-spec : {M : Type 1} → statement M
-qalithonda-undo-spec = tie.close (tie.spec undo-requires same_length returns)
+pub qalithonda_undo_spec : {M : Type 1} → statement M
+qalithonda_undo_spec = tie.close (tie.spec undo-requires same_length returns)

@@ -5,14 +5,14 @@ use Rattle.qalithonda.proofs.pages.qalithonda_utf7_body_open.Tie as tie
 open-requires : tie.Need-open-requires
 open-requires c κs = search rules
 
-same_length : tie.Need-same-length
+same_length : tie.Need-shape_of-text
 same_length c = search rules
 
-same-length-2 : tie.Need-same-length-2
+same-length-2 : tie.Need-shape_of-history
 same-length-2 c = search rules
 
 returns : tie.Need-returns
 returns c = c.before.before.before.before.«open».ensures
 
-pub qalithonda-utf7-body-open-spec : {M : Type 1} → statement M
-qalithonda-utf7-body-open-spec = tie.close (tie.spec open-requires same_length same-length-2 returns)
+pub qalithonda_utf7_body_open_spec : {M : Type 1} → statement M
+qalithonda_utf7_body_open_spec = tie.close (tie.spec open-requires same_length same-length-2 returns)

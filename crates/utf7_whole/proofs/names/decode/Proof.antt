@@ -13,94 +13,94 @@ use Rattle.utf7_whole.proofs.Mailbox.{holds_on}
 use Rattle.utf7_whole.proofs.names.decode.Statement.{statement}
 use Rattle.utf7_whole.proofs.names.decode.Tie as tie
 
-abbrev invariant-loop : tie.invariant-loop
+abbrev invariant-loop : tie.invariant-loop-at
 invariant-loop text room out₀ at₀ n₀ st₀ out at n st = FilledBy mailbox text at (shift_of st) n out × (length out ≡ length out₀)
 
-abbrev decreases-loop : tie.decreases-loop
+abbrev decreases-loop : tie.decreases-loop-at
 decreases-loop text room out₀ at₀ n₀ st₀ out at n st = length text - at
 
-fill-requires : tie.Need-fill-requires invariant-loop decreases-loop
-fill-requires c κs = let q = c.before.before.before.before.requires in (q.0.1, filled_in q.1.1)
+fill-requires : tie.Need-fill-reached-requires invariant-loop decreases-loop
+fill-requires c κs = let q = c.requires in (q.0.1, filled_in q.1.1)
 
-loop-holds : tie.Need-loop-init invariant-loop decreases-loop
-loop-holds c = let q = c.before.before.before.before.before.before.before.requires in (holds_on (c.before.before.fill.ensures _ q.1.0 q.1.1.left.within) q.1.1, refl)
+loop-holds : tie.Need-loop-at-init invariant-loop decreases-loop
+loop-holds c = let q = c.requires in (holds_on (c.fill-reached.ensures _ q.1.0 q.1.1.left.within) q.1.1, refl)
 
-shared-slice-read-byte-does : tie.Need-shared-slice-read-byte-does invariant-loop decreases-loop
+shared-slice-read-byte-does : tie.Need-bounds-text-at invariant-loop decreases-loop
 shared-slice-read-byte-does c = search rules
 
-byte-does-requires : tie.Need-byte-does-requires invariant-loop decreases-loop
+byte-does-requires : tie.Need-byte_does-requires invariant-loop decreases-loop
 byte-does-requires c κs = search rules
 
-enum-known-value : tie.Need-enum-known-value invariant-loop decreases-loop
+enum-known-value : tie.Need-enum_known-value invariant-loop decreases-loop
 enum-known-value c = search rules
 
 -- the next cell has a place
-index : (c : tie.After-known-told invariant-loop decreases-loop) → let l = c.before.before.before.before.before.before.loop in l.n < length l.out
-index c = let f = c.before.before.before in
-    let i = f.before.before in
-    filled-place i.before.loop.invariant.0 i.loop-test.true (byte-moved _ _ f.byte-does.ensures c.before.value.given.1)
-    (omega (arith, i.before.loop.invariant.1, c.before.before.before.before.before.before.before.before.before.fill.auto.1.1.0, c.before.before.before.before.before.before.before.before.before.before.before.before.before.before.requires.0.0))
+index : (c : tie.In-Give invariant-loop decreases-loop) → let l = c.loop-at in l.n < length l.out
+index c = let f = c in
+    let i = f in
+    filled-place i.loop-at.invariant.0 i.loop-at-test.true (byte-moved _ _ f.byte_does.ensures c.in-Give.is)
+    (omega (arith, i.loop-at.invariant.1, c.fill-reached.auto.out, c.requires.0.0))
 
-mul-out : tie.Need-overflow-mul-out invariant-loop decreases-loop
+mul-out : tie.Need-offset_bounds-out-n invariant-loop decreases-loop
 mul-out c = omega (arith, index c)
 
-slice-write-out : tie.Need-slice-write-out invariant-loop decreases-loop
+slice-write-out : tie.Need-bounds-out-n invariant-loop decreases-loop
 slice-write-out c = index c
 
-add-n : tie.Need-overflow-add-n invariant-loop decreases-loop
+add-n : tie.Need-overflow_add-n invariant-loop decreases-loop
 add-n c = search rules
 
-add_at : tie.Need-overflow-add-at invariant-loop decreases-loop
+add_at : tie.Need-overflow_add-at invariant-loop decreases-loop
 add_at c = search rules
 
-loop-less : tie.Need-loop-smaller invariant-loop decreases-loop
+loop-less : tie.Need-loop-at-smaller-in-Give invariant-loop decreases-loop
 loop-less c = search rules
 
-loop-again : tie.Need-loop-preserved invariant-loop decreases-loop
-loop-again c = let f = c.before.before.before in
-    let i = f.before.before in
-    (filled-give i.before.loop.invariant.0 i.loop-test.true (byte-moved _ _ f.byte-does.ensures c.before.value.given.1) (index c), simp length-set i.before.loop.invariant.1)
+loop-again : tie.Need-loop-at-preserved-in-Give invariant-loop decreases-loop
+loop-again c = let f = c in
+    let i = f in
+    (filled-give i.loop-at.invariant.0 i.loop-at-test.true (byte-moved _ _ f.byte_does.ensures c.in-Give.is) (index c), simp length-set i.loop-at.invariant.1)
 
-enum-known-state : tie.Need-enum-known-state invariant-loop decreases-loop
+enum-known-state : tie.Need-enum_known-state invariant-loop decreases-loop
 enum-known-state c = search rules
 
-add-at-2 : tie.Need-overflow-add-at-2 invariant-loop decreases-loop
+add-at-2 : tie.Need-overflow_add-at-in-Go invariant-loop decreases-loop
 add-at-2 c = search rules
 
-loop-less-2 : tie.Need-loop-smaller-2 invariant-loop decreases-loop
+loop-less-2 : tie.Need-loop-at-smaller invariant-loop decreases-loop
 loop-less-2 c = search rules
 
-loop-again-2 : tie.Need-loop-preserved-2 invariant-loop decreases-loop
-loop-again-2 c = let f = c.before.before.before in
-    let i = f.before.before in
-    (filled-go i.before.loop.invariant.0 i.loop-test.true (byte-moved _ _ f.byte-does.ensures c.before.state.given.1), i.before.loop.invariant.1)
+loop-again-2 : tie.Need-loop-at-preserved invariant-loop decreases-loop
+loop-again-2 c = let f = c in
+    let i = f in
+    (filled-go i.loop-at.invariant.0 i.loop-at-test.true (byte-moved _ _ f.byte_does.ensures c.in-Go.is), i.loop-at.invariant.1)
 
-enum-known-why : tie.Need-enum-known-why invariant-loop decreases-loop
+enum-known-why : tie.Need-enum_known-why invariant-loop decreases-loop
 enum-known-why c = search rules
 
-same_length : tie.Need-same-length invariant-loop decreases-loop
-same_length c = c.before.before.before.before.before.before.loop.invariant.1 ∙ c.before.before.before.before.before.before.before.before.before.fill.auto.1.1.0
+same_length : tie.Need-shape_of-out-in-Bad invariant-loop decreases-loop
+same_length c = c.loop-at.invariant.1 ∙ c.fill-reached.auto.out
 
-returns : tie.Need-returns invariant-loop decreases-loop
-returns c = let f = c.before.before.before in
-    let i = f.before.before in
-    let q = i.before.loop.invariant.0 in
-    let e = left-bad q.left i.loop-test.true (byte-moved _ _ f.byte-does.ensures c.before.why.given.1) in
+returns : tie.Need-returns-in-Bad invariant-loop decreases-loop
+returns c = let f = c in
+    let i = f in
+    let q = i.loop-at.invariant.0 in
+    let e = left-bad q.left i.loop-at-test.true (byte-moved _ _ f.byte_does.ensures c.in-Bad.is) in
     (e.1, filled-done q e.0)
 
 finish-requires : tie.Need-finish-requires invariant-loop decreases-loop
 finish-requires c κs = search rules
 
-same-length-2 : tie.Need-same-length-2 invariant-loop decreases-loop
-same-length-2 c = c.before.before.loop.invariant.1 ∙ c.before.before.before.before.before.fill.auto.1.1.0
+same-length-2 : tie.Need-shape_of-out invariant-loop decreases-loop
+same-length-2 c = c.loop-at.invariant.1 ∙ c.fill-reached.auto.out
 
-returns-2 : tie.Need-returns-2 invariant-loop decreases-loop
-returns-2 c = let q = c.before.before.loop.invariant.0 in
-    let e = left_end q.left c.before.loop-test.false in
+returns-2 : tie.Need-returns invariant-loop decreases-loop
+returns-2 c = let q = c.loop-at.invariant.0 in
+    let e = left_end q.left c.loop-at-test.false in
     (c.finish.ensures ∙ e.1, filled-done q e.0)
 
-pub decode-spec : {M : Type 1} → statement M
-decode-spec =
+pub decode_spec : {M : Type 1} → statement M
+decode_spec =
     tie.close
     (tie.spec
     invariant-loop

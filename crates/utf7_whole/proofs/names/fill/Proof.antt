@@ -20,112 +20,112 @@ abbrev Fills : List ℕ → ℕ → ℕ → Bool → List ℕ → ℕ → ℕ �
 Fills text at₀ n₀ after₀ out₀ at n after out =
     (s : List ℕ) → Padded s text → at₀ ≤ length s → Puts s (record { at = at₀; n = n₀; after = after₀ }) out₀ (record { at = at; n = n; after = after }) out
 
-abbrev invariant-loop : tie.invariant-loop
+abbrev invariant-loop : tie.invariant-loop-at
 invariant-loop text out₀ at₀ n₀ after₀ out at n after =
     Fills text at₀ n₀ after₀ out₀ at n after out × (length out ≡ length out₀) × (n ≤ length out) × (at ≤ length text) × (at₀ ≤ length text)
 
-abbrev decreases-loop : tie.decreases-loop
+abbrev decreases-loop : tie.decreases-loop-at
 decreases-loop text out₀ at₀ n₀ after₀ out at n after = length text - at
 
-loop-holds : tie.Need-loop-init invariant-loop decreases-loop
-loop-holds c = let q = c.before.before.requires in (λ s p h. puts-stay _ h (laid_none _ _), refl, q.1, q.0, q.0)
+loop-holds : tie.Need-loop-at-init invariant-loop decreases-loop
+loop-holds c = let q = c.requires in (λ s p h. puts-stay _ h (laid_none _ _), refl, q.1, q.0, q.0)
 
-add-loop : tie.Need-overflow-add-loop invariant-loop decreases-loop
-add-loop c = omega (arith, c.loop.invariant.3)
+add-loop : tie.Need-overflow_add-at invariant-loop decreases-loop
+add-loop c = omega (arith, c.loop-at.invariant.3)
 
-add-if1 : tie.Need-overflow-add-if1 invariant-loop decreases-loop
+add-if1 : tie.Need-overflow_add-n invariant-loop decreases-loop
 add-if1 c = search rules
 
-same_length : tie.Need-same-length invariant-loop decreases-loop
-same_length c = c.before.before.loop.invariant.1
+same_length : tie.Need-shape_of-out-then-out-n invariant-loop decreases-loop
+same_length c = c.loop-at.invariant.1
 
-returns : tie.Need-returns invariant-loop decreases-loop
-returns c s p h = puts-from _ (c.before.before.loop.invariant.0 s p h)
+returns : tie.Need-returns-then-out-n invariant-loop decreases-loop
+returns c s p h = puts-from _ (c.loop-at.invariant.0 s p h)
 
-plain-ahead-requires : tie.Need-plain-ahead-requires invariant-loop decreases-loop
+plain-ahead-requires : tie.Need-plain_ahead-k-requires invariant-loop decreases-loop
 plain-ahead-requires c κs = search rules
 
-put-plain-requires : tie.Need-put-plain-requires invariant-loop decreases-loop
-put-plain-requires c κs = (omega (arith, c.before.before.before.loop-test.true), omega (arith, c.before.before.if1.false))
+put-plain-requires : tie.Need-put_plain-requires invariant-loop decreases-loop
+put-plain-requires c κs = (omega (arith, c.loop-at-test.true), omega (arith, c.if-out-n.false))
 
-add_at : tie.Need-overflow-add-at invariant-loop decreases-loop
+add_at : tie.Need-overflow_add-at-then-k-eq32 invariant-loop decreases-loop
 add_at c = search rules
 
-add-n : tie.Need-overflow-add-n invariant-loop decreases-loop
+add-n : tie.Need-overflow_add-n-then-k-eq32 invariant-loop decreases-loop
 add-n c = search rules
 
-loop-less : tie.Need-loop-smaller invariant-loop decreases-loop
+loop-less : tie.Need-loop-at-smaller-then-k-eq32 invariant-loop decreases-loop
 loop-less c = search rules
 
 -- the loop's start, from behind the bytes that stand for themselves
 abbrev W : Type 0
-W = tie.After-slice-known2 invariant-loop decreases-loop
+W = tie.After-slice_known-in-loop-at-1 invariant-loop decreases-loop
 
-abbrev top : W → tie.In-loop invariant-loop decreases-loop
+abbrev top : W → tie.In-loop-at invariant-loop decreases-loop
 top c = c.before.before.before.before.before.before
 
 -- they are laid first of the block
 laid :
     (c : W) →
     let l = (top c).before in
-    Laid (slice l.loop.at (l.loop.at + c.before.before.before.before.plain-ahead.result) l.before.before.before.args.text.now) l.loop.n l.loop.out c.before.before.put-plain.new.1.1.0
+    Laid (slice l.loop-at.at (l.loop-at.at + c.plain_ahead-k.result) l.args.text.now) l.loop-at.n l.loop-at.out c.put_plain.new.out
 laid c =
     let l = (top c).before in
-    let k = c.before.before.before.before.plain-ahead in
-    laid-slice l.before.before.before.args.text.now l.loop.at (l.loop.at + k.result) (l.loop.at + 32) (omega arith) (omega (arith, k.ensures.0)) (omega (arith, (top c).loop-test.true))
-    c.before.before.put-plain.ensures l.loop.inv.2
+    let k = c.plain_ahead-k in
+    laid-slice l.args.text.now l.loop-at.at (l.loop-at.at + k.result) (l.loop-at.at + 32) (omega arith) (omega (arith, k.ensures.0)) (omega (arith, (top c).loop-at-test.true))
+    c.put_plain.ensures l.loop-at.invariant.2
 
 -- they are put
 plain :
     (c : W) →
     let l = (top c).before in
-    let a = l.before.before.before.args in
-    let k = c.before.before.before.before.plain-ahead.result in
-    Fills a.text.now a.from.at a.from.n a.from.after a.out.now (l.loop.at + k) (l.loop.n + k) (l.loop.after && eqb k 0) c.before.before.put-plain.new.1.1.0
+    let a = l.args in
+    let k = c.plain_ahead-k.result in
+    Fills a.text.now a.from.at a.from.n a.from.after a.out.now (l.loop-at.at + k) (l.loop-at.n + k) (l.loop-at.after && eqb k 0) c.put_plain.new.out
 plain c s p h =
-    let q = (top c).before.loop.invariant.0 s p h in
-    puts-on q (puts_plain p _ q.goes.within c.before.before.before.before.plain-ahead.ensures.1 (laid c))
+    let q = (top c).loop-at.invariant.0 s p h in
+    puts-on q (puts_plain p _ q.goes.within c.plain_ahead-k.ensures.1 (laid c))
 
-same : (c : W) → length c.before.before.put-plain.new.1.1.0 ≡ length (top c).before.before.before.before.args.out.now
-same c = c.before.before.put-plain.ensures.same ∙ (top c).before.loop.invariant.1
+same : (c : W) → length c.put_plain.new.out ≡ length (top c).args.out.now
+same c = c.put_plain.ensures.same ∙ (top c).loop-at.invariant.1
 
 -- many bytes follow, and there is room
-near : (c : W) → let l = (top c).before in l.loop.at + c.before.before.before.before.plain-ahead.result + 5 ≤ length l.before.before.before.args.text.now
-near c = omega (arith, c.before.before.before.before.plain-ahead.ensures.0, (top c).loop-test.true)
+near : (c : W) → let l = (top c).before in l.loop-at.at + c.plain_ahead-k.result + 5 ≤ length l.args.text.now
+near c = omega (arith, c.plain_ahead-k.ensures.0, (top c).loop-at-test.true)
 
-room : (c : W) → (top c).before.loop.n + c.before.before.before.before.plain-ahead.result < length c.before.before.put-plain.new.1.1.0
-room c = omega (arith, c.before.before.before.before.plain-ahead.ensures.0, c.before.before.before.before.before.if1.false, c.before.before.put-plain.ensures.same)
+room : (c : W) → (top c).loop-at.n + c.plain_ahead-k.result < length c.put_plain.new.out
+room c = omega (arith, c.plain_ahead-k.ensures.0, c.if-out-n.false, c.put_plain.ensures.same)
 
-loop-again : tie.Need-loop-preserved invariant-loop decreases-loop
+loop-again : tie.Need-loop-at-preserved-then-k-eq32 invariant-loop decreases-loop
 loop-again c = let w = c.before in (
-  λ s p h. puts-as (plain w s p h) (omega (arith, c.if2.true)) (omega (arith, c.if2.true)) (none-since (top w).before.loop.after w.before.before.before.before.plain-ahead.result (omega (arith, c.if2.true))),
+  λ s p h. puts-as (plain w s p h) (omega (arith, c.if-k-eq32.true)) (omega (arith, c.if-k-eq32.true)) (none-since (top w).loop-at.after w.plain_ahead-k.result (omega (arith, c.if-k-eq32.true))),
   same w,
-  omega (arith, room w, c.if2.true),
-  omega (arith, near w, c.if2.true),
-  (top w).before.loop.invariant.4,
+  omega (arith, room w, c.if-k-eq32.true),
+  omega (arith, near w, c.if-k-eq32.true),
+  (top w).loop-at.invariant.4,
 )
 
-add-at-2 : tie.Need-overflow-add-at-2 invariant-loop decreases-loop
+add-at-2 : tie.Need-overflow_add-at-else-k-eq32 invariant-loop decreases-loop
 add-at-2 c = search rules
 
-add-n-2 : tie.Need-overflow-add-n-2 invariant-loop decreases-loop
+add-n-2 : tie.Need-overflow_add-n-else-k-eq32 invariant-loop decreases-loop
 add-n-2 c = search rules
 
-shared-slice-read-if3 : tie.Need-shared-slice-read-if3 invariant-loop decreases-loop
+shared-slice-read-if3 : tie.Need-bounds-text-at invariant-loop decreases-loop
 shared-slice-read-if3 c = search rules
 
-same-length-2 : tie.Need-same-length-2 invariant-loop decreases-loop
+same-length-2 : tie.Need-shape_of-out-then-text-at-ne38 invariant-loop decreases-loop
 same-length-2 c = same c.before.before.before
 
-returns-2 : tie.Need-returns-2 invariant-loop decreases-loop
+returns-2 : tie.Need-returns-then-text-at-ne38 invariant-loop decreases-loop
 returns-2 c s p h = puts-from _ (plain c.before.before.before s p h)
 
-put-token-requires : tie.Need-put-token-requires invariant-loop decreases-loop
-put-token-requires c κs = let w = c.before.before.before.before in (near w, c.before.if3.false, room w)
+put-token-requires : tie.Need-put_token-r-requires invariant-loop decreases-loop
+put-token-requires c κs = let w = c.before.before.before.before in (near w, c.if-text-at-ne38.false, room w)
 
 -- from behind a token
 abbrev P : Type 0
-P = tie.After-put-token invariant-loop decreases-loop
+P = tie.After-put_token-r invariant-loop decreases-loop
 
 abbrev here : P → W
 here p = p.before.before.before.before.before
@@ -134,40 +134,40 @@ here p = p.before.before.before.before.before
 token :
     (c : P) →
     let l = (top (here c)).before in
-    let a = l.before.before.before.args in
-    let r = c.put-token.result in
-    Fills a.text.now a.from.at a.from.n a.from.after a.out.now r.at r.n r.after c.put-token.new.1.1.0
-token c s p h = puts-as (puts-on (plain (here c) s p h) (c.put-token.ensures s p)) refl refl refl
+    let a = l.args in
+    let r = c.put_token-r.result in
+    Fills a.text.now a.from.at a.from.n a.from.after a.out.now r.at r.n r.after c.put_token-r.new.out
+token c s p h = puts-as (puts-on (plain (here c) s p h) (c.put_token-r.ensures s p)) refl refl refl
 
 -- of the text as it is lent
 whole :
     (c : P) →
     let l = (top (here c)).before in
-    let a = l.before.before.before.args in
+    let a = l.args in
     Puts a.text.now (record { at = a.from.at; n = a.from.n; after = a.from.after }) a.out.now
-    (record { at = c.put-token.result.at; n = c.put-token.result.n; after = c.put-token.result.after }) c.put-token.new.1.1.0
-whole c = let l = (top (here c)).before in token c _ (padded-self _) l.loop.inv.4
+    (record { at = c.put_token-r.result.at; n = c.put_token-r.result.n; after = c.put_token-r.result.after }) c.put_token-r.new.out
+whole c = let l = (top (here c)).before in token c _ (padded-self _) l.loop-at.invariant.4
 
-same-length-3 : tie.Need-same-length-3 invariant-loop decreases-loop
+same-length-3 : tie.Need-shape_of-out-then-to-at invariant-loop decreases-loop
 same-length-3 c = (whole c.before.before.before).laid.same
 
-returns-3 : tie.Need-returns-3 invariant-loop decreases-loop
-returns-3 c s p h = let q = c.before.before.before in puts-from _ (puts-on (plain (here q) s p h) (q.put-token.ensures s p))
+returns-3 : tie.Need-returns-then-to-at invariant-loop decreases-loop
+returns-3 c s p h = let q = c.before.before.before in puts-from _ (puts-on (plain (here q) s p h) (q.put_token-r.ensures s p))
 
-loop-less-2 : tie.Need-loop-smaller-2 invariant-loop decreases-loop
-loop-less-2 c = omega (arith, c.if4.false, near (here c.before.before.before))
+loop-less-2 : tie.Need-loop-at-smaller invariant-loop decreases-loop
+loop-less-2 c = omega (arith, c.if-to-at.false, near (here c.before.before.before))
 
-loop-again-2 : tie.Need-loop-preserved-2 invariant-loop decreases-loop
+loop-again-2 : tie.Need-loop-at-preserved invariant-loop decreases-loop
 loop-again-2 c = let q = c.before.before.before in
     let w = whole q in
     let b = (top (here q)).before in
-    (token q, w.laid.same, puts-in w b.before.before.before.pre.1, w.goes.within, b.loop.inv.4)
+    (token q, w.laid.same, puts-in w b.requires.1, w.goes.within, b.loop-at.invariant.4)
 
-same-length-4 : tie.Need-same-length-4 invariant-loop decreases-loop
-same-length-4 c = c.before.loop.invariant.1
+same-length-4 : tie.Need-shape_of-out invariant-loop decreases-loop
+same-length-4 c = c.loop-at.invariant.1
 
-returns-4 : tie.Need-returns-4 invariant-loop decreases-loop
-returns-4 c s p h = puts-from _ (c.before.loop.invariant.0 s p h)
+returns-4 : tie.Need-returns invariant-loop decreases-loop
+returns-4 c s p h = puts-from _ (c.loop-at.invariant.0 s p h)
 
 pub fill_spec : {M : Type 1} → statement M
 fill_spec =

@@ -20,5 +20,5 @@ tests = refl
 returns : tie.Need-returns
 returns c = sym (same-eq _ _ (below (λ k. same (tested k) (own Name k)) 256 tests c.args.b (search rules)))
 
-pub is-plain-spec : {M : Type 1} → statement M
-is-plain-spec = tie.close (tie.spec returns)
+pub is_plain_spec : {M : Type 1} → statement M
+is_plain_spec = tie.close (tie.spec returns)

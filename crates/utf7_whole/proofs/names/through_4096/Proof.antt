@@ -5,21 +5,21 @@ use Rattle.utf7_whole.proofs.Buffers.{zero-at}
 use Rattle.utf7_whole.proofs.names.through_4096.Statement.{statement}
 use Rattle.utf7_whole.proofs.names.through_4096.Tie as tie
 
-slice-aggregate-through : tie.Need-slice-aggregate-through
+slice-aggregate-through : tie.Need-slice_bounds-through-end
 slice-aggregate-through c = search rules
 
-slice-aggregate-through-2 : tie.Need-slice-aggregate-through-2
+slice-aggregate-through-2 : tie.Need-slice_bounds-through-end-2
 slice-aggregate-through-2 c = search rules
 
 through-requires : tie.Need-through-requires
 unfolding limit
 through-requires c κs = (omega arith, (omega arith, (zero-at 4176, omega arith)))
 
-same_length : tie.Need-same-length
+same_length : tie.Need-shape_of-out
 same_length c = search rules
 
 returns : tie.Need-returns
 returns c = search rules
 
-pub through-4096-spec : {M : Type 1} → statement M
-through-4096-spec = tie.close (tie.spec slice-aggregate-through slice-aggregate-through-2 through-requires same_length returns)
+pub through_4096_spec : {M : Type 1} → statement M
+through_4096_spec = tie.close (tie.spec slice-aggregate-through slice-aggregate-through-2 through-requires same_length returns)

@@ -8,53 +8,53 @@ use Rattle.utf7_whole.proofs.Tokens.{set_more, slice_at}
 use Rattle.utf7_whole.proofs.quick.cells_ahead.Statement.{statement}
 use Rattle.utf7_whole.proofs.quick.cells_ahead.Tie as tie
 
-abbrev invariant-loop : tie.invariant-loop
+abbrev invariant-loop : tie.invariant-loop-k
 invariant-loop text at x₀ k₀ x k = (k ≤ 16) × (length x ≡ 16) × ((j : ℕ) → j < k → get_or x j 0 ≡ get_or text (at + j) 0)
 
-abbrev decreases-loop : tie.decreases-loop
+abbrev decreases-loop : tie.decreases-loop-k
 decreases-loop text at x₀ k₀ x k = 16 - k
 
-loop-holds : tie.Need-loop-init invariant-loop decreases-loop
+loop-holds : tie.Need-loop-k-init invariant-loop decreases-loop
 loop-holds c = (omega arith, refl, λ j h. absurd (omega arith))
 
-add_wide : tie.Need-overflow-add-wide invariant-loop decreases-loop
+add_wide : tie.Need-overflow_add-at invariant-loop decreases-loop
 add_wide c = search rules
 
-shared-slice-read-wide : tie.Need-shared-slice-read-wide invariant-loop decreases-loop
+shared-slice-read-wide : tie.Need-bounds-text-at invariant-loop decreases-loop
 shared-slice-read-wide c = search rules
 
 wide-requires : tie.Need-wide-requires invariant-loop decreases-loop
 wide-requires c κs = search rules
 
-mul-x : tie.Need-overflow-mul-x invariant-loop decreases-loop
+mul-x : tie.Need-offset_bounds-x-k invariant-loop decreases-loop
 mul-x c = search rules
 
-array-write-x : tie.Need-array-write-x invariant-loop decreases-loop
+array-write-x : tie.Need-bounds-x-k invariant-loop decreases-loop
 array-write-x c = search rules
 
-add-k : tie.Need-overflow-add-k invariant-loop decreases-loop
+add-k : tie.Need-overflow_step-k invariant-loop decreases-loop
 add-k c = search rules
 
-loop-less : tie.Need-loop-smaller invariant-loop decreases-loop
+loop-less : tie.Need-loop-k-smaller invariant-loop decreases-loop
 loop-less c = search rules
 
-loop-again : tie.Need-loop-preserved invariant-loop decreases-loop
-loop-again c = let l = c.before.before.before in
-    let a = l.before.before.args in
-    let i = l.loop.invariant in
+loop-again : tie.Need-loop-k-preserved invariant-loop decreases-loop
+loop-again c = let l = c in
+    let a = l.args in
+    let i = l.loop-k.invariant in
     let Q : ℕ → ℕ → Type 0 = λ j x. x ≡ get_or a.text.now (a.at + j) 0 in
-    (omega arith, simp length-set i.1, set_more l.loop.x l.loop.k c.wide.result Q (omega (arith, i.1)) i.2 c.wide.ensures)
+    (omega arith, simp length-set i.1, set_more l.loop-k.x l.loop-k.k c.wide.result Q (omega (arith, i.1)) i.2 c.wide.ensures)
 
 returns : tie.Need-returns invariant-loop decreases-loop
-returns c = let l = c.before.loop in
-    let a = c.before.before.before in
+returns c = let l = c.loop-k in
+    let a = c in
     let i = l.invariant in
     let s = a.args.text.now in
     let n : length (slice a.args.at (a.args.at + 16) s) ≡ a.args.at + 16 - a.args.at = length-slice a.args.at (a.args.at + 16) s a.requires in
-    ext_get_or 0 l.x _ (omega (arith, i.1, n)) (λ j h. i.2 j (omega (arith, h, i.1, c.loop-test.false)) ∙ sym (slice_at s a.args.at (a.args.at + 16) j (omega (arith, h, i.1))))
+    ext_get_or 0 l.x _ (omega (arith, i.1, n)) (λ j h. i.2 j (omega (arith, h, i.1, c.loop-k-test.false)) ∙ sym (slice_at s a.args.at (a.args.at + 16) j (omega (arith, h, i.1))))
 
-pub cells-ahead-spec : {M : Type 1} → statement M
-cells-ahead-spec =
+pub cells_ahead_spec : {M : Type 1} → statement M
+cells_ahead_spec =
     tie.close
     (tie.spec
     invariant-loop

@@ -19,5 +19,5 @@ tests = refl
 returns : tie.Need-returns
 returns c = sym (same-eq _ _ (below (λ k. same (tested k) (set_b slash k)) 256 tests c.args.b (search rules)))
 
-pub is-letter-spec : {M : Type 1} → statement M
-is-letter-spec = tie.close (tie.spec returns)
+pub is_letter_spec : {M : Type 1} → statement M
+is_letter_spec = tie.close (tie.spec returns)

@@ -11,5 +11,5 @@ returns c = λ e.
     let i = both _ _ h.0 in
     (ltb-true _ _ i.0, ltb-true _ _ i.1, ltb-true _ _ h.1, eqb-true _ _ g.1, eqb-true _ _ f.1)
 
-pub is-one-spec : {M : Type 1} → statement M
-is-one-spec = tie.close (tie.spec returns)
+pub is_one_spec : {M : Type 1} → statement M
+is_one_spec = tie.close (tie.spec returns)

@@ -9,54 +9,54 @@ use Rattle.utf7_whole.proofs.Tokens.{span-stay, span-on, span-to-as, span-ahead}
 use Rattle.utf7_whole.proofs.quick.judge_run.Statement.{statement}
 use Rattle.utf7_whole.proofs.quick.judge_run.Tie as tie
 
-abbrev invariant-loop : tie.invariant-loop
+abbrev invariant-loop : tie.invariant-loop-at
 invariant-loop text from at₀ at = Span (set_b slash) text from at
 
-abbrev decreases-loop : tie.decreases-loop
+abbrev decreases-loop : tie.decreases-loop-at
 decreases-loop text from at₀ at = length text - at
 
-loop-holds : tie.Need-loop-init invariant-loop decreases-loop
-loop-holds c = span-stay _ c.before.requires
+loop-holds : tie.Need-loop-at-init invariant-loop decreases-loop
+loop-holds c = span-stay _ c.requires
 
-add-loop : tie.Need-overflow-add-loop invariant-loop decreases-loop
-add-loop c = omega (arith, c.loop.invariant.within)
+add-loop : tie.Need-overflow_add-at invariant-loop decreases-loop
+add-loop c = omega (arith, c.loop-at.invariant.within)
 
-letters-ahead-requires : tie.Need-letters-ahead-requires invariant-loop decreases-loop
+letters-ahead-requires : tie.Need-letters_ahead-c-requires invariant-loop decreases-loop
 letters-ahead-requires c κs = search rules
 
 -- the letters of the block, behind those before it
-block : (c : tie.After-letters-ahead invariant-loop decreases-loop) → let l = c.before.before in Span (set_b slash) l.before.before.args.text.now l.before.before.args.from (l.loop.at + c.letters-ahead.result)
-block c = span-on c.before.before.loop.invariant (span-ahead (set_b slash) c.letters-ahead.ensures c.before.loop-test.true)
+block : (c : tie.After-letters_ahead-c invariant-loop decreases-loop) → let l = c.before.before in Span (set_b slash) l.args.text.now l.args.from (l.loop-at.at + c.letters_ahead-c.result)
+block c = span-on c.loop-at.invariant (span-ahead (set_b slash) c.letters_ahead-c.ensures c.loop-at-test.true)
 
-add-judge-end : tie.Need-overflow-add-judge-end invariant-loop decreases-loop
+add-judge-end : tie.Need-overflow_add-at-then-c-lt32 invariant-loop decreases-loop
 add-judge-end c = search rules
 
-judge-end-requires : tie.Need-judge-end-requires invariant-loop decreases-loop
-judge-end-requires c κs = record { letters = block c.before; over = c.before.letters-ahead.ensures.over c.if1.true }
+judge-end-requires : tie.Need-judge_end-requires invariant-loop decreases-loop
+judge-end-requires c κs = record { letters = block c.before; over = c.letters_ahead-c.ensures.over c.if-c-lt32.true }
 
-returns : tie.Need-returns invariant-loop decreases-loop
-returns c = c.judge-end.ensures
+returns : tie.Need-returns-then-c-lt32 invariant-loop decreases-loop
+returns c = c.judge_end.ensures
 
-add_at : tie.Need-overflow-add-at invariant-loop decreases-loop
+add_at : tie.Need-overflow_add-at-in-loop-at invariant-loop decreases-loop
 add_at c = search rules
 
-loop-less : tie.Need-loop-smaller invariant-loop decreases-loop
+loop-less : tie.Need-loop-at-smaller invariant-loop decreases-loop
 loop-less c = search rules
 
-loop-again : tie.Need-loop-preserved invariant-loop decreases-loop
-loop-again c = span-to-as (block c.before) (omega (arith, c.before.letters-ahead.ensures.upto, c.if1.false))
+loop-again : tie.Need-loop-at-preserved invariant-loop decreases-loop
+loop-again c = span-to-as (block c.before) (omega (arith, c.letters_ahead-c.ensures.upto, c.if-c-lt32.false))
 
-letters-end-requires : tie.Need-letters-end-requires invariant-loop decreases-loop
-letters-end-requires c κs = (omega arith, c.before.loop.invariant.within)
+letters-end-requires : tie.Need-letters_end-requires invariant-loop decreases-loop
+letters-end-requires c κs = (omega arith, c.loop-at.invariant.within)
 
-judge-end-requires-2 : tie.Need-judge-end-requires-2 invariant-loop decreases-loop
-judge-end-requires-2 c κs = record { letters = span-on c.before.before.loop.invariant c.letters-end.ensures.letters; over = c.letters-end.ensures.over }
+judge-end-requires-2 : tie.Need-judge_end-requires-2 invariant-loop decreases-loop
+judge-end-requires-2 c κs = record { letters = span-on c.loop-at.invariant c.letters_end.ensures.letters; over = c.letters_end.ensures.over }
 
-returns-2 : tie.Need-returns-2 invariant-loop decreases-loop
-returns-2 c = c.judge-end2.ensures
+returns-2 : tie.Need-returns invariant-loop decreases-loop
+returns-2 c = c.judge_end-2.ensures
 
-pub judge-run-spec : {M : Type 1} → statement M
-judge-run-spec =
+pub judge_run_spec : {M : Type 1} → statement M
+judge_run_spec =
     tie.close
     (tie.spec
     invariant-loop

@@ -13,74 +13,74 @@ use Rattle.utf7_whole.proofs.Judged.{left-sign, left-run, left_one}
 use Rattle.utf7_whole.proofs.quick.judge_token.Statement.{statement}
 use Rattle.utf7_whole.proofs.quick.judge_token.Tie as tie
 
-shared-slice-read-if1 : tie.Need-shared-slice-read-if1
+shared-slice-read-if1 : tie.Need-bounds-text-at
 shared-slice-read-if1 c = search rules
 
-returns : tie.Need-returns
-returns c = (c.before.before.before.requires.1, omega arith)
+returns : tie.Need-returns-then-text-at-ne43
+returns c = (c.requires.1, omega arith)
 
-add-from : tie.Need-overflow-add-from
+add-from : tie.Need-overflow_add-from
 add-from c = search rules
 
-one-at-requires : tie.Need-one-at-requires
+one-at-requires : tie.Need-one_at-requires
 one-at-requires c κs = search rules
 
-add-judge-shorts : tie.Need-overflow-add-judge-shorts
+add-judge-shorts : tie.Need-overflow_add-at
 add-judge-shorts c = search rules
 
-add-judge-shorts-2 : tie.Need-overflow-add-judge-shorts-2
-add-judge-shorts-2 c = omega (arith, c.before.before.before.before.before.requires.1.few, c.before.before.before.before.before.requires.1.within)
+add-judge-shorts-2 : tie.Need-overflow_add-n
+add-judge-shorts-2 c = omega (arith, c.requires.1.few, c.requires.1.within)
 
-judge-shorts-requires : tie.Need-judge-shorts-requires
-judge-shorts-requires c κs = left_one c.before.before.before.before.before.requires.1 c.before.before.if1.false (c.before.one_at.ensures c.if2.true)
+judge-shorts-requires : tie.Need-judge_shorts-requires
+judge-shorts-requires c κs = left_one c.requires.1 c.if-text-at-ne43.false (c.one_at.ensures c.if-one_at-lt65536.true)
 
-returns-2 : tie.Need-returns-2
-returns-2 c = (c.judge-shorts.ensures.0, omega (arith, c.judge-shorts.ensures.1))
+returns-2 : tie.Need-returns-then-one_at-lt65536
+returns-2 c = (c.judge_shorts.ensures.0, omega (arith, c.judge_shorts.ensures.1))
 
-shared-slice-read-if3 : tie.Need-shared-slice-read-if3
+shared-slice-read-if3 : tie.Need-bounds-text-from
 shared-slice-read-if3 c = search rules
 
-add-t13 : tie.Need-overflow-add-t13
+add-t13 : tie.Need-overflow_add-result
 add-t13 c = search rules
 
-add-t14 : tie.Need-overflow-add-t14
-add-t14 c = omega (arith, c.before.before.before.before.before.before.before.requires.1.few, c.before.before.before.before.before.before.before.requires.1.within)
+add-t14 : tie.Need-overflow_add-result-then-text-from-eq45
+add-t14 c = omega (arith, c.requires.1.few, c.requires.1.within)
 
-returns-3 : tie.Need-returns-3
-returns-3 c = (left-sign c.before.before.before.before.before.before.before.requires.1 c.before.before.before.before.if1.false c.if3.true, omega arith)
+returns-3 : tie.Need-returns-then-text-from-eq45
+returns-3 c = (left-sign c.requires.1 c.if-text-at-ne43.false c.if-text-from-eq45.true, omega arith)
 
-judge-run-requires : tie.Need-judge-run-requires
-judge-run-requires c κs = omega (arith, c.before.before.before.before.before.before.before.requires.0)
+judge-run-requires : tie.Need-judge_run-end-requires
+judge-run-requires c κs = omega (arith, c.requires.0)
 
-returns-4 : tie.Need-returns-4
-returns-4 c = (c.before.before.before.before.before.before.before.before.before.requires.1, omega arith)
+returns-4 : tie.Need-returns-then-end-from
+returns-4 c = (c.requires.1, omega arith)
 
-past-run-requires : tie.Need-past-run-requires
+past-run-requires : tie.Need-past_run-requires
 past-run-requires c κs = search rules
 
 -- behind a run
 run :
-    (c : tie.Else4) →
-    let a = c.before.before.before.before.before.before.before.before.before.args in
-    let end = c.before.judge-run.result in
+    (c : tie.Else-end-from) →
+    let a = c.args in
+    let end = c.judge_run-end.result in
     Left utf7 a.text.now (past a.text.now end) outside (a.n + (end - (a.at + 1)) * 6 / 16)
-run c = left-run c.before.before.before.before.before.before.before.before.before.requires.1 c.before.before.before.before.before.before.if1.false (c.before.judge-run.ensures c.if4.false)
+run c = left-run c.requires.1 c.if-text-at-ne43.false (c.judge_run-end.ensures c.if-end-from.false)
 
-sub-units : tie.Need-overflow-sub-units
-sub-units c = omega (arith, (c.before.before.judge-run.ensures c.before.if4.false).some)
+sub-units : tie.Need-overflow_sub-end
+sub-units c = omega (arith, (c.judge_run-end.ensures c.if-end-from.false).some)
 
 units-requires : tie.Need-units-requires
 units-requires c κs = search rules
 
-add-t18 : tie.Need-overflow-add-t18
+add-t18 : tie.Need-overflow_add-result-2
 add-t18 c = let l = run c.before.before in omega (arith, c.units.ensures, l.few, l.within)
 
-returns-5 : tie.Need-returns-5
+returns-5 : tie.Need-returns
 returns-5 c = let e = c.before.before in
-    (rw (c.before.past-run.ensures, c.units.ensures) (run e), rw c.before.past-run.ensures (omega (arith, past-on e.before.before.before.before.before.before.before.before.before.args.text.now e.before.judge-run.result, (e.before.judge-run.ensures e.if4.false).some)))
+    (rw (c.past_run.ensures, c.units.ensures) (run e), rw c.past_run.ensures (omega (arith, past-on e.args.text.now e.judge_run-end.result, (e.judge_run-end.ensures e.if-end-from.false).some)))
 
-pub judge-token-spec : {M : Type 1} → statement M
-judge-token-spec =
+pub judge_token_spec : {M : Type 1} → statement M
+judge_token_spec =
     tie.close
     (tie.spec
     shared-slice-read-if1

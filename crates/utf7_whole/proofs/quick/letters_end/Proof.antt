@@ -11,40 +11,40 @@ use Rattle.utf7_whole.proofs.Buffers.{zero-letter}
 use Rattle.utf7_whole.proofs.quick.letters_end.Statement.{statement}
 use Rattle.utf7_whole.proofs.quick.letters_end.Tie as tie
 
-abbrev invariant-loop : tie.invariant-loop
+abbrev invariant-loop : tie.invariant-loop-at
 invariant-loop last text from at₀ at = Span (set_b last) text from at
 
-abbrev decreases-loop : tie.decreases-loop
+abbrev decreases-loop : tie.decreases-loop-at
 decreases-loop last text from at₀ at = length text - at
 
-loop-holds : tie.Need-loop-init invariant-loop decreases-loop
-loop-holds c = span-stay _ c.before.requires.1
+loop-holds : tie.Need-loop-at-init invariant-loop decreases-loop
+loop-holds c = span-stay _ c.requires.1
 
-shared-slice-read-value : tie.Need-shared-slice-read-value invariant-loop decreases-loop
+shared-slice-read-value : tie.Need-bounds-text-at invariant-loop decreases-loop
 shared-slice-read-value c = search rules
 
 value-requires : tie.Need-value-requires invariant-loop decreases-loop
 value-requires c κs = search rules
 
-add_at : tie.Need-overflow-add-at invariant-loop decreases-loop
+add_at : tie.Need-overflow_add-at invariant-loop decreases-loop
 add_at c = search rules
 
-loop-less : tie.Need-loop-smaller invariant-loop decreases-loop
+loop-less : tie.Need-loop-at-smaller invariant-loop decreases-loop
 loop-less c = search rules
 
-loop-again : tie.Need-loop-preserved invariant-loop decreases-loop
+loop-again : tie.Need-loop-at-preserved invariant-loop decreases-loop
 unfolding set_b
-loop-again c = span_more c.before.before.before.before.loop.invariant c.before.before.before.loop-test.true (rw (← c.before.value.ensures) (lt-ltb _ 64 c.if1.true))
+loop-again c = span_more c.loop-at.invariant c.loop-at-test.true (rw (← c.value.ensures) (lt-ltb _ 64 c.if-value-lt64.true))
 
-returns : tie.Need-returns invariant-loop decreases-loop
+returns : tie.Need-returns-else-value-lt64 invariant-loop decreases-loop
 unfolding set_b
-returns c = record { letters = c.before.before.before.before.loop.invariant; over = rw (← c.before.value.ensures) (le-ltb _ 64 c.if1.false) }
+returns c = record { letters = c.loop-at.invariant; over = rw (← c.value.ensures) (le-ltb _ 64 c.if-value-lt64.false) }
 
-returns-2 : tie.Need-returns-2 invariant-loop decreases-loop
-returns-2 c = record { letters = c.before.loop.invariant; over = rw (get_or-eq_default c.before.before.before.args.text.now 0 c.loop-test.false) (zero-letter _ c.before.before.before.requires.0) }
+returns-2 : tie.Need-returns invariant-loop decreases-loop
+returns-2 c = record { letters = c.loop-at.invariant; over = rw (get_or-eq_default c.args.text.now 0 c.loop-at-test.false) (zero-letter _ c.requires.0) }
 
-pub letters-end-spec : {M : Type 1} → statement M
-letters-end-spec =
+pub letters_end_spec : {M : Type 1} → statement M
+letters_end_spec =
     tie.close
     (tie.spec
     invariant-loop

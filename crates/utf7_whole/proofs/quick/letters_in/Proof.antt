@@ -9,47 +9,47 @@ use Rattle.utf7_whole.proofs.Tokens.{ahead-start, ahead_more}
 use Rattle.utf7_whole.proofs.quick.letters_in.Statement.{statement}
 use Rattle.utf7_whole.proofs.quick.letters_in.Tie as tie
 
-abbrev invariant-loop : tie.invariant-loop
+abbrev invariant-loop : tie.invariant-loop-k
 invariant-loop x m₀ k₀ m k = (k ≤ 32) × Ahead (λ j. ltb (get_or x j 0) 64) k m
 
-abbrev decreases-loop : tie.decreases-loop
+abbrev decreases-loop : tie.decreases-loop-k
 decreases-loop x m₀ k₀ m k = 32 - k
 
-loop-holds : tie.Need-loop-init invariant-loop decreases-loop
+loop-holds : tie.Need-loop-k-init invariant-loop decreases-loop
 loop-holds c = (omega arith, ahead-start)
 
-array-read-noted : tie.Need-array-read-noted invariant-loop decreases-loop
+array-read-noted : tie.Need-bounds-x-k invariant-loop decreases-loop
 array-read-noted c = search rules
 
-cast-noted : tie.Need-overflow-cast-noted invariant-loop decreases-loop
+cast-noted : tie.Need-overflow_cast-k invariant-loop decreases-loop
 cast-noted c = search rules
 
 noted-requires : tie.Need-noted-requires invariant-loop decreases-loop
 noted-requires c κs = search rules
 
-least-requires : tie.Need-least-requires invariant-loop decreases-loop
+least-requires : tie.Need-least-m-requires invariant-loop decreases-loop
 least-requires c κs = search rules
 
-add-k : tie.Need-overflow-add-k invariant-loop decreases-loop
+add-k : tie.Need-overflow_step-k invariant-loop decreases-loop
 add-k c = search rules
 
-loop-less : tie.Need-loop-smaller invariant-loop decreases-loop
+loop-less : tie.Need-loop-k-smaller invariant-loop decreases-loop
 loop-less c = search rules
 
-loop-again : tie.Need-loop-preserved invariant-loop decreases-loop
-loop-again c = let l = c.before.before.before in
-    (omega arith, rw (c.least.ensures, c.before.noted.ensures) (ahead_more l.loop.invariant.1 c.before.before.loop-test.true))
+loop-again : tie.Need-loop-k-preserved invariant-loop decreases-loop
+loop-again c = let l = c in
+    (omega arith, rw (c.least-m.ensures, c.noted.ensures) (ahead_more l.loop-k.invariant.1 c.loop-k-test.true))
 
-cast-result : tie.Need-overflow-cast-result invariant-loop decreases-loop
+cast-result : tie.Need-overflow_cast-result invariant-loop decreases-loop
 cast-result c = search rules
 
 returns : tie.Need-returns invariant-loop decreases-loop
-returns c = let l = c.before.loop in
+returns c = let l = c.loop-k in
     let e : l.k ≡ 32 = omega (arith, l.invariant.0) in
     rw e at l.invariant.1
 
-pub letters-in-spec : {M : Type 1} → statement M
-letters-in-spec =
+pub letters_in_spec : {M : Type 1} → statement M
+letters_in_spec =
     tie.close
     (tie.spec
     invariant-loop

@@ -27,12 +27,12 @@ second c = first c.before.before.before
 abbrev third : tie.After-third → tie.Start
 third c = second c.before.before.before
 
-slice-write-out-2 : tie.Need-slice-write-out-2
+slice-write-out-2 : tie.Need-bounds-out-n-2
 slice-write-out-2 c =
     let h : (second c).args.n + 1 < length (second c).args.out.now = omega (arith, (second c).requires.1) in
     simp length-set h
 
-slice-write-out-3 : tie.Need-slice-write-out-3
+slice-write-out-3 : tie.Need-bounds-out-n-3
 slice-write-out-3 c =
     let h : (third c).args.n + 2 < length (third c).args.out.now = omega (arith, (third c).requires.1) in
     simp length-set h
@@ -40,32 +40,32 @@ slice-write-out-3 c =
 returns : tie.Need-returns
 returns c =
     let s = (third c).args in
-    let v = c.before.before.before in
-    let u = v.before.before.before in
-    let x : ℕ → ℕ = λ k. lows s.t1 (s.j + k) in
+    let v = c in
+    let u = v in
+    let x : ℕ → ℕ = λ k. lows s.x (s.j + k) in
     three-laid x s.n s.out.now
-    (rw add-zero u.before.before.low3.ensures) u.before.low4.ensures u.before.before.before.before.low.ensures
-    v.before.before.low5.ensures v.before.low6.ensures u.before.before.before.low2.ensures
-    c.before.before.low7.ensures c.before.low8.ensures
+    (rw add-zero u.low.ensures) u.low-2.ensures u.low-c.ensures
+    v.low-3.ensures v.low-4.ensures u.low-f.ensures
+    c.low-5.ensures c.low-6.ensures
     u.first.ensures v.second.ensures c.third.ensures (third c).requires.1
 
-pub put-three-spec : {M : Type 1} → statement M
-put-three-spec =
+pub put_three_spec : {M : Type 1} → statement M
+put_three_spec =
     tie.close
     (tie.spec
-    (λ c. omega (arith, c.before.requires.0))
-    (λ c. omega (arith, c.before.requires.0))
+    (λ c. omega (arith, c.requires.0))
+    (λ c. omega (arith, c.requires.0))
     (λ c κs. tt)
-    (λ c. omega (arith, c.before.before.requires.0))
-    (λ c. omega (arith, c.before.before.requires.0))
+    (λ c. omega (arith, c.requires.0))
+    (λ c. omega (arith, c.requires.0))
     (λ c κs. tt)
-    (λ c. omega (arith, c.before.before.before.requires.0))
+    (λ c. omega (arith, c.requires.0))
     (λ c κs. tt)
-    (λ c. omega (arith, c.before.before.before.before.requires.0))
-    (λ c. omega (arith, c.before.before.before.before.requires.0))
+    (λ c. omega (arith, c.requires.0))
+    (λ c. omega (arith, c.requires.0))
     (λ c κs. tt)
-    (λ c κs. omega (arith, c.before.before.before.low.ensures, c.before.low3.ensures, c.low4.ensures))
-    (λ c. omega (arith, (first c).requires.1, (first c).well-formed))
+    (λ c κs. omega (arith, c.low-c.ensures, c.low.ensures, c.low-2.ensures))
+    (λ c. omega (arith, (first c).requires.1, (first c).well_formed))
     (λ c. omega (arith, (first c).requires.1))
     (λ c. omega (arith, (first c).requires.0))
     (λ c. omega (arith, (first c).requires.0))
@@ -73,9 +73,9 @@ put-three-spec =
     (λ c. omega (arith, (first c.before).requires.0))
     (λ c. omega (arith, (first c.before).requires.0))
     (λ c κs. tt)
-    (λ c κs. omega (arith, c.before.before.before.before.before.low2.ensures, c.before.low5.ensures, c.low6.ensures))
+    (λ c κs. omega (arith, c.low-f.ensures, c.low-3.ensures, c.low-4.ensures))
     (λ c. omega (arith, (second c).requires.1))
-    (λ c. omega (arith, (second c).requires.1, (second c).well-formed))
+    (λ c. omega (arith, (second c).requires.1, (second c).well_formed))
     slice-write-out-2
     (λ c. omega (arith, (second c).requires.0))
     (λ c. omega (arith, (second c).requires.0))
@@ -83,9 +83,9 @@ put-three-spec =
     (λ c. omega (arith, (second c.before).requires.0))
     (λ c. omega (arith, (second c.before).requires.0))
     (λ c κs. tt)
-    (λ c κs. omega (arith, c.before.low7.ensures, c.low8.ensures))
+    (λ c κs. omega (arith, c.low-5.ensures, c.low-6.ensures))
     (λ c. omega (arith, (third c).requires.1))
-    (λ c. omega (arith, (third c).requires.1, (third c).well-formed))
+    (λ c. omega (arith, (third c).requires.1, (third c).well_formed))
     slice-write-out-3
     (λ c. simp length-set)
     returns)

@@ -10,56 +10,56 @@ use Rattle.utf7_whole.proofs.Buffers.{near-done}
 use Rattle.utf7_whole.proofs.quick.values_near.Statement.{statement}
 use Rattle.utf7_whole.proofs.quick.values_near.Tie as tie
 
-abbrev invariant-loop : tie.invariant-loop
+abbrev invariant-loop : tie.invariant-loop-k
 invariant-loop last text at x₀ k₀ x k =
     (k ≤ 32) × (length x ≡ 32) × ((j : ℕ) → j < k → get_or x j 0 ≡ value_of last (get_or text (at + j) 0)) × ((j : ℕ) → k ≤ j → j < 32 → get_or x j 0 ≡ 64)
 
-abbrev decreases-loop : tie.decreases-loop
+abbrev decreases-loop : tie.decreases-loop-k
 decreases-loop last text at x₀ k₀ x k = 32 - k
 
-loop-holds : tie.Need-loop-init invariant-loop decreases-loop
+loop-holds : tie.Need-loop-k-init invariant-loop decreases-loop
 loop-holds c = (omega arith, refl, λ j h. absurd (omega arith), λ j h l. get_or-replicate 32 j 64 0 l)
 
-add-if1 : tie.Need-overflow-add-if1 invariant-loop decreases-loop
+add-if1 : tie.Need-overflow_add-at invariant-loop decreases-loop
 add-if1 c = search rules
 
-returns : tie.Need-returns invariant-loop decreases-loop
-returns c = let i = c.before.before.loop.invariant in near-done _ i.2 i.3 c.if1.true c.before.before.before.before.requires.0
+returns : tie.Need-returns-then-text-at invariant-loop decreases-loop
+returns c = let i = c.loop-k.invariant in near-done _ i.2 i.3 c.if-text-at.true c.requires.0
 
-add-value : tie.Need-overflow-add-value invariant-loop decreases-loop
+add-value : tie.Need-overflow_add-at-in-loop-k invariant-loop decreases-loop
 add-value c = search rules
 
-shared-slice-read-value : tie.Need-shared-slice-read-value invariant-loop decreases-loop
+shared-slice-read-value : tie.Need-bounds-text-at invariant-loop decreases-loop
 shared-slice-read-value c = search rules
 
 value-requires : tie.Need-value-requires invariant-loop decreases-loop
 value-requires c κs = search rules
 
-array-write-x : tie.Need-array-write-x invariant-loop decreases-loop
+array-write-x : tie.Need-bounds-x-k invariant-loop decreases-loop
 array-write-x c = search rules
 
-add-k : tie.Need-overflow-add-k invariant-loop decreases-loop
+add-k : tie.Need-overflow_add-k invariant-loop decreases-loop
 add-k c = search rules
 
-loop-less : tie.Need-loop-smaller invariant-loop decreases-loop
+loop-less : tie.Need-loop-k-smaller invariant-loop decreases-loop
 loop-less c = search rules
 
-loop-again : tie.Need-loop-preserved invariant-loop decreases-loop
-loop-again c = let l = c.before.before.before.before in
-    let a = l.before.before.args in
-    let i = l.loop.invariant in
+loop-again : tie.Need-loop-k-preserved invariant-loop decreases-loop
+loop-again c = let l = c in
+    let a = l.args in
+    let i = l.loop-k.invariant in
     let Q : ℕ → ℕ → Type 0 = λ j x. x ≡ value_of a.last (get_or a.text.now (a.at + j) 0) in (
       omega arith,
       simp length-set i.1,
-      set_more l.loop.x l.loop.k c.value.result Q (omega (arith, i.1)) i.2 c.value.ensures,
-      λ j h m. get_or-set_other l.loop.x l.loop.k j c.value.result 0 (λ e. omega arith) ∙ i.3 j (omega arith) m,
+      set_more l.loop-k.x l.loop-k.k c.value.result Q (omega (arith, i.1)) i.2 c.value.ensures,
+      λ j h m. get_or-set_other l.loop-k.x l.loop-k.k j c.value.result 0 (λ e. omega arith) ∙ i.3 j (omega arith) m,
     )
 
-returns-2 : tie.Need-returns-2 invariant-loop decreases-loop
-returns-2 c = let i = c.before.loop.invariant in record { so = λ k h. i.2 k (omega (arith, h, c.loop-test.false)) }
+returns-2 : tie.Need-returns invariant-loop decreases-loop
+returns-2 c = let i = c.loop-k.invariant in record { so = λ k h. i.2 k (omega (arith, h, c.loop-k-test.false)) }
 
-pub values-near-spec : {M : Type 1} → statement M
-values-near-spec =
+pub values_near_spec : {M : Type 1} → statement M
+values_near_spec =
     tie.close
     (tie.spec
     invariant-loop

@@ -1,4 +1,0 @@
-pub mod Lending
-pub mod Stepping
-pub mod Replacing
-pub mod Saving
