@@ -1,6 +1,7 @@
 # The library for hosts in other languages. The proofs, and the tests of the library itself, are the gate's: .ci/run.
 #
 #   make                      target/staticlib/libqalithonda.a, target/shared/libqalithonda.so and target/examples/where
+#   make programs             the listers, desk and same_letter, in target/bin
 #   make test-bindings        the C examples, and the tests of the Rust and Python bindings
 #   make install PREFIX=..    the header and both libraries, in PREFIX/include and PREFIX/lib
 #   make clean                removes what make has built; what was proved stays
@@ -15,23 +16,32 @@ sources = crates.txt $(shell find crates -name '*.rt' -o -name '*.antt')
 strict = -Wall -Wextra -pedantic -Werror -Iinclude
 
 .DELETE_ON_ERROR:
-.PHONY: all library test-bindings test-c test-rust test-python install clean
+.PHONY: all library programs test-bindings test-c test-rust test-python install clean
 
 all: library target/examples/where
 
 library: $(archive) $(shared)
 
 # Each of these is an object of its own in the archive (crates/NAME/src/lib.rt says why).
-objects = qalithonda_compare qalithonda_benches qalithonda_subject
+objects = qalithonda qalithonda_compare qalithonda_benches qalithonda_subject
 
 $(archive): $(sources)
-	for crate in $(objects) qalithonda; do rt staticlib $$crate || exit 1; done
-	cd $(@D) && for crate in $(objects); do ar x lib$$crate.a && ar q $(@F) $$crate.o && rm $$crate.o || exit 1; done
+	for crate in $(objects); do (cd crates/$$crate && rt lib) || exit 1; done
+	mkdir -p $(@D) && rm -f $@
+	cd $(@D) && for crate in $(objects); do \
+	    ar x '$(CURDIR)'/crates/$$crate/out/lib$$crate.a $$crate.o && ar q $(@F) $$crate.o && rm $$crate.o || exit 1; \
+	done
 
 # The archive shows no other names than qalithonda_.., so neither does this.
 $(shared): $(archive)
 	mkdir -p $(@D)
 	$(CC) -shared -o $@ -Wl,-soname,$(@F) -Wl,--no-undefined -Wl,--whole-archive $< -Wl,--no-whole-archive
+
+# `rt run` proves, builds and runs a program, here with no words and no input. It leaves its stamp where it built it.
+programs: $(addprefix target/bin/,utf7_lister jp2_lister mailbox_lister same_letter desk)
+target/bin/%: $(sources)
+	cd crates/$* && { rt run </dev/null >/dev/null || test -f out/$*.stamp; }
+	mkdir -p $(@D) && cp crates/$*/out/$* $@
 
 test-bindings: test-c test-rust test-python
 
@@ -66,4 +76,4 @@ install: library
 	install -m 755 $(shared) '$(DESTDIR)$(PREFIX)/lib'
 
 clean:
-	rm -rf target/staticlib target/shared target/examples target/bindings
+	rm -rf target/staticlib target/bin target/shared target/examples target/bindings

@@ -5,8 +5,9 @@
 //! `CRATE/LABEL` where it has none.
 //!
 //! It fails where docs/PROMISES.md names an edit or a slip that does not exist, or does not name one that does; and, where
-//! `rt ci` or `rt must-fail` has left its logs in target/must-fail, where a slip is not refused at its fact, or an edit at
-//! none. Run it from the root of the repository. The last line is `N edits, M slips, K faults`.
+//! `try_edits` has left its logs in target/must-fail, where a slip is not refused at its fact, or an edit at none. A fact is
+//! the name of a function, of a law, or of a goal, `-` and `_` alike. Run it from the root of the repository. The last line
+//! is `N edits, M slips, K faults`.
 
 use std::collections::BTreeSet;
 use std::fs;
@@ -50,9 +51,14 @@ impl Edit {
         if self.slips.is_empty() && refused.is_empty() {
             return vec![format!("{of} is refused at no fact")];
         }
-        let missed = self.slips.iter().filter(|slip| !refused.contains(&slip.fact));
+        let missed = self.slips.iter().filter(|slip| !refused.contains(&spelled(&slip.fact)));
         missed.map(|slip| format!("{of}: {} is not refused at {}", slip.name, slip.fact)).collect()
     }
+}
+
+/// A name as a fact is compared: the prover's own names have `_` where ours have `-`.
+fn spelled(name: &str) -> String {
+    name.replace('_', "-")
 }
 
 /// The slip that a line `# NAME (FACT): why` names.
@@ -101,7 +107,7 @@ fn misnamed(named: &Names, there: &Names) -> Vec<String> {
 /// The functions and laws in whose proofs a log has an error of its own: not one that only says that another proof failed,
 /// or that the proof no longer fits the code. `line` gives a line of a source file.
 fn refused_at(log: &str, line: &dyn Fn(&str, usize) -> Option<String>) -> Names {
-    let empty = ["was not admitted", "that can be named from here"];
+    let empty = ["was not admitted", "that can be named from here", "has no field", "is not in scope"];
     let mut found = Names::new();
     for told in log.lines() {
         if let Some((place, fact)) = told.split_once(": error: `") {
@@ -112,33 +118,46 @@ fn refused_at(log: &str, line: &dyn Fn(&str, usize) -> Option<String>) -> Names 
             found.extend(folder_of(place));
         } else if let Some((place, _)) = told.split_once(": it is not proved that") {
             found.extend(function_at(place.trim_start_matches("note: "), line));
+            found.extend(goal_of(told));
         }
     }
-    found
+    found.iter().map(|fact| spelled(fact)).collect()
+}
+
+/// The goal that a note names: its last word in backquotes, in brackets.
+fn goal_of(note: &str) -> Option<String> {
+    let (_, goal) = note.rsplit_once("(`")?;
+    goal.split('`').next().map(str::to_string)
 }
 
 /// The function whose proof stands at a place `../NAME/Proof.antt:LINE:COLUMN`.
 fn folder_of(place: &str) -> Option<String> {
-    let (folder, _) = place.split_once("/Proof.antt:")?;
+    let proofs = ["/Proof.antt:", "/Answers.antt:", "/Invariants.antt:"];
+    let (folder, _) = proofs.iter().find_map(|file| place.split_once(file))?;
     folder.rsplit('/').next().map(str::to_string)
 }
 
-/// The function in which a place `PATH:LINE:COLUMN` stands: the last one declared up to there.
+/// The function in which a place `PATH:LINE:COLUMN` stands: the last one declared up to there, or behind its attributes.
 fn function_at(place: &str, line: &dyn Fn(&str, usize) -> Option<String>) -> Option<String> {
     let mut parts = place.rsplitn(3, ':').skip(1);
-    let at: usize = parts.next()?.parse().ok()?;
+    let mut at: usize = parts.next()?.parse().ok()?;
     let path = parts.next()?;
+    while line(path, at)?.starts_with("#[") {
+        at += 1;
+    }
     (1..=at).rev().find_map(|number| declared(&line(path, number)?))
 }
 
 /// The function that a line declares.
 fn declared(line: &str) -> Option<String> {
     let (_, after) = line.split_once("fn ")?;
-    after.split('(').next().map(str::to_string)
+    after.split(['(', '<']).next().map(str::to_string)
 }
 
-fn line_of(path: &str, at: usize) -> Option<String> {
-    fs::read_to_string(path).ok()?.lines().nth(at - 1).map(str::to_string)
+/// A line of a file of a crate. An edit changes whole lines for whole lines, so it is the same one in the text that was tried.
+fn line_of(of: &str, path: &str, at: usize) -> Option<String> {
+    let file = Path::new("crates").join(of).join(path);
+    fs::read_to_string(file).ok()?.lines().nth(at - 1).map(str::to_string)
 }
 
 /// What is wrong with the facts at which the edits were refused; nothing where no edit was tried.
@@ -150,7 +169,7 @@ fn misrefused(edits: &[Edit]) -> Vec<String> {
     let of = |edit: &Edit| {
         let path = Path::new(LOGS).join(&edit.of).join(&edit.label).join(".log");
         match fs::read_to_string(&path) {
-            Ok(log) => edit.faults(&refused_at(&log, &line_of)),
+            Ok(log) => edit.faults(&refused_at(&log, &|file, at| line_of(&edit.of, file, at))),
             Err(error) => vec![format!("{}: {error}", path.display())],
         }
     };
@@ -211,13 +230,16 @@ mod tests {
             /t/proofs/g/Proof.antt:9:1: error: `g-spec`: `close` was not admitted (..)\n\
             /t/proofs/h/Proof.antt:9:1: error: `x`: has no `Need-x` that can be named from here\n\
             /t/proofs/Cases.antt:9:1: error: `hold`: they differ\n\
-            note: /t/src/lib.rt:3:1: it is not proved that what the function ensures holds\n\
-            note: /t/src/lib.rt:7:9: it is not proved that what the function ensures holds when it returns\n";
+            note: /t/src/lib.rt:2:1: it is not proved that what the function ensures holds\n\
+            /t/proofs/e/Answers.antt:9:1: error: `returns_2`: they differ\n\
+            /t/proofs/d/Proof.antt:9:1: error: `again`: record `..` has no field `if-x-gt7` (nearest: .if-x-gt8)\n\
+            /t/proofs/d/Proof.antt:12:5: error: 1 declaration that depends on `again`, which was rejected, was not checked: d_spec\n\
+            note: /t/src/lib.rt:7:9: it is not proved that what the function ensures holds when it returns (`returns-then-x`); the facts ..\n";
         let source = |path: &str, at: usize| {
-            (path == "/t/src/lib.rt").then(|| ["", "", "pub fn k(x: u8)", "fn m()"].get(at - 1).copied())
+            (path == "/t/src/lib.rt").then(|| ["", "#[tactic(auto)]", "pub fn k<'a>(x: &'a u8)", "fn m()", "", "", "}"].get(at - 1).copied())
         };
         let line = |path: &str, at: usize| source(path, at).flatten().map(str::to_string);
-        assert_eq!(refused_at(log, &line), names(&["returns", "f", "hold", "k", "m"]));
+        assert_eq!(refused_at(log, &line), names(&["returns", "f", "hold", "k", "returns-2", "e", "m", "returns-then-x"]));
     }
 
     #[test]

@@ -34,8 +34,8 @@ pub fn items(source: &str) -> Result<Vec<Item>, String> {
     let mut found = Vec::new();
     for place in 0..tokens.len() {
         match &tokens[place..] {
-            ["#", "[", "no_mangle", "]", item @ ..] => found.push(function(item)?),
-            ["#", "[", "repr", "(", "C", ")", "]", item @ ..] => found.push(structure(item)?),
+            ["#", "[", "unsafe", "(", "no_mangle", ")", "]", item @ ..] => found.push(function(item)?),
+            ["#", "[", "repr", "(", "C", ")", "]", item @ ..] => found.push(structure(without_derives(item))?),
             ["Refusal" | "Kind", ":", ":", name, "=", ">", number, ..] => found.push(constant(name, number)?),
             ["Accepted", "(", "_", ")", "=", ">", number, ..] => found.push(constant("Accepted", number)?),
             ["const", "LIMIT", ":", "usize", "=", number, ..] => found.push(constant("Limit", number)?),
@@ -59,6 +59,14 @@ fn function(item: &[&str]) -> Result<Item, String> {
         parts.extend(crossed(parameter).map_err(|problem| format!("{name}: {problem}"))?);
     }
     Ok(Item { name: name.to_string(), what: What::Function, parts })
+}
+
+/// An item without the line of derives in front of it.
+fn without_derives<'a, 't>(item: &'t [&'a str]) -> &'t [&'a str] {
+    match item {
+        ["#", "[", "derive", "(", "Clone", ",", "Copy", ")", "]", rest @ ..] => rest,
+        _ => item,
+    }
 }
 
 fn structure(item: &[&str]) -> Result<Item, String> {
@@ -135,26 +143,26 @@ mod tests {
     #[test]
     fn functions() {
         let source =
-            "#[no_mangle]\npub extern \"C\" fn f(text: &[u8], cells: &mut [u32]) -> Numbers\n  ensures { a } {}";
+            "#[unsafe(no_mangle)]\npub extern \"C\" fn f(text: &[u8], cells: &mut [u32]) -> Numbers\n  ensures { a } {}";
         assert_eq!(
             read(source),
             ["function f: qalithonda_numbers, const uint8_t *text, size_t text_len, uint32_t *cells, size_t cells_len"]
         );
-        let source = "#[no_mangle] pub extern \"C\" fn f(\n p: HostPage,\n place: usize,\n) -> HostEdited { g() }";
+        let source = "#[unsafe(no_mangle)] pub extern \"C\" fn f(\n p: HostPage,\n place: usize,\n) -> HostEdited { g() }";
         assert_eq!(read(source), ["function f: qalithonda_edited, qalithonda_page page, size_t place"]);
-        let source = "#[no_mangle] pub extern \"C\" fn f(a: &[u32; 3], counts: &mut [u32; 9]) -> u16 {}";
+        let source = "#[unsafe(no_mangle)] pub extern \"C\" fn f(a: &[u32; 3], counts: &mut [u32; 9]) -> u16 {}";
         assert_eq!(read(source), ["function f: uint16_t, const uint32_t a[3], uint32_t counts[9]"]);
-        assert_eq!(read("#[no_mangle] pub extern \"C\" fn f() -> usize {}"), ["function f: size_t"]);
+        assert_eq!(read("#[unsafe(no_mangle)] pub extern \"C\" fn f() -> usize {}"), ["function f: size_t"]);
     }
 
     #[test]
     fn what_is_not_exported_says_nothing() {
-        assert!(read("pub fn f() -> u8 {} // #[no_mangle]\npub struct S { pub a: bool }").is_empty());
+        assert!(read("pub fn f() -> u8 {} // #[unsafe(no_mangle)]\npub struct S { pub a: bool }").is_empty());
     }
 
     #[test]
     fn structs() {
-        let source = "// A step.\n#[repr(C)]\npub struct HostUtf7Step { pub given: u32, pub answer: Numbers, }";
+        let source = "// A step.\n#[repr(C)]\n#[derive(Clone, Copy)]\npub struct HostUtf7Step { pub given: u32, pub answer: Numbers, }";
         assert_eq!(read(source), ["struct qalithonda_utf7_stepped: uint32_t given, qalithonda_numbers answer"]);
     }
 
@@ -179,13 +187,13 @@ mod tests {
     #[test]
     fn what_has_no_form_in_c_is_an_error() {
         let unread = [
-            "#[no_mangle] pub fn f() -> u8 {}",
-            "#[no_mangle] pub extern \"C\" fn f(a: u8) {}",
-            "#[no_mangle] pub extern \"C\" fn f(a: Other) -> u8 {}",
-            "#[no_mangle] pub extern \"C\" fn f(a: &mut u8) -> u8 {}",
-            "#[no_mangle] pub extern \"C\" fn f(a: &[Other]) -> u8 {}",
-            "#[no_mangle] pub extern \"C\" fn f(a: u8) -> Other {}",
-            "#[no_mangle] pub extern \"C\" fn f(a: u8) -> &u8 {}",
+            "#[unsafe(no_mangle)] pub fn f() -> u8 {}",
+            "#[unsafe(no_mangle)] pub extern \"C\" fn f(a: u8) {}",
+            "#[unsafe(no_mangle)] pub extern \"C\" fn f(a: Other) -> u8 {}",
+            "#[unsafe(no_mangle)] pub extern \"C\" fn f(a: &mut u8) -> u8 {}",
+            "#[unsafe(no_mangle)] pub extern \"C\" fn f(a: &[Other]) -> u8 {}",
+            "#[unsafe(no_mangle)] pub extern \"C\" fn f(a: u8) -> Other {}",
+            "#[unsafe(no_mangle)] pub extern \"C\" fn f(a: u8) -> &u8 {}",
             "#[repr(C)] pub struct Other { pub a: u8 }",
             "#[repr(C)] pub struct Numbers { a: u8 }",
             "#[repr(C)] pub struct Numbers { pub a: [u8; 3] }",
