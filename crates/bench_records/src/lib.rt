@@ -304,6 +304,7 @@ fn sound_by(found: Passed) -> Judged
 }
 
 // For the calls of the bench of a number: 16, 20, 14, or where that bench's pass stands.
+#[tactic(auto, using(crate::proofs::Judging::nobody))]
 pub fn judge(b: Benches, bench: usize, text0: &[u32], text1: &[u32], history: &[u32]) -> Judged
     ensures { result ≡ judge_of (state_of b text0.now text1.now history.now) bench }
 {
