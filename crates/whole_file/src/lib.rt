@@ -19,34 +19,38 @@ pub enum Got {
     Failed(Error),
 }
 
-// Reads once, and again where a signal interrupted that before any byte came: none at the end of the file.
-fn read_once<R: Read>(file: &mut R, buf: &mut [u8]) -> Got
-    ensures { Within result 0 buf.new }
+// Reads once, and again where a signal interrupted that before any byte came: none at the end of the input. What the
+// bytes are is known where those of the reader are.
+pub fn read_some<R: Read>(input: &mut R, buf: &mut [u8]) -> io::Result<usize>
+    ensures within { IfOk result (λ n. n ≤ length buf.new) }
+    ensures bytes { IfOk result (λ n. Consumes (R.remaining input.old) (R.remaining input.new) (take n buf.new)) }
+    ensures end { IfOk result (λ n. n ≡ 0 → 0 < length buf.old → IsAtEnd (R.remaining input.new)) }
+    ensures none { OnErr result (Keeps (R.remaining input.old) (R.remaining input.new)) }
 {
     // A proved loop has to end, and nothing says that the signals do: so it counts to a number that no run uses up.
     for _ in 0..u64::MAX {
-        match file.read(buf) {
-            Ok(n) => return Got::Bytes(n),
+        match input.read(buf) {
+            Ok(n) => return Ok(n),
             Err(e) if e.kind() == ErrorKind::Interrupted => {}
-            Err(e) => return Got::Failed(e),
+            Err(e) => return Err(e),
         }
     }
-    Got::Failed(Error::from(ErrorKind::TimedOut))
+    Err(Error::from(ErrorKind::TimedOut))
 }
 
 // Reads once behind the first bytes of a buffer, and says how many there are then: no more at the end of the file.
-pub fn read_on<R: Read>(file: &mut R, buf: &mut [u8], at: usize) -> Got
+fn read_on<R: Read>(file: &mut R, buf: &mut [u8], at: usize) -> Got
     requires { at ≤ length buf.old }
     ensures { Within result at buf.new × (length buf.new ≡ length buf.old) }
 {
-    match read_once(file, &mut buf[at..]) {
-        Got::Bytes(n) => Got::Bytes(at + n),
-        Got::Failed(e) => Got::Failed(e),
+    match read_some(file, &mut buf[at..]) {
+        Ok(n) => Got::Bytes(at + n),
+        Err(e) => Got::Failed(e),
     }
 }
 
 // Reads to the end of a file, or until the buffer is full.
-pub fn read_all<R: Read>(file: &mut R, buf: &mut [u8]) -> Got
+fn read_all<R: Read>(file: &mut R, buf: &mut [u8]) -> Got
     ensures { Within result 0 buf.new }
 {
     let mut at: usize = 0;
@@ -76,25 +80,6 @@ pub fn read<R: Files>(rt: &R, name: &[u8], buf: &mut [u8]) -> Got
         Ok(mut file) => read_all(&mut file, buf),
         Err(e) => Got::Failed(e),
     }
-}
-
-// Reads once, and again where a signal interrupted that before any byte came. What the bytes are is known where those of
-// the reader are.
-fn read_some<R: Read>(input: &mut R, buf: &mut [u8]) -> io::Result<usize>
-    ensures within { IfOk result (λ n. n ≤ length buf.new) }
-    ensures bytes { IfOk result (λ n. Consumes (R.remaining input.old) (R.remaining input.new) (take n buf.new)) }
-    ensures end { IfOk result (λ n. n ≡ 0 → 0 < length buf.old → IsAtEnd (R.remaining input.new)) }
-    ensures none { OnErr result (Keeps (R.remaining input.old) (R.remaining input.new)) }
-{
-    // As above.
-    for _ in 0..u64::MAX {
-        match input.read(buf) {
-            Ok(n) => return Ok(n),
-            Err(e) if e.kind() == ErrorKind::Interrupted => {}
-            Err(e) => return Err(e),
-        }
-    }
-    Err(Error::from(ErrorKind::TimedOut))
 }
 
 // Reads until a buffer is full, the input ends or a read fails. It says how many bytes came, which are the next ones of
