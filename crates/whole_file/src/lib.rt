@@ -1,13 +1,14 @@
 // A file, or an input, read whole.
 #![tactic(auto)]
 
-ghost use Rattle.std.specs.Prelude.{◌≤◌, ◌<◌, ◌≡◌, length, take, IfOk, OnOk, OnErr};
+ghost use Rattle.std.specs.Prelude.{◌≤◌, ◌<◌, ◌≡◌, length, take, pos, Some, IfOk, OnOk, OnErr, MatchResult, IsUtf8};
 ghost use Rattle.std.specs.Io.KnownBytes.{Consumes, IsAtEnd, Keeps};
+ghost use Rattle.std.specs.IoError.{raw_os_error};
 ghost use Rattle.whole_file.specs.Got.{Within};
 
-use std::io;
 use std::io::{Error, ErrorKind, Read};
 use std::rt::Files;
+use std::{fs, io};
 
 // The system's number for bytes that are no text, "Invalid or incomplete multibyte or wide character".
 const EILSEQ: i32 = 84;
@@ -68,15 +69,27 @@ fn read_all<R: Read>(file: &mut R, buf: &mut [u8]) -> Got
     Got::Bytes(at)
 }
 
+// A file's name as the library takes it. One that is no UTF-8 text is refused with EILSEQ: the library opens no other.
+pub fn path(name: &[u8]) -> io::Result<&str>
+    ensures { MatchResult result (λ s. s.now ≡ name.now)
+        (λ e. ¬ (IsUtf8 name.now) × (raw_os_error e ≡ Some (pos 84))) }
+{
+    match str::from_utf8(name) {
+        Ok(path) => Ok(path),
+        Err(_) => Err(Error::from_raw_os_error(EILSEQ)),
+    }
+}
+
 // Reads a file by its name, to its end or until the buffer is full. A file that was only read is closed whatever the
-// close says. A name that is no UTF-8 text is refused with EILSEQ: the library opens no other.
+// close says.
 pub fn read<R: Files>(rt: &R, name: &[u8], buf: &mut [u8]) -> Got
     ensures { Within result 0 buf.new }
 {
-    let Ok(path) = std::str::from_utf8(name) else {
-        return Got::Failed(Error::from_raw_os_error(EILSEQ));
+    let path = match path(name) {
+        Ok(path) => path,
+        Err(e) => return Got::Failed(e),
     };
-    match std::fs::open(rt, path) {
+    match fs::open(rt, path) {
         Ok(mut file) => read_all(&mut file, buf),
         Err(e) => Got::Failed(e),
     }
