@@ -1,0 +1,55 @@
+// Names of files.
+ghost use Rattle.std.specs.Prelude.{◌≤◌, ◌≡◌, ◌+◌, length};
+
+use crate::files::PATH_MAX;
+
+const LETTERS: [u8; 64] = *b"abcdefghijklmnopqrstuvwxyzABCDEFGHIJKLMNOPQRSTUVWXYZ0123456789aA";
+
+// The folder of a name, with its slash: none where it has none.
+pub fn folder(name: &[u8]) -> &[u8]
+    ensures { length result.now ≤ length name.now }
+{
+    for end in (0..name.len()).rev() {
+        if name[end] == b'/' {
+            return &name[..end + 1];
+        }
+    }
+    &name[..0]
+}
+
+// A letter or digit for a random byte.
+fn letter(dice: u8) -> u8 {
+    LETTERS[usize::from(dice & 63)]
+}
+
+// Puts bytes into a path at a place.
+fn put_at(path: &mut [u8], at: usize, bytes: &[u8])
+    requires { at + length bytes.now ≤ length path.old }
+    ensures { length path.new ≡ length path.old }
+{
+    path[at..at + bytes.len()].copy_from_slice(bytes);
+}
+
+// The name of a new file in a folder, and how long it is.
+pub fn new_name(folder: &[u8], dice: [u8; 6], path: &mut [u8; PATH_MAX]) -> usize
+    requires { length folder.now ≤ 4080 }
+    ensures { result ≡ length folder.now + 15 }
+{
+    let n = folder.len();
+    put_at(path, 0, folder);
+    put_at(path, n, b"desk.new.");
+    let [a, b, c, d, e, f] = dice;
+    put_at(
+        path,
+        n + 9,
+        &[
+            letter(a),
+            letter(b),
+            letter(c),
+            letter(d),
+            letter(e),
+            letter(f),
+        ],
+    );
+    n + 15
+}
