@@ -6,7 +6,6 @@ ghost use Rattle.desk.specs.Hands.{Holds, line_in, desk_in, sitting, Took, close
 use crate::{orders, replies, rooms};
 use ledger::Page;
 use std::rt::HostRuntime;
-use whole_file::Got;
 
 // A proved loop has to end, and nothing says that the input does: so it counts down from a number that no run uses up.
 const ROUNDS: u64 = 18446744073709551615;
@@ -62,9 +61,9 @@ fn read_more(rt: &HostRuntime, buf: &mut [u8], held: usize) -> usize
     requires { held ≤ length buf.old }
     ensures { (held ≤ result) × (result ≤ length buf.new) × (length buf.new ≡ length buf.old) }
 {
-    match whole_file::read_on(&mut rt.stdin(), buf, held) {
-        Got::Bytes(to) => to,
-        Got::Failed(e) => {
+    match whole_file::read_some(&mut rt.stdin(), &mut buf[held..]) {
+        Ok(n) => held + n,
+        Err(e) => {
             replies::fail(rt, b"standard input", e);
             held
         }

@@ -4,6 +4,8 @@
 
 mod files;
 mod lines;
+mod look;
+mod names;
 mod orders;
 mod replies;
 mod rooms;
@@ -54,11 +56,7 @@ const ENAMETOOLONG: i32 = 36;
 
 // Whether the program has an argument.
 fn has(rt: &HostRuntime, i: usize) -> bool {
-    let mut none = [0u8; 1];
-    match rt.arg(i, &mut none) {
-        Err(FillError::NotPresent) => false,
-        _ => true,
-    }
+    !matches!(rt.arg(i, &mut [0u8; 1]), Err(FillError::NotPresent))
 }
 
 // An argument of the program, and how many bytes it has; or why it is not there.

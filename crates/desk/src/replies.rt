@@ -5,6 +5,9 @@ use answer::Answer;
 use std::io::{Error, Write};
 use std::rt::HostRuntime;
 
+// What each complaint begins with.
+const NAME: &[u8] = b"desk";
+
 // How many cells are listed at a time.
 const PART: usize = 4096;
 
@@ -83,17 +86,22 @@ pub fn show(rt: &HostRuntime, cells: &[u32]) {
     }
 }
 
-// A line on standard error.
+// A line on standard error. What cannot be written there is not told.
 pub fn complain(rt: &HostRuntime, what: &[u8]) {
-    complain::line(&mut rt.stderr(), b"desk", what);
+    let _ = complain::line(&mut rt.stderr(), NAME, what);
 }
 
 // A line on standard error: what failed, and the system's text.
 pub fn fail(rt: &HostRuntime, what: &[u8], e: Error) {
-    complain::fail(&mut rt.stderr(), b"desk", what, e);
+    let _ = complain::fail(&mut rt.stderr(), NAME, what, e);
 }
 
 // A line on standard error: why nothing was done to what has a name.
 pub fn refuse(rt: &HostRuntime, name: &[u8], why: &[u8]) {
-    save_file::replies::refuse(&mut rt.stderr(), name, why);
+    let _ = complain::refuse(&mut rt.stderr(), NAME, name, why);
+}
+
+// A line on standard error: a name, what failed, and the system's text.
+pub fn fail_at(rt: &HostRuntime, name: &[u8], what: &[u8], e: Error) {
+    let _ = complain::fail_at(&mut rt.stderr(), NAME, name, what, e);
 }

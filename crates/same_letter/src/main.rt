@@ -19,6 +19,16 @@ const EINVAL: i32 = 22;
 
 const ENAMETOOLONG: i32 = 36;
 
+// A line on standard error. What cannot be written there is not told.
+fn complain(rt: &HostRuntime, what: &[u8]) {
+    let _ = complain::line(&mut rt.stderr(), NAME, what);
+}
+
+// A line on standard error: what failed, and the system's text.
+fn fail(rt: &HostRuntime, what: &[u8], e: Error) {
+    let _ = complain::fail(&mut rt.stderr(), NAME, what, e);
+}
+
 // An argument of the program: how many bytes of the buffer it has, or why it is not there.
 fn argument(rt: &HostRuntime, i: usize, buf: &mut [u8]) -> Got
     ensures { Within result 0 buf.new }
@@ -32,19 +42,14 @@ fn argument(rt: &HostRuntime, i: usize, buf: &mut [u8]) -> Got
 
 // Whether the program has an argument.
 fn has(rt: &HostRuntime, i: usize) -> bool {
-    let mut none = [0u8; 1];
-    match rt.arg(i, &mut none) {
-        Err(FillError::NotPresent) => false,
-        _ => true,
-    }
+    !matches!(rt.arg(i, &mut [0u8; 1]), Err(FillError::NotPresent))
 }
 
 // The kind and the two files that the program was started with.
 fn main(rt: HostRuntime) {
     if !has(&rt, 3) || has(&rt, 4) {
-        complain::line(
-            &mut rt.stderr(),
-            NAME,
+        complain(
+            &rt,
             b"use: same_letter KIND FILE FILE, where KIND is utf7, jp2 or mailbox",
         );
         return;
@@ -56,9 +61,7 @@ fn main(rt: HostRuntime) {
     };
     match commands::format_named(&word[..n]) {
         Called::As(format) => compare(&rt, format),
-        Called::NoFormat => {
-            complain::line(&mut rt.stderr(), NAME, b"KIND is utf7, jp2 or mailbox")
-        }
+        Called::NoFormat => complain(&rt, b"KIND is utf7, jp2 or mailbox"),
     }
 }
 
@@ -71,12 +74,12 @@ fn letter(rt: &HostRuntime, i: usize, buf: &mut [u8]) -> Got
         Got::Bytes(n) => {
             let got = whole_file::read(rt, &path[..n], buf);
             if let Got::Failed(e) = got {
-                complain::fail(&mut rt.stderr(), NAME, &path[..n], e);
+                fail(rt, &path[..n], e);
             }
             got
         }
         Got::Failed(e) => {
-            complain::fail(&mut rt.stderr(), NAME, b"FILE", e);
+            fail(rt, b"FILE", e);
             Got::Failed(e)
         }
     }

@@ -1,6 +1,10 @@
 // Names of files.
 ghost use Rattle.std.specs.Prelude.{◌≤◌, ◌≡◌, ◌+◌, length};
 
+use crate::files::PATH_MAX;
+
+const LETTERS: [u8; 64] = *b"abcdefghijklmnopqrstuvwxyzABCDEFGHIJKLMNOPQRSTUVWXYZ0123456789aA";
+
 // The folder of a name, with its slash: none where it has none.
 pub fn folder(name: &[u8]) -> &[u8]
     ensures { length result.now ≤ length name.now }
@@ -12,13 +16,6 @@ pub fn folder(name: &[u8]) -> &[u8]
     }
     &name[..0]
 }
-
-// Whether a byte of a name is 0, with which a path would end.
-pub fn has_zero(name: &[u8]) -> bool {
-    name.contains(&0)
-}
-
-const LETTERS: [u8; 64] = *b"abcdefghijklmnopqrstuvwxyzABCDEFGHIJKLMNOPQRSTUVWXYZ0123456789aA";
 
 // A letter or digit for a random byte.
 fn letter(dice: u8) -> u8 {
@@ -33,8 +30,8 @@ fn put_at(path: &mut [u8], at: usize, bytes: &[u8])
     path[at..at + bytes.len()].copy_from_slice(bytes);
 }
 
-// The name of a new file in a folder.
-pub fn lay(folder: &[u8], dice: [u8; 6], path: &mut [u8; 4096]) -> usize
+// The name of a new file in a folder, and how long it is.
+pub fn new_name(folder: &[u8], dice: [u8; 6], path: &mut [u8; PATH_MAX]) -> usize
     requires { length folder.now ≤ 4080 }
     ensures { result ≡ length folder.now + 15 }
 {

@@ -1,0 +1,87 @@
+// What stands at a name that is saved to, as the system tells it without following a link.
+use crate::replies;
+use std::fs::{FileType, Metadata, OpenOptions};
+use std::io::ErrorKind;
+use std::os::unix::fs::{FileTypeExt, MetadataExt, PermissionsExt};
+use std::rt::HostRuntime;
+use std::{fs, io};
+
+// The system's number for a file that is a running program.
+const ETXTBSY: i32 = 26;
+
+// What is at a name that is saved to: nothing; a file that may be replaced, with its owner, group and mode; or what a
+// save leaves alone, and that has been said.
+#[derive(Clone, Copy)]
+pub enum Spot {
+    Free,
+    Old(u32, u32, u32),
+    Barred,
+}
+
+// Says what is at a name, where that is no regular file.
+fn refuse_kind(rt: &HostRuntime, name: &[u8], kind: FileType) {
+    if kind.is_dir() {
+        replies::refuse(rt, name, b"is a directory: save to another name");
+    } else if kind.is_symlink() {
+        replies::refuse(
+            rt,
+            name,
+            b"is a symbolic link: save to the name of the file that it leads to",
+        );
+    } else if kind.is_fifo() {
+        replies::refuse(rt, name, b"is a named pipe: save to another name");
+    } else if kind.is_socket() {
+        replies::refuse(rt, name, b"is a socket: save to another name");
+    } else {
+        replies::refuse(rt, name, b"is a device: save to another name");
+    }
+}
+
+// Whether the system lets the file be opened for writing, which changes nothing of it. A program that is running may be
+// replaced.
+fn may_write(rt: &HostRuntime, path: &str) -> io::Result<()> {
+    match OpenOptions::new().write(true).open(rt, path) {
+        Ok(_) => Ok(()),
+        Err(e) if e.raw_os_error() == Some(ETXTBSY) => Ok(()),
+        Err(e) => Err(e),
+    }
+}
+
+// What is at a name that has been looked at: only a regular file with no other name, which may be written, is replaced.
+fn judged(rt: &HostRuntime, path: &str, seen: &Metadata) -> Spot {
+    let name = path.as_bytes();
+    let kind = seen.file_type();
+    if !kind.is_file() {
+        refuse_kind(rt, name, kind);
+        return Spot::Barred;
+    }
+    if 1 < seen.nlink() {
+        replies::refuse(
+            rt,
+            name,
+            b"has other names too (hard links): save to another name",
+        );
+        return Spot::Barred;
+    }
+    if seen.permissions().readonly() {
+        replies::refuse(rt, name, b"is read-only: save to another name");
+        return Spot::Barred;
+    }
+    if let Err(e) = may_write(rt, path) {
+        replies::fail(rt, name, e);
+        return Spot::Barred;
+    }
+    Spot::Old(seen.uid(), seen.gid(), seen.mode())
+}
+
+// What is at a name.
+pub fn look(rt: &HostRuntime, path: &str) -> Spot {
+    match fs::symlink_metadata(rt, path) {
+        Ok(seen) => judged(rt, path, &seen),
+        Err(e) if e.kind() == ErrorKind::NotFound => Spot::Free,
+        Err(e) => {
+            replies::fail(rt, path.as_bytes(), e);
+            Spot::Barred
+        }
+    }
+}
