@@ -236,10 +236,14 @@ mod tests {
             /t/proofs/d/Proof.antt:12:5: error: 1 declaration that depends on `again`, which was rejected, was not checked: d_spec\n\
             note: /t/src/lib.rt:7:9: it is not proved that what the function ensures holds when it returns (`returns-then-x`); the facts ..\n";
         let source = |path: &str, at: usize| {
-            (path == "/t/src/lib.rt").then(|| ["", "#[tactic(auto)]", "pub fn k<'a>(x: &'a u8)", "fn m()", "", "", "}"].get(at - 1).copied())
+            (path == "/t/src/lib.rt")
+                .then(|| ["", "#[tactic(auto)]", "pub fn k<'a>(x: &'a u8)", "fn m()", "", "", "}"].get(at - 1).copied())
         };
         let line = |path: &str, at: usize| source(path, at).flatten().map(str::to_string);
-        assert_eq!(refused_at(log, &line), names(&["returns", "f", "hold", "k", "returns-2", "e", "m", "returns-then-x"]));
+        assert_eq!(
+            refused_at(log, &line),
+            names(&["returns", "f", "hold", "k", "returns-2", "e", "m", "returns-then-x"])
+        );
     }
 
     #[test]
