@@ -220,7 +220,7 @@ fn open(start: &Start) -> Result<(Told, Desk), Told> {
     if name.len() > LONGEST_LETTER_NAME {
         return complain(Complaint::LetterNameTooLong);
     }
-    // "a name that is no UTF-8 text": it "names no file"
+    // "a name that is no UTF-8 text names no file, also where there is one"
     if !is_text(name) {
         return complain(Complaint::Letter(name.clone(), EILSEQ));
     }
