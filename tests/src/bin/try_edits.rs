@@ -1,15 +1,15 @@
 //! Tries the must-fail edits, crates/CRATE/must-fail/LABEL.edit, and keeps all that is said of each in
-//! target/must-fail/CRATE/LABEL/.log, where `edits` reads at which facts its slips are refused: `rt ci` and `rt must-fail`
-//! tell the first error only.
+//! target/must-fail/CRATE/LABEL/.log, where `edits` reads at which facts its slips are refused: `rt ci` and `rt
+//! must-fail` tell the first error only.
 //!
 //! A goal is named after the tests before it, as `Need-returns-then-u-gt91`, so a proof written out falls for its names
-//! alone where a slip changes such a test, and that shows nothing. A line `# names in FILE: OLD -> NEW, ..` of an edit says
-//! what they become: those names are turned in that file here, and only here, since the prover's own try of an edit takes
-//! a proof that fails in an edited file for a bad edit.
+//! alone where a slip changes such a test, and that shows nothing. A line `# names in FILE: OLD -> NEW, ..` of an edit
+//! says what they become: those names are turned in that file here, and only here, since the prover's own try of an edit
+//! takes a proof that fails in an edited file for a bad edit.
 //!
 //! Each edit is written into a copy of the crates, a copy for each processor, where `rt check` begins with what a check
-//! kept of the crate as it stands, here or in another checkout of this machine; where none did, it begins from nothing. Run
-//! it from the root of the repository, with the names of crates, or none for all. The last line is `N edits tried`.
+//! kept of the crate as it stands, here or in another checkout of this machine; where none did, it begins from nothing.
+//! Run it from the root of the repository, with the names of crates, or none for all. The last line is `N edits tried`.
 
 use std::cmp::Reverse;
 use std::collections::BTreeMap;

@@ -340,8 +340,8 @@ pub const NAMES: &[&[u8]] = &[
     b"letter/../out",
     b"a\0b",
     b"\0",
-    // These are no UTF-8 text: bytes that begin nothing, too long a form, half a surrogate pair, too great a number, and
-    // a character that is cut off.
+    // These are no UTF-8 text: bytes that begin nothing, too long a form, half a surrogate pair, too great a number,
+    // and a character that is cut off.
     b"\x80\xFF\x01\x1B[1m",
     b"sub/\xC0\xAF",
     b"out\xED\xA0\x80",
