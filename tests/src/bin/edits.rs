@@ -1,13 +1,13 @@
 //! Looks at the must-fail edits: crates/CRATE/must-fail/LABEL.edit.
 //!
-//! An edit may hold several slips, so that one check tries them all: a line `# NAME (FACT): why` before each names it and
-//! says where it is refused, in the proof of a function or by a law. Its names are `CRATE/NAME` of its slips, or
+//! An edit may hold several slips, so that one check tries them all: a line `# NAME (FACT): why` before each names it
+//! and says where it is refused, in the proof of a function or by a law. Its names are `CRATE/NAME` of its slips, or
 //! `CRATE/LABEL` where it has none.
 //!
-//! It fails where docs/PROMISES.md names an edit or a slip that does not exist, or does not name one that does; and, where
-//! `try_edits` has left its logs in target/must-fail, where a slip is not refused at its fact, or an edit at none. A fact is
-//! the name of a function, of a law, or of a goal, `-` and `_` alike. Run it from the root of the repository. The last line
-//! is `N edits, M slips, K faults`.
+//! It fails where docs/PROMISES.md names an edit or a slip that does not exist, or does not name one that does; and,
+//! where `try_edits` has left its logs in target/must-fail, where a slip is not refused at its fact, or an edit at none.
+//! A fact is the name of a function, of a law, or of a goal, `-` and `_` alike. Run it from the root of the repository.
+//! The last line is `N edits, M slips, K faults`.
 
 use std::collections::BTreeSet;
 use std::fs;

@@ -4,8 +4,8 @@
 //!
 //! A goal is named after the tests before it, as `Need-returns-then-u-gt91`, so a proof written out falls for its names
 //! alone where a slip changes such a test, and that shows nothing. A line `# names in FILE: OLD -> NEW, ..` of an edit
-//! says what they become: those names are turned in that file here, and only here, since the prover's own try of an edit
-//! takes a proof that fails in an edited file for a bad edit.
+//! says what they become: those names are turned in that file here, and only here, since the prover's own try of an
+//! edit takes a proof that fails in an edited file for a bad edit.
 //!
 //! Each edit is written into a copy of the crates, a copy for each processor, where `rt check` begins with what a check
 //! kept of the crate as it stands, here or in another checkout of this machine; where none did, it begins from nothing.
