@@ -2,7 +2,6 @@
 
 use std::ffi::OsStr;
 use std::os::unix::ffi::OsStrExt;
-use std::os::unix::process::ExitStatusExt;
 use std::path::{Path, PathBuf};
 use std::process::{self, Command};
 use std::sync::atomic::{AtomicUsize, Ordering};
@@ -66,16 +65,16 @@ impl SameLetter {
         SameLetter { path: path::absolute(Program::new(NAME).path).expect("a path"), folder }
     }
 
-    /// What it writes to standard output and to standard error, with the usual stack of 8 MiB.
+    /// What it writes to standard output and to standard error, with the usual stack of 8 MiB. Its exit status is 0.
     fn run(&self, arguments: &[&[u8]]) -> Result<(Vec<u8>, Vec<u8>), String> {
         let failed = |problem: String| format!("cannot run {}: {problem}", self.path.display());
         let mut shell = Command::new("sh");
         shell.args(["-c", "ulimit -s 8192 && exec \"$0\" \"$@\""]).arg(&self.path);
         shell.args(arguments.iter().map(|argument| OsStr::from_bytes(argument))).current_dir(&self.folder);
         let output = shell.output().map_err(|error| failed(error.to_string()))?;
-        match output.status.signal() {
-            Some(signal) => Err(failed(format!("ended by signal {signal}"))),
-            None => Ok((output.stdout, output.stderr)),
+        match output.status.success() {
+            true => Ok((output.stdout, output.stderr)),
+            false => Err(failed(format!("it ended with {}", output.status))),
         }
     }
 
