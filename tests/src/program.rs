@@ -2,7 +2,6 @@
 
 use std::env;
 use std::io::Write;
-use std::os::unix::process::ExitStatusExt;
 use std::path::{Path, PathBuf};
 use std::process::{Command, Stdio};
 use std::thread;
@@ -19,7 +18,7 @@ impl Program {
         Program { name, path: Path::new(&folder).join(name) }
     }
 
-    /// What the program prints when this is its standard input.
+    /// What the program prints when this is its standard input. Its exit status is 0, whatever it answers.
     pub fn run(&self, input: &[u8]) -> Result<Vec<u8>, String> {
         let failed = |problem: String| format!("cannot run {}: {problem}", self.path.display());
         let mut child = Command::new(&self.path)
@@ -36,9 +35,9 @@ impl Program {
             child.wait_with_output()
         });
         let output = output.map_err(|error| failed(error.to_string()))?;
-        match output.status.signal() {
-            Some(signal) => Err(failed(format!("ended by signal {signal}"))),
-            None => Ok(output.stdout),
+        match output.status.success() {
+            true => Ok(output.stdout),
+            false => Err(failed(format!("it ended with {}", output.status))),
         }
     }
 }

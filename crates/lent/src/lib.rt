@@ -40,7 +40,7 @@ pub fn save(p: &mut Page, text: &[u32], history: &[u32], arrived: &[u8], out: &m
     next.answer
 }
 
-// Keeps a page, lends it to undo and gives it back. Its parameters are plain, so whoever calls it needs no walk by hand.
+// Keeps a page, lends it to undo and gives it back: for whoever has the page by value.
 pub fn undo_kept(p: Page, text: &mut [u32], history: &[u32]) -> Edited
     ensures { leaves result text.new history.now ≡ undo_of (state_of p text.old history.now) }
 {

@@ -129,7 +129,7 @@ pub fn next<'s, 'a>(reader: &'s mut Reader<'a>) -> Handed
     turn.handed
 }
 
-// One step by a reader that is made for it. Its parameters are plain, so whoever calls it needs no walk by hand.
+// One step by a reader that is made for it: for whoever keeps a place and no reader.
 pub fn step_once(text: &[u8], place: Place) -> Turn
     ensures { (told result.handed ≡ given_at text.now place) × (result.place ≡ place_after text.now place) }
 {

@@ -1,13 +1,13 @@
 //! Looks at the must-fail edits: crates/CRATE/must-fail/LABEL.edit.
 //!
-//! An edit may hold several slips, so that one check tries them all: a line `# NAME (FACT): why` before each names it and
-//! says where it is refused, in the proof of a function or by a law. Its names are `CRATE/NAME` of its slips, or
+//! An edit may hold several slips, so that one check tries them all: a line `# NAME (FACT): why` before each names it
+//! and says where it is refused, in the proof of a function or by a law. Its names are `CRATE/NAME` of its slips, or
 //! `CRATE/LABEL` where it has none.
 //!
-//! It fails where docs/PROMISES.md names an edit or a slip that does not exist, or does not name one that does; and, where
-//! `try_edits` has left its logs in target/must-fail, where a slip is not refused at its fact, or an edit at none. A fact is
-//! the name of a function, of a law, or of a goal, `-` and `_` alike. Run it from the root of the repository. The last line
-//! is `N edits, M slips, K faults`.
+//! It fails where docs/PROMISES.md names an edit or a slip that does not exist, or does not name one that does; and,
+//! where `try_edits` has left its logs in target/must-fail, where a slip is not refused at its fact, or an edit at none.
+//! A fact is the name of a function, of a law, or of a goal, `-` and `_` alike. Run it from the root of the repository.
+//! The last line is `N edits, M slips, K faults`.
 
 use std::collections::BTreeSet;
 use std::fs;
@@ -236,10 +236,14 @@ mod tests {
             /t/proofs/d/Proof.antt:12:5: error: 1 declaration that depends on `again`, which was rejected, was not checked: d_spec\n\
             note: /t/src/lib.rt:7:9: it is not proved that what the function ensures holds when it returns (`returns-then-x`); the facts ..\n";
         let source = |path: &str, at: usize| {
-            (path == "/t/src/lib.rt").then(|| ["", "#[tactic(auto)]", "pub fn k<'a>(x: &'a u8)", "fn m()", "", "", "}"].get(at - 1).copied())
+            (path == "/t/src/lib.rt")
+                .then(|| ["", "#[tactic(auto)]", "pub fn k<'a>(x: &'a u8)", "fn m()", "", "", "}"].get(at - 1).copied())
         };
         let line = |path: &str, at: usize| source(path, at).flatten().map(str::to_string);
-        assert_eq!(refused_at(log, &line), names(&["returns", "f", "hold", "k", "returns-2", "e", "m", "returns-then-x"]));
+        assert_eq!(
+            refused_at(log, &line),
+            names(&["returns", "f", "hold", "k", "returns-2", "e", "m", "returns-then-x"])
+        );
     }
 
     #[test]

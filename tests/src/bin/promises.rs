@@ -374,28 +374,28 @@ mod tests {
     #[test]
     fn a_promise_or_none() {
         assert_eq!(public_in("pub fn f(x: u8) -> u8 { x }"), ["f: no ensures"]);
-        assert_eq!(public_in("pub fn f(x: u8) -> u8 ensures { λ r. ⌜ r ≡ x ⌝ } { x }"), ["f: "]);
-        assert_eq!(public_in("pub fn f(x: u8) -> u8 ensures same { λ r. ⌜ r ≡ x ⌝ } { x }"), ["f: "]);
+        assert_eq!(public_in("pub fn f(x: u8) -> u8 ensures { result ≡ x } { x }"), ["f: "]);
+        assert_eq!(public_in("pub fn f(x: u8) -> u8 ensures same { result ≡ record { a = x } } { x }"), ["f: "]);
     }
 
     #[test]
     fn a_requires_is_a_fault() {
-        let both = "pub fn f(s: &[u8; 4]) requires { ⌜ a ⌝ } ensures b { ⌜ c ⌝ } { g(s); }";
+        let both = "pub fn f(s: &[u8; 4]) requires { a } ensures b { c } { g(s); }";
         assert_eq!(public_in(both), ["f: has a requires"]);
-        assert_eq!(public_in("pub fn f() requires { ⌜ a ⌝ } {}"), ["f: no ensures, has a requires"]);
-        assert_eq!(public_in("pub fn f() ghost { ℕ } requires { ⌜ a ⌝ } ensures { ⌜ c ⌝ } {}"), ["f: has a requires"]);
+        assert_eq!(public_in("pub fn f() requires { a } {}"), ["f: no ensures, has a requires"]);
+        assert_eq!(public_in("pub fn f() ghost { ℕ } requires { a } ensures { c } {}"), ["f: has a requires"]);
     }
 
     #[test]
     fn private_functions_are_left_out() {
-        assert!(public_in("fn f() requires { ⌜ a ⌝ } {}").is_empty());
+        assert!(public_in("fn f() requires { a } {}").is_empty());
         assert!(public_in("pub(crate) fn f() {}").is_empty());
         assert!(public_in("mod inner { pub fn f() {} }").is_empty());
     }
 
     #[test]
     fn one_function_does_not_lend_its_clauses_to_another() {
-        let source = "pub fn f(x: u8) -> u8 { if x < 3 { 1 } else { 2 } } pub fn g() ensures { ⌜ a ⌝ } {}";
+        let source = "pub fn f(x: u8) -> u8 { if x < 3 { 1 } else { 2 } } pub fn g() ensures { a } {}";
         assert_eq!(public_in(source), ["f: no ensures", "g: "]);
     }
 
@@ -417,7 +417,7 @@ mod tests {
     #[test]
     fn exported_functions_are_public_everywhere() {
         assert_eq!(public_in("#[no_mangle]\npub extern \"C\" fn f(x: u8) -> u8 { x }"), ["f: no ensures"]);
-        assert_eq!(public_in("pub extern \"C\" fn f() requires { ⌜ a ⌝ } {}"), ["f: no ensures, has a requires"]);
+        assert_eq!(public_in("pub extern \"C\" fn f() requires { a } {}"), ["f: no ensures, has a requires"]);
         assert_eq!(public_in("extern \"C\" { pub fn f(x: u8); fn g(); } fn h() {}"), ["f: no ensures"]);
         assert_eq!(public_in("mod c { #[no_mangle] pub extern \"C\" fn f() {} fn g() {} }"), ["f: no ensures"]);
     }
@@ -425,8 +425,8 @@ mod tests {
     #[test]
     fn comments_and_literals_say_nothing() {
         assert!(public_in("// pub fn f() {}\n/* pub fn g() /* h */ {} */").is_empty());
-        assert_eq!(public_in("pub fn f() // ensures { ⌜ a ⌝ }\n{}"), ["f: no ensures"]);
-        assert_eq!(public_in("pub fn f() /* requires { ⌜ a ⌝ } */ ensures { ⌜ b' ≡ c' ⌝ } {}"), ["f: "]);
+        assert_eq!(public_in("pub fn f() // ensures { a }\n{}"), ["f: no ensures"]);
+        assert_eq!(public_in("pub fn f() /* requires { a } */ ensures { b' ≡ c' } {}"), ["f: "]);
         let literals = "fn f() { g(b'{', b'\\'', b\"}{\\\"{\", \"{\"); } pub fn h() {}";
         assert_eq!(public_in(literals), ["h: no ensures"]);
     }

@@ -1,15 +1,17 @@
 //! Tries the must-fail edits, crates/CRATE/must-fail/LABEL.edit, and keeps all that is said of each in
-//! target/must-fail/CRATE/LABEL/.log, where `edits` reads at which facts its slips are refused: `rt must-fail` itself tells
-//! the first error only.
+//! target/must-fail/CRATE/LABEL/.log, where `edits` reads at which facts its slips are refused: `rt ci` and `rt
+//! must-fail` tell the first error only.
 //!
-//! A goal is named after the tests before it, as `Need-returns-then-u-gt91`, so a proof written out falls for its names alone
-//! where a slip changes such a test, and that shows nothing. A line `# names in FILE: OLD -> NEW, ..` of an edit says what
-//! they become: those names are turned in that file here, and only here, since the prover's own try of an edit takes a
-//! proof that fails in an edited file for a bad edit.
+//! A goal is named after the tests before it, as `Need-returns-then-u-gt91`, so a proof written out falls for its names
+//! alone where a slip changes such a test, and that shows nothing. A line `# names in FILE: OLD -> NEW, ..` of an edit
+//! says what they become: those names are turned in that file here, and only here, since the prover's own try of an
+//! edit takes a proof that fails in an edited file for a bad edit.
 //!
-//! Each edit is written into a copy of the crates, where `rt check` begins with what it kept of the crate as it stands. Run
-//! it from the root of the repository, with the names of crates, or none for all. The last line is `N edits tried`.
+//! Each edit is written into a copy of the crates, a copy for each processor, where `rt check` begins with what a check
+//! kept of the crate as it stands, here or in another checkout of this machine; where none did, it begins from nothing.
+//! Run it from the root of the repository, with the names of crates, or none for all. The last line is `N edits tried`.
 
+use std::cmp::Reverse;
 use std::collections::BTreeMap;
 use std::fs;
 use std::io;
@@ -69,10 +71,12 @@ fn renamed(text: &str, names: &BTreeMap<&str, &str>) -> String {
 
 /// What `rt check` says of a crate with these texts in place of its own.
 fn told(folder: &Path, texts: &Texts) -> io::Result<String> {
-    let before: Texts = texts.keys().map(|file| Ok((file.clone(), fs::read_to_string(file)?))).collect::<io::Result<_>>()?;
+    let before: Texts =
+        texts.keys().map(|file| Ok((file.clone(), fs::read_to_string(file)?))).collect::<io::Result<_>>()?;
     let write = |texts: &Texts| texts.iter().try_for_each(|(file, text)| fs::write(file, text));
     write(texts)?;
-    let said = Command::new("rt").arg("check").current_dir(folder).output();
+    // Each processor has a check of its own.
+    let said = Command::new("rt").args(["check", "--jobs", "1"]).current_dir(folder).output();
     write(&before)?;
     let said = said?;
     Ok(String::from_utf8_lossy(&said.stdout).into_owned() + &String::from_utf8_lossy(&said.stderr))
@@ -101,29 +105,48 @@ fn try_crate(tree: &Path, of: &str) -> Result<usize, String> {
         let errors = log.lines().filter(|line| line.contains(": error: ")).count();
         println!("{of}/{label}: {} s, {errors} errors", began.elapsed().as_secs());
     }
+    // What was kept of the edited texts serves no other crate, and takes a hundred megabytes and more.
+    let _ = fs::remove_dir_all(folder.join("out/incremental"));
     Ok(found.len())
 }
 
-/// A copy of the crates, without what was made of them.
+/// A copy of the crates, without what was made of them and without the edits.
 fn copy(tree: &Path) -> io::Result<()> {
     fs::create_dir_all(tree)?;
-    let parts = "cp -r crates.txt crates \"$0\" && if [ -f HANDLES ]; then cp HANDLES \"$0\"; fi && rm -rf \"$0\"/crates/*/out \"$0\"/crates/*/must-fail";
+    let parts = "cp crates.txt \"$0\" && if [ -f HANDLES ]; then cp HANDLES \"$0\"; fi && \
+        tar -cf - --no-wildcards-match-slash --exclude='crates/*/out' --exclude='crates/*/must-fail' crates | \
+        tar -xf - -C \"$0\"";
     match Command::new("sh").args(["-c", parts]).arg(tree).status()?.success() {
         true => Ok(()),
         false => Err(io::Error::other("the crates cannot be copied")),
     }
 }
 
-/// The crates of crates.txt, the lowest first.
+/// The crates of crates.txt.
 fn listed() -> Vec<String> {
     let text = fs::read_to_string("crates.txt").unwrap_or_default();
     let names = text.lines().filter(|line| !line.starts_with('#')).filter_map(|line| line.split([':', ' ']).next());
     names.filter(|name| !name.is_empty()).map(str::to_string).collect()
 }
 
+/// How much is likely to be done for a crate: its bytes, once for each edit.
+fn work(of: &str) -> u64 {
+    fn bytes(folder: &Path) -> u64 {
+        let listed = fs::read_dir(folder).into_iter().flatten().flatten();
+        let size =
+            |path: PathBuf| if path.is_dir() { bytes(&path) } else { path.metadata().map_or(0, |data| data.len()) };
+        listed.map(|entry| size(entry.path())).sum()
+    }
+    let parts = ["src", "specs", "proofs"].map(|part| bytes(&Path::new("crates").join(of).join(part)));
+    parts.iter().sum::<u64>() * edits(of).len() as u64
+}
+
 fn main() -> ExitCode {
     let given: Vec<String> = std::env::args().skip(1).collect();
-    let crates = if given.is_empty() { listed() } else { given };
+    let mut crates = if given.is_empty() { listed() } else { given };
+    crates.retain(|of| !edits(of).is_empty());
+    // The longest come first, so that no processor is left with one at the end.
+    crates.sort_by_cached_key(|of| Reverse(work(of)));
     let lanes = thread::available_parallelism().map_or(1, |count| count.get()).min(crates.len());
     let room = std::env::temp_dir().join(format!("try-edits-{}", std::process::id()));
     let (left, done) = (Mutex::new(crates.iter()), Mutex::new((0, Vec::new())));
@@ -148,7 +171,7 @@ fn main() -> ExitCode {
     let (count, faults) = done.into_inner().unwrap();
     faults.iter().for_each(|fault| println!("{fault}"));
     println!("{count} edits tried");
-    match faults.is_empty() {
+    match faults.is_empty() && count > 0 {
         true => ExitCode::SUCCESS,
         false => ExitCode::FAILURE,
     }

@@ -2,7 +2,6 @@
 
 use std::ffi::OsStr;
 use std::os::unix::ffi::OsStrExt;
-use std::os::unix::process::ExitStatusExt;
 use std::path::{Path, PathBuf};
 use std::process::{self, Command};
 use std::sync::atomic::{AtomicUsize, Ordering};
@@ -66,16 +65,16 @@ impl SameLetter {
         SameLetter { path: path::absolute(Program::new(NAME).path).expect("a path"), folder }
     }
 
-    /// What it writes to standard output and to standard error, with the usual stack of 8 MiB.
+    /// What it writes to standard output and to standard error, with the usual stack of 8 MiB. Its exit status is 0.
     fn run(&self, arguments: &[&[u8]]) -> Result<(Vec<u8>, Vec<u8>), String> {
         let failed = |problem: String| format!("cannot run {}: {problem}", self.path.display());
         let mut shell = Command::new("sh");
         shell.args(["-c", "ulimit -s 8192 && exec \"$0\" \"$@\""]).arg(&self.path);
         shell.args(arguments.iter().map(|argument| OsStr::from_bytes(argument))).current_dir(&self.folder);
         let output = shell.output().map_err(|error| failed(error.to_string()))?;
-        match output.status.signal() {
-            Some(signal) => Err(failed(format!("ended by signal {signal}"))),
-            None => Ok((output.stdout, output.stderr)),
+        match output.status.success() {
+            true => Ok((output.stdout, output.stderr)),
+            false => Err(failed(format!("it ended with {}", output.status))),
         }
     }
 
@@ -89,7 +88,7 @@ impl SameLetter {
         self.put("first", &pair.first)?;
         self.put("second", &pair.second)?;
         statuses.count(NAME, number(found));
-        self.tells(&[format.name.as_bytes(), b"first", b"second"], &print(&found), "")
+        self.tells(&[format.name.as_bytes(), b"first", b"second"], print(&found).as_bytes(), b"")
     }
 
     fn examples(&self, format: &Format, statuses: &mut Statuses) -> Result<usize, String> {
@@ -114,11 +113,12 @@ impl SameLetter {
         })
     }
 
-    fn tells(&self, arguments: &[&[u8]], output: &str, errors: &str) -> Result<(), String> {
+    fn tells(&self, arguments: &[&[u8]], output: &[u8], errors: &[u8]) -> Result<(), String> {
         let (out, err) = self.run(arguments)?;
         for (stream, told, expected) in [("output", out, output), ("error", err, errors)] {
-            if told != expected.as_bytes() {
-                return Err(format!("standard {stream} has {}, and not {expected:?}", told.escape_ascii()));
+            if told != expected {
+                let (told, expected) = (told.escape_ascii(), expected.escape_ascii());
+                return Err(format!("standard {stream} has {told}, and not {expected}"));
             }
         }
         Ok(())
@@ -147,10 +147,17 @@ impl SameLetter {
             (vec![b"utf7", &long, b"letter"], "same_letter: FILE: File name too long\n".to_string()),
         ];
         for (arguments, errors) in &cases {
-            self.tells(arguments, "", errors)?;
+            self.tells(arguments, b"", errors.as_bytes())?;
         }
-        self.tells(&[b"utf7", b"letter", b"/dev/null"], "status=0\nindex=0\nfirst=0\nsecond=0\n", "")?;
-        self.tells(&[b"utf7", b"/dev/null", b"/dev/null"], "status=0\ncount=0\n", "")?;
-        Ok(cases.len() + 2)
+        // A name that is no UTF-8 text is of no file, also where there is one.
+        let odd: &[u8] = b"a \xFF letter";
+        fs::write(self.folder.join(OsStr::from_bytes(odd)), b"abc")
+            .map_err(|error| format!("no such file: {error}"))?;
+        let no_text = [b"same_letter: ", odd, b": Invalid or incomplete multibyte or wide character\n"].concat();
+        self.tells(&[b"utf7", odd, b"letter"], b"", &no_text)?;
+        self.tells(&[b"jp2", b"letter", odd], b"", &no_text)?;
+        self.tells(&[b"utf7", b"letter", b"/dev/null"], b"status=0\nindex=0\nfirst=0\nsecond=0\n", b"")?;
+        self.tells(&[b"utf7", b"/dev/null", b"/dev/null"], b"status=0\ncount=0\n", b"")?;
+        Ok(cases.len() + 4)
     }
 }

@@ -389,7 +389,35 @@ pub fn saves() -> Vec<Transcript> {
         ("save", "ac"),
         ("as it came", "abc"),
     ];
-    vec![lines("files saved and not saved", list, &saved)]
+    vec![lines("files saved and not saved", list, &saved), names_of_no_text()]
+}
+
+/// What is told of a name that is no UTF-8 text.
+fn no_text(name: &[u8]) -> Vec<u8> {
+    [b"desk: ", name, b": Invalid or incomplete multibyte or wide character\n"].concat()
+}
+
+/// Names that are no UTF-8 text, to save to and to keep to: also where there is a file of that name, where their folder
+/// is none, and where nothing would be complained of else. A name that is such text is like others.
+fn names_of_no_text() -> Transcript {
+    let names: [&[u8]; 6] =
+        [b"\xFF", b"two \x80 words", b"\xE6\x97", b"sub/\xC0\xAF", b"no/\xED\xA0\x80", b"letter/\x80"];
+    let put = |word: &str| -> Vec<u8> {
+        names.iter().flat_map(|name| [word.as_bytes(), b" ", name, b"\n"].concat()).collect()
+    };
+    let list: &[Line] = &[
+        ADD,
+        (&put("save"), ""),
+        (&put("keep"), ""),
+        STAYS,
+        ("save 日本\n".as_bytes(), "status=0\ncount=4\n"),
+        LEAVES,
+    ];
+    let said: Vec<u8> = names.iter().flat_map(|name| no_text(name)).collect();
+    let mut transcript = lines("names that are no text", list, &[("日本", "Aabc")]);
+    transcript.before.entries.insert(b"\xFF".to_vec(), Entry::File { bytes: b"another".to_vec(), mode: OLD_MODE });
+    transcript.errors = [&said[..], &said, STAYS.1.as_bytes()].concat();
+    transcript
 }
 
 /// A line with what is told for it.
@@ -588,6 +616,8 @@ pub fn starts() -> Vec<Transcript> {
         fails(&["page", &long_part], &format!("desk: {long_part}: File name too long\n")),
         fails(&["page", &long], &format!("desk: {long}: File name too long\n")),
         fails(&["page", &longer], "desk: FILE: File name too long\n"),
+        of_no_text("utf7b"),
+        of_no_text("page"),
         refused(&["page", "letter"], "status=18\nplace=0\n"),
         refused(&["page", "empty"], "status=18\nplace=0\n"),
         refused(&["page", "sub/form"], "status=18\nplace=7\n"),
@@ -619,6 +649,16 @@ fn start(arguments: &[&str], output: &str, errors: &str) -> Transcript {
         errors: errors.as_bytes().to_vec(),
         saved: vec![],
     }
+}
+
+/// A start on a file whose name is no UTF-8 text, with this first argument.
+fn of_no_text(word: &str) -> Transcript {
+    let name = b"a \xFF letter";
+    let mut transcript = start(&[word, "a \u{FFFD} letter"], "", "");
+    transcript.arguments[1] = name.to_vec();
+    transcript.before.entries.insert(name.to_vec(), Entry::File { bytes: b"abc".to_vec(), mode: OLD_MODE });
+    transcript.errors = no_text(name);
+    transcript
 }
 
 /// Every example of one run, for the unit tests.

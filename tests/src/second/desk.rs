@@ -3,9 +3,9 @@
 //! says so. It was written without a look at the proved code. Where docs/DESK.md is silent, a comment says what is
 //! taken.
 
-use std::mem;
+use std::{mem, str};
 
-use super::files::{Entry, Errno, Files};
+use super::files::{Entry, Errno, Files, EILSEQ};
 use super::page::{self, Page, State};
 use super::page_file;
 use super::{print_listing, Answer, Call, Kind, LIMIT};
@@ -220,6 +220,10 @@ fn open(start: &Start) -> Result<(Told, Desk), Told> {
     if name.len() > LONGEST_LETTER_NAME {
         return complain(Complaint::LetterNameTooLong);
     }
+    // "a name that is no UTF-8 text names no file, also where there is one"
+    if !is_text(name) {
+        return complain(Complaint::Letter(name.clone(), EILSEQ));
+    }
     match start.files.read(name) {
         Err(errno) => complain(Complaint::Letter(name.clone(), errno)),
         Ok(bytes) => match begin(name, bytes) {
@@ -264,6 +268,11 @@ fn gone_on(name: &[u8], file: Vec<u8>) -> Begun {
     let letter = left.arrived.get(..left.answer.place).map(<[u8]>::to_vec);
     let accepted = letter.filter(|_| left.answer.number == 0);
     (Told::Answer(PAGE, left.answer), accepted.map(|letter| (letter, left.state)))
+}
+
+/// Whether a name is UTF-8 text.
+fn is_text(name: &[u8]) -> bool {
+    str::from_utf8(name).is_ok()
 }
 
 /// "space, tab, CR, LF"
@@ -402,6 +411,10 @@ impl Desk {
         if name.contains(&0) {
             return Err(Complaint::NameWithNul);
         }
+        // "a name that is no UTF-8 text", before FILE is looked at
+        if !is_text(name) {
+            return Err(Complaint::Save(name.to_vec(), EILSEQ));
+        }
         let mode = match self.files.look(name) {
             // "Where FILE is new it has the mode 0666 less the umask."
             Ok(None) => 0o666 & !self.umask,
@@ -494,6 +507,19 @@ mod tests {
     #[test]
     fn a_name_with_a_nul_is_of_no_file() {
         assert_eq!(told(b"save a\0b\n"), Told::Complaint(Complaint::NameWithNul));
+    }
+
+    #[test]
+    fn a_name_that_is_no_text_is_of_no_file() {
+        for name in [&b"\xFF"[..], b"\xE6\x97", b"\xC0\xAF", b"\xED\xA0\x80", b"no/\x80", b"letter/\x80"] {
+            let complaint = Told::Complaint(Complaint::Save(name.to_vec(), EILSEQ));
+            assert_eq!(told(&[b"save ", name].concat()), complaint);
+            assert_eq!(told(&[b"keep ", name].concat()), complaint);
+        }
+        let three = Told::Answer(SAVE, Answer { number: 0, place: 3 });
+        assert_eq!(told("save 日本".as_bytes()), three);
+        assert_eq!(told(b"save a\0\xFF"), Told::Complaint(Complaint::NameWithNul));
+        assert_eq!(told(&[b"save ", &[0xFF; 4_096][..]].concat()), Told::Complaint(Complaint::NameTooLong));
     }
 
     /// The file of a page whose letter, text and history have so many elements each.

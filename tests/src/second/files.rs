@@ -14,6 +14,7 @@ pub const ENOTDIR: Errno = Errno(20);
 pub const EISDIR: Errno = Errno(21);
 pub const EINVAL: Errno = Errno(22);
 pub const ENAMETOOLONG: Errno = Errno(36);
+pub const EILSEQ: Errno = Errno(84);
 
 impl Errno {
     /// The system's text for it.
@@ -157,7 +158,7 @@ mod tests {
 
     #[test]
     fn texts_are_the_system_s() {
-        let texts = [ENOENT, EBUSY, EEXIST, ENOTDIR, EISDIR, EINVAL, ENAMETOOLONG].map(Errno::text);
+        let texts = [ENOENT, EBUSY, EEXIST, ENOTDIR, EISDIR, EINVAL, ENAMETOOLONG, EILSEQ].map(Errno::text);
         let expected = [
             "No such file or directory",
             "Device or resource busy",
@@ -166,6 +167,7 @@ mod tests {
             "Is a directory",
             "Invalid argument",
             "File name too long",
+            "Invalid or incomplete multibyte or wide character",
         ];
         assert_eq!(texts, expected);
     }

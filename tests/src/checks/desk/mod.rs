@@ -118,7 +118,7 @@ fn expect_statuses(report: &mut Report, kind: Kind) {
 }
 
 /// What can be complained of in scripts, and the errors of the system that names in them can cause.
-const COMPLAINTS: [&str; 16] = [
+const COMPLAINTS: [&str; 17] = [
     "page file too long",
     "line too long",
     "no such command",
@@ -134,6 +134,7 @@ const COMPLAINTS: [&str; 16] = [
     "a directory",
     "FILE: File name too long",
     "FILE: Not a directory",
+    "FILE: Invalid or incomplete multibyte or wide character",
     "beside FILE: No such file or directory",
 ];
 

@@ -318,7 +318,8 @@ pub const NAMES: &[&[u8]] = &[
     b"sub/../out",
     b"a  b\tc\rd",
     b"\xE6\x97\xA5\xE6\x9C\xAC",
-    b"\x80\xFF\x01\x1B[1m",
+    b"\xC2\x80\xC3\xBF\x01\x1B[1m",
+    b"\xF4\x8F\xBF\xBF",
     b"-",
     b"*",
     b"out.new",
@@ -339,6 +340,13 @@ pub const NAMES: &[&[u8]] = &[
     b"letter/../out",
     b"a\0b",
     b"\0",
+    // These are no UTF-8 text: bytes that begin nothing, too long a form, half a surrogate pair, too great a number,
+    // and a character that is cut off.
+    b"\x80\xFF\x01\x1B[1m",
+    b"sub/\xC0\xAF",
+    b"out\xED\xA0\x80",
+    b"\xF4\x90\x80\x80",
+    b"no/\xE6\x97\xA5\xE6\x9C",
 ];
 
 /// Often one of the first names, so that some are saved to twice.

@@ -1,7 +1,6 @@
 //! A program that is being run: fed piece by piece, and heard while it runs.
 
 use std::io::{Read, Write};
-use std::os::unix::process::ExitStatusExt;
 use std::process::{Child, Command, Stdio};
 use std::sync::mpsc::{self, Receiver, Sender};
 use std::time::{Duration, Instant};
@@ -101,15 +100,16 @@ impl Session {
         self.nothing_more()
     }
 
-    /// Waits until it has ended by itself, and gives all that it wrote to standard output and to standard error.
+    /// Waits until it has ended by itself, with the status 0, and gives all that it wrote to standard output and to
+    /// standard error.
     pub fn end(&mut self) -> Result<(&[u8], &[u8]), String> {
         if !self.wait(|_| false) {
             return Err(format!("it has not ended after {:?}", self.patience));
         }
         let status = self.child.wait().map_err(|error| format!("it cannot be waited for: {error}"))?;
-        match status.signal() {
-            Some(signal) => Err(format!("it was ended by signal {signal}")),
-            None => Ok((&self.output.bytes, &self.errors.bytes)),
+        match status.success() {
+            true => Ok((&self.output.bytes, &self.errors.bytes)),
+            false => Err(format!("it ended with {status}")),
         }
     }
 
