@@ -1,5 +1,5 @@
-// What a program says on standard error: each a line that begins with the program's name. Where a write fails, what is
-// behind it is not tried, and the caller is told.
+// What a program says on standard error: each a line that begins with the program's name. Where a write fails, the rest
+// of the line is tried all the same, and the caller is told.
 #![tactic(auto)]
 
 ghost use Rattle.std.specs.Prelude.{◌≤◌, ◌++◌, ℕ, List, length, take, codes, OnOk};
@@ -39,17 +39,19 @@ fn put_text<W: Write>(errors: &mut W, e: Error) -> io::Result<()>
 fn put_name<W: Write>(errors: &mut W, name: &[u8]) -> io::Result<()>
     ensures { OnOk result (Appends (W.contents errors.old) (W.contents errors.new) (name.now ++ codes ": ")) }
 {
-    errors.write_all(name)?;
-    errors.write_all(b": ")
+    let written = errors.write_all(name);
+    let end = errors.write_all(b": ");
+    written.and(end)
 }
 
 // A line: what the program says.
 pub fn line<W: Write>(errors: &mut W, program: &[u8], what: &[u8]) -> io::Result<()>
     ensures { OnOk result (Appends (W.contents errors.old) (W.contents errors.new) (said program.now what.now)) }
 {
-    put_name(errors, program)?;
-    errors.write_all(what)?;
-    errors.write_all(b"\n")
+    let name = put_name(errors, program);
+    let said = errors.write_all(what);
+    let end = errors.write_all(b"\n");
+    name.and(said).and(end)
 }
 
 // A line: what the program says of something that has a name.
@@ -57,8 +59,8 @@ pub fn refuse<W: Write>(errors: &mut W, program: &[u8], name: &[u8], why: &[u8])
     ensures { OnOk result (Appends (W.contents errors.old) (W.contents errors.new)
         (said program.now (about name.now why.now))) }
 {
-    put_name(errors, program)?;
-    line(errors, name, why)
+    let first = put_name(errors, program);
+    first.and(line(errors, name, why))
 }
 
 // A line: what failed, and the text that the system has for its error.
@@ -66,10 +68,11 @@ pub fn fail<W: Write>(errors: &mut W, program: &[u8], what: &[u8], e: Error) -> 
     ensures { OnOk result ((text : List ℕ) × IsPlain text × Appends (W.contents errors.old) (W.contents errors.new)
         (said program.now (about what.now text))) }
 {
-    put_name(errors, program)?;
-    put_name(errors, what)?;
-    put_text(errors, e)?;
-    errors.write_all(b"\n")
+    let name = put_name(errors, program);
+    let said = put_name(errors, what);
+    let text = put_text(errors, e);
+    let end = errors.write_all(b"\n");
+    name.and(said).and(text).and(end)
 }
 
 // A line: something that has a name, what failed of it, and the text that the system has for the error.
@@ -83,8 +86,8 @@ pub fn fail_at<W: Write>(
     ensures { OnOk result ((text : List ℕ) × IsPlain text × Appends (W.contents errors.old) (W.contents errors.new)
         (said program.now (about name.now (about what.now text)))) }
 {
-    put_name(errors, program)?;
-    fail(errors, name, what, e)
+    let first = put_name(errors, program);
+    first.and(fail(errors, name, what, e))
 }
 
 #[cfg(test)]

@@ -1,4 +1,4 @@
-// A file, or an input, read whole.
+// A file, or an input, read whole. A read that a signal interrupts is made again.
 #![tactic(auto)]
 
 ghost use Rattle.std.specs.Prelude.{◌≤◌, ◌<◌, ◌≡◌, length, take, pos, Some, IfOk, OnOk, OnErr, MatchResult, IsUtf8};
@@ -96,8 +96,8 @@ pub fn read<R: Files>(rt: &R, name: &[u8], buf: &mut [u8]) -> Got
 }
 
 // Reads until a buffer is full, the input ends or a read fails. It says how many bytes came, which are the next ones of
-// the input, and no more of it is read; and whether a read failed. Where none did, and the buffer is not full, the input
-// has ended.
+// the input, and no more of it is read; and whether a read failed. Where none did, and the buffer is not full, the
+// input has ended.
 pub fn read_full<R: Read>(input: &mut R, buf: &mut [u8]) -> (usize, io::Result<()>)
     ensures within { result.0 ≤ length buf.new }
     ensures bytes { Consumes (R.remaining input.old) (R.remaining input.new) (take result.0 buf.new) }
