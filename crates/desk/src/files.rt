@@ -99,7 +99,13 @@ fn finish(rt: &HostRuntime, file: File, new: &str, path: &str, bytes: &[u8], spo
 
 // Saves by way of a new file in the folder of the path, under a name that nothing there has; or fails, where no such
 // file can be made.
-fn put_by(rt: &HostRuntime, folder: &[u8], path: &str, bytes: &[u8], spot: Spot) -> io::Result<bool>
+fn put_under(
+    rt: &HostRuntime,
+    folder: &[u8],
+    path: &str,
+    bytes: &[u8],
+    spot: Spot,
+) -> io::Result<bool>
     requires { length folder.now ≤ 4080 }
 {
     let options = how(spot);
@@ -107,7 +113,7 @@ fn put_by(rt: &HostRuntime, folder: &[u8], path: &str, bytes: &[u8], spot: Spot)
         let mut dice = [0u8; 6];
         rt.fill_bytes(&mut dice)?;
         let mut room = [0u8; PATH_MAX];
-        let n = names::new_name(folder, dice, &mut room);
+        let n = names::spell_new(folder, dice, &mut room);
         let new = whole_file::path(&room[..n])?;
         match options.open(rt, new) {
             Ok(file) => return Ok(finish(rt, file, new, path, bytes, spot)),
@@ -126,7 +132,7 @@ fn put_beside(rt: &HostRuntime, path: &str, bytes: &[u8], spot: Spot) -> bool {
         replies::complain(rt, b"the name of the file is too long");
         return false;
     }
-    match put_by(rt, folder, path, bytes, spot) {
+    match put_under(rt, folder, path, bytes, spot) {
         Ok(put) => put,
         Err(e) => {
             replies::fail_at(rt, name, b"no new file can be made beside it", e);
@@ -137,7 +143,7 @@ fn put_beside(rt: &HostRuntime, path: &str, bytes: &[u8], spot: Spot) -> bool {
 
 // What is at the name is looked at, and left alone where it must be.
 fn put_over(rt: &HostRuntime, path: &str, bytes: &[u8]) -> bool {
-    let spot = look::look(rt, path);
+    let spot = look::spot_at(rt, path);
     match spot {
         Spot::Free => put_beside(rt, path, bytes, spot),
         Spot::Old(_, _, _) => put_beside(rt, path, bytes, spot),

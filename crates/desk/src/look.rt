@@ -75,7 +75,7 @@ fn judged(rt: &HostRuntime, path: &str, seen: &Metadata) -> Spot {
 }
 
 // What is at a name.
-pub fn look(rt: &HostRuntime, path: &str) -> Spot {
+pub fn spot_at(rt: &HostRuntime, path: &str) -> Spot {
     match fs::symlink_metadata(rt, path) {
         Ok(seen) => judged(rt, path, &seen),
         Err(e) if e.kind() == ErrorKind::NotFound => Spot::Free,

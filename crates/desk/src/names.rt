@@ -30,8 +30,8 @@ fn put_at(path: &mut [u8], at: usize, bytes: &[u8])
     path[at..at + bytes.len()].copy_from_slice(bytes);
 }
 
-// The name of a new file in a folder, and how long it is.
-pub fn new_name(folder: &[u8], dice: [u8; 6], path: &mut [u8; PATH_MAX]) -> usize
+// Spells the name of a new file in a folder, and says how long it is.
+pub fn spell_new(folder: &[u8], dice: [u8; 6], path: &mut [u8; PATH_MAX]) -> usize
     requires { length folder.now ≤ 4080 }
     ensures { result ≡ length folder.now + 15 }
 {
