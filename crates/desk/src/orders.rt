@@ -215,7 +215,8 @@ fn save_in(
     }
 }
 
-// `save FILE`: the name goes to the end of the line and may hold spaces. The answer is told when the file is in its place.
+// `save FILE`: the name goes to the end of the line and may hold spaces. The answer is told when the file is in its
+// place.
 fn save(
     rt: &HostRuntime,
     p: Page,
@@ -379,7 +380,7 @@ pub fn obey(
     requires { length line.now ≤ line_room }
     ensures { desk_at result text.new history.new
         ≡ after_line letter.now (sitting p warned text.old history.old)
-        (record { line = line.entry.now; put = result.put }) }
+        (record { line = line.now; put = result.put }) }
 {
     let said = commands::parse(line);
     let verb = said.verb;

@@ -4,7 +4,8 @@
 use codec::Format;
 use std::io::Write;
 
-// There is room for a byte more than a lister takes, so that a longer text is known. What cannot be written is not told.
+// There is room for a byte more than a lister takes, so that a longer text is known. What cannot be written is not
+// told.
 fn main(rt: HostRuntime) {
     let mut text = [0u8; 16385];
     let (got, _) = whole_file::read_full(&mut rt.stdin(), &mut text);
