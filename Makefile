@@ -37,10 +37,10 @@ $(shared): $(archive)
 	mkdir -p $(@D)
 	$(CC) -shared -o $@ -Wl,-soname,$(@F) -Wl,--no-undefined -Wl,--whole-archive $< -Wl,--no-whole-archive
 
-# `rt run` proves, builds and runs a program, here with no words and no input. It leaves its stamp where it built it.
+# `rt run` proves, builds and runs a program, here with no words and no input; each then ends with the status 0.
 programs: $(addprefix target/bin/,utf7_lister jp2_lister mailbox_lister same_letter desk)
 target/bin/%: $(sources)
-	cd crates/$* && { rt run </dev/null >/dev/null || test -f out/$*.stamp; }
+	cd crates/$* && rt run </dev/null >/dev/null
 	mkdir -p $(@D) && cp crates/$*/out/$* $@
 
 test-bindings: test-c test-rust test-python
