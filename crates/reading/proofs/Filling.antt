@@ -17,7 +17,7 @@ use Rattle.answer.proofs.Once.{number-pos}
 use Rattle.answer.proofs.Put.{Put, put-start, put_as, put-lt, put_next, put-done}
 use Rattle.reading.specs.Reading.{Does, give, go, bad, on_read, Ending, accepted, fault, Rule, Reading, closing, verdict_of, on_ending, read_from, reading, read_into}
 pub use Rattle.reading.specs.Inner.{Filling}
-use Rattle.reading.proofs.Laws.{Kept, SoundEnd, good-reading, read_by, read-end, Left, left-start, left-give, left-go}
+use Rattle.reading.proofs.Laws.{Kept, SoundEnd, good-reading, read_by, read-end, left-start, left-give, left-go}
 
 pub filling-start :
     {S : Type 0} (rule : Rule S) (s out : List ℕ) → length (reading rule s).cells ≤ length out → Filling rule s 0 rule.start 0 out out

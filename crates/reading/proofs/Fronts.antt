@@ -9,7 +9,7 @@ use lib.Seq.{take-add, take_at, take-length}
 use Rattle.answer.proofs.Laid.{Laid, laid_one}
 use Rattle.reading.specs.Reading.{give, go, Rule, Reading, read_from, reading}
 pub use Rattle.reading.specs.Inner.{Front}
-use Rattle.reading.proofs.Laws.{Left, left-start, left-go}
+use Rattle.reading.proofs.Laws.{left-start, left-go}
 use Rattle.reading.proofs.Strides.{Stride, left-stride, stride-give}
 
 pub front-start : {S : Type 0} (rule : Rule S) (s buf : List ℕ) → length s ≤ length buf → Front rule s 0 rule.start 0 buf

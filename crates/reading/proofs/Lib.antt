@@ -6,6 +6,7 @@ pub mod Fronts
 pub mod Spans
 pub mod Steps
 pub mod Cursors
+pub mod Decoding
 pub mod Matches
 pub mod ReadsBack
 pub mod Located

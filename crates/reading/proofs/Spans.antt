@@ -7,11 +7,10 @@ use native.Mathlib.Omega.{arith}
 use native.Mathlib.Numerals.{add-one}
 use lib.ListN.{length, get_or, drop}
 use lib.Seq.{drop-cons}
-use lib.Dec.{leb}
 use borrow.Author.Tests.{leb-true}
 use Rattle.answer.specs.Lists.{Each}
 use Rattle.reading.specs.Reading.{Does, give, go, bad, Rule, Reading, on_read, read_from, reading}
-use Rattle.reading.specs.Spans.{Span, up_to, Takes, marked_as, Marking, on_marked, marked_from, marked_in, Within, narrow, Follows, InOrder}
+use Rattle.reading.specs.Spans.{Span, Takes, marked_as, Marking, on_marked, marked_from, marked_in, Within, narrow, Follows, InOrder}
 use Rattle.reading.specs.declared.Marked.{Marked}
 use Rattle.reading.proofs.Laws.{Kept, SoundDoes}
 use Rattle.reading.proofs.Walk.{Walk, stay, gives, goes}

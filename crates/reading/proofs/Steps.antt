@@ -13,7 +13,7 @@ use Rattle.answer.specs.Answer.{numbered, limit, too_long}
 use Rattle.answer.proofs.Below.{cond-case}
 use Rattle.answer.proofs.Put.{head_at, tail_at}
 use Rattle.reading.specs.Reading.{Does, give, go, bad, Rule, closing, verdict_of, reading}
-use Rattle.reading.specs.Spans.{Span, Marking, marked_as, no_mark, on_marked, marked_from, marked_in}
+use Rattle.reading.specs.Spans.{Span, Marking, marked_as, no_mark, marked_from, marked_in}
 use Rattle.reading.specs.Stepping.{Spot, least, in_text, Next, cell, final, on_next, on_spot, next_from, next_at, at_start, after_steps}
 use Rattle.reading.specs.declared.Marked.{Marked}
 use Rattle.reading.proofs.Spans.{marked_by}

@@ -1,6 +1,7 @@
 pub mod Reading
 pub mod Spans
 pub mod Stepping
+pub mod Decoding
 pub mod Matching
 pub mod Inner
 pub mod Cases
