@@ -9,7 +9,8 @@ ghost use Rattle.comparer.specs.Compare.{compared_as, verdict_in, parts_of, comp
 
 use answer::{Answer, Refusal};
 use codec::Format;
-use stepper::{Handed, Place};
+use std::ops::ControlFlow;
+use stepper::Place;
 
 #[derive(Clone, Copy)]
 pub enum Text {
@@ -68,8 +69,8 @@ fn parting(format: Format, first: &[u8], second: &[u8]) -> Compared
         let x = a.handed;
         let y = b.handed;
         match x {
-            Handed::Cell(c) => match y {
-                Handed::Cell(d) => {
+            ControlFlow::Continue(c) => match y {
+                ControlFlow::Continue(d) => {
                     if c.value == d.value {
                         p = a.place;
                         q = b.place;
@@ -78,15 +79,15 @@ fn parting(format: Format, first: &[u8], second: &[u8]) -> Compared
                         return Compared::Part(n, c.begin, d.begin);
                     }
                 }
-                Handed::Final(_) => {
+                ControlFlow::Break(_) => {
                     return Compared::Part(n, c.begin, second.len());
                 }
             },
-            Handed::Final(_) => match y {
-                Handed::Cell(d) => {
+            ControlFlow::Break(_) => match y {
+                ControlFlow::Continue(d) => {
                     return Compared::Part(n, first.len(), d.begin);
                 }
-                Handed::Final(_) => {
+                ControlFlow::Break(_) => {
                     return Compared::Same(n);
                 }
             },

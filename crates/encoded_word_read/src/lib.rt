@@ -5,11 +5,11 @@ ghost use Rattle.std.specs.Prelude.{◌≡◌, true, [], ◌++◌, ◌+◌, ◌-
 ghost use Rattle.answer.specs.Answer.{in_numbers};
 ghost use Rattle.answer.specs.Output.{leaves, filled};
 ghost use Rattle.reading.specs.Reading.{bad, closing, verdict_of, reading, read_into};
+ghost use Rattle.reading.specs.Decoding.{does_by};
 ghost use Rattle.reading.specs.Inner.{Left, Filling};
 ghost use Rattle.utf7.specs.Rule.{outside, utf7};
 ghost use Rattle.utf7.specs.Rule.{ends_in as utf7_ends_in};
-ghost use Rattle.utf7_read.specs.Cursor.{shift_of};
-ghost use Rattle.utf7_read.specs.Cursor.{does_of as move_does};
+ghost use Rattle.utf7_read.specs.Cursor.{shift_of, utf7_code};
 ghost use Rattle.encoded_word.specs.Rule.{head, fed, at_equals, ended, due_does, text_does, part_does, ends_in, subject};
 ghost use Rattle.encoded_word.specs.Rule.{text as in_text};
 ghost use Rattle.encoded_word.specs.Writing.{word_end};
@@ -18,8 +18,9 @@ ghost use Rattle.encoded_word_read.specs.Line.{due_from, due, part_of, does_of};
 ghost use Rattle.encoded_word_read.specs.declared.Part.TheVariants.{Half};
 
 use answer::{Answer, Refusal};
+use reading::Move;
 use scan::Found;
-use utf7_read::{Move, State};
+use utf7_read::State;
 
 // Where in a line a byte stands.
 #[derive(Clone, Copy)]
@@ -73,8 +74,8 @@ fn in_head(k: usize, b: u8) -> Turn
 }
 
 // A byte of the text that one character spells.
-fn of_char(n: usize, m: Move) -> Turn
-    ensures { does_of result ≡ fed n bad (move_does m) }
+fn of_char(n: usize, m: Move<State>) -> Turn
+    ensures { does_of result ≡ fed n bad (does_by utf7_code m) }
 {
     match m {
         Move::Give(v, st) => Turn::Give(v, Part::Text(n, st)),
@@ -84,8 +85,8 @@ fn of_char(n: usize, m: Move) -> Turn
 }
 
 // A byte of the text that an `=` pair spells.
-fn of_pair(n: usize, m: Move) -> Turn
-    ensures { does_of result ≡ fed n at_equals (move_does m) }
+fn of_pair(n: usize, m: Move<State>) -> Turn
+    ensures { does_of result ≡ fed n at_equals (does_by utf7_code m) }
 {
     match m {
         Move::Give(v, st) => Turn::Give(v, Part::Text(n, st)),

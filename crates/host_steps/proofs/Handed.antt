@@ -11,22 +11,21 @@ use Rattle.reading.specs.Reading.{Rule, reading}
 use Rattle.reading.specs.Spans.{Marking, no_mark, marked_in}
 use Rattle.reading.specs.Stepping.{Next, cell, final, on_spot, at_start, after_steps, cells_of, answer_of, nth_of}
 use Rattle.reading.specs.declared.Marked.{Marked}
+use Rattle.reading.specs.declared.Cursor.{Cursor}
 use Rattle.reading.proofs.Cursors.{Cursors, step_for, cursor_after, nth-step}
 use Rattle.utf7.specs.Rule.{utf7}
 use Rattle.utf7.specs.Spans as utf7-spans
 use Rattle.utf7_read.specs.declared.State.{State}
 use Rattle.utf7_read.specs.declared.State.TheVariants.{Outside, Opening, Run}
-use Rattle.utf7_read.specs.declared.Cursor.{Cursor}
 use Rattle.utf7_read.proofs.Nth.{utf7-cursors}
 use Rattle.mailbox.specs.Rule.{mailbox}
 use Rattle.mailbox.specs.Spans as mailbox-spans
 use Rattle.mailbox_read.specs.declared.State as mailbox-state
 use Rattle.mailbox_read.specs.declared.State.TheVariants as name
-use Rattle.mailbox_read.specs.declared.Cursor as mailbox-cursor
 use Rattle.mailbox_read.proofs.Nth.{mailbox-cursors}
 use Rattle.jp2.specs.Rule.{jp2}
 use Rattle.jp2.specs.Spans as jp2-spans
-use Rattle.jp2_read.specs.declared.Cursor as jp2-cursor
+use Rattle.jp2_read.specs.declared.State as jp2-state
 use Rattle.jp2_read.specs.declared.Phase.{Phase}
 use Rattle.jp2_read.specs.declared.Phase.TheVariants.{Plain, Return, First, Shifted, Escape, Escape1, Escape2}
 use Rattle.jp2_read.proofs.Nth.{jp2-cursors}
@@ -40,7 +39,7 @@ shift_back at handed Outside = refl
 shift_back at handed Opening = refl
 shift_back at handed (Run n v) = refl
 
-pub utf7-back : (c : Cursor) → utf7_in (utf7_out c) ≡ c
+pub utf7-back : (c : Cursor State) → utf7_in (utf7_out c) ≡ c
 utf7-back c = shift_back c.at c.handed c.state
 
 name_back :
@@ -53,11 +52,11 @@ name_back at handed (name.Opening true) = refl
 name_back at handed (name.Opening false) = refl
 name_back at handed (name.Run n v) = refl
 
-pub mailbox-back : (c : mailbox-cursor.Cursor) → mailbox_in (mailbox_out c) ≡ c
+pub mailbox-back : (c : Cursor mailbox-state.State) → mailbox_in (mailbox_out c) ≡ c
 mailbox-back c = name_back c.at c.handed c.state
 
 phase-back :
-    (c : jp2-cursor.Cursor) (p : Phase) →
+    (c : Cursor jp2-state.State) (p : Phase) →
     let st = c.state in
     jp2_in (phase_out c p)
     ≡ record { at = c.at; handed = c.handed; state = record { g0 = st.g0; g2 = st.g2; phase = p } }
@@ -70,7 +69,7 @@ phase-back c Escape = refl
 phase-back c (Escape1 x) = refl
 phase-back c (Escape2 x y) = refl
 
-pub jp2-back : (c : jp2-cursor.Cursor) → jp2_in (jp2_out c) ≡ c
+pub jp2-back : (c : Cursor jp2-state.State) → jp2_in (jp2_out c) ≡ c
 jp2-back c = phase-back c c.state.phase
 
 -- a format whose numbers come back as they went out

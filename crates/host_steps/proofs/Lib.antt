@@ -1,3 +1,2 @@
-pub mod OnSteps
 pub mod Handed
 pub mod Numbers

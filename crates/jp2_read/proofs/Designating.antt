@@ -20,7 +20,9 @@ use Rattle.jp2.specs.declared.Designation.{Designation}
 use Rattle.jp2.proofs.Search.{at-any}
 use Rattle.jp2.proofs.Table.{rows, row-walk, table-rule, row-size}
 use Rattle.jp2_read.specs.Escapes.{code_of, code_among, code_at, four_at, to_g2, g0_after, g2_after, sends}
-use Rattle.jp2_read.specs.Passing.{step_from, Passes}
+use Rattle.reading.specs.Decoding.{step_from, Leads}
+use Rattle.jp2_read.specs.Cursor.{jp2_code}
+use Rattle.jp2_read.specs.Passing as between
 
 -- the state between cells
 abbrev pub at_rest : ℕ → ℕ → State
@@ -121,7 +123,7 @@ row-sets {a} {b} {c} {r} g0 g2 d =
     rw (← after-row (to_g2 r) g0 g2 (r / 64 % 65536), d.code, small-number d.row d.known, q.1.0, q.1.1)
 
 pub designation-passes :
-    {s : List ℕ} {at r : ℕ} (g0 g2 : ℕ) → Stands s at r → Passes s at (at_rest g0 g2) (at + r % 8) (at_rest (g0_after g0 r) (g2_after g2 r))
+    {s : List ℕ} {at r : ℕ} (g0 g2 : ℕ) → Stands s at r → Leads jp2_code s at (between.at_rest g0 g2) (at + r % 8) (between.at_rest (g0_after g0 r) (g2_after g2 r))
 unfolding step_from
 designation-passes {s} {at} {r} g0 g2 h =
     let d = h.1.1 in
@@ -131,9 +133,9 @@ designation-passes {s} {at} {r} g0 g2 h =
     let z = sym (row-says d) in
     let g = sym (drop-drop (r % 8) at s) ∙ ap (drop (r % 8)) f ∙ drop_at bs (drop (r % 8) (four_at s at ++ drop (at + 4) s)) (r % 8) z in
     record {
-      ordered = omega arith;
-      within = omega (arith, h.1.0, l.1);
-      so = λ handed.
+      on = omega arith;
+      settled = tt;
+      same = λ handed.
           rw (row-sets g0 g2 d, f, g)
           (next-walk (length s) (row-walk g0 g2 d.row d.known false) refl _ at (at + r % 8) handed (rw z));
     }
@@ -233,14 +235,3 @@ row-stands s at {r} w h = go-by (leb (at + 4) (length s)) (eqb (get_or s at 0) 2
         let z = eqb-true (get_or s at 0) 27 f in
         let q = w ∙ code_here s at k z in
         (z, (k, ⊎_elim (λ n. absurd (h (q ∙ n))) (λ d. rw q d) (among _ _ _ 9 (omega arith))))
-
-pub passes_stay : {s : List ℕ} {at : ℕ} {st : State} → at ≤ length s → Passes s at st at st
-passes_stay h = record { ordered = omega arith; within = h; so = λ handed. refl }
-
-pub passes_on : {s : List ℕ} {a b c : ℕ} {st st' st'' : State} → Passes s a st b st' → Passes s b st' c st'' → Passes s a st c st''
-passes_on p q =
-    record {
-      ordered = omega (arith, p.ordered, q.ordered);
-      within = q.within;
-      so = λ handed. p.so handed ∙ q.so handed;
-    }

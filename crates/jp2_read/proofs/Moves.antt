@@ -1,6 +1,6 @@
 -- The code's phases, states and moves are those of the definitions. Assumes nothing.
 use Prim.Native.Nat.{ℕ, ◌<◌}
-use mathlib.Core.Path.{◌≡◌, refl, sym, ap, ◌∙◌}
+use mathlib.Core.Path.{◌≡◌, refl}
 use mathlib.Core.Bool.{Bool, true, false, cond, ◌&&◌, and-false}
 use mathlib.Core.List.{List, [], ◌∷◌}
 use native.Mathlib.Omega.{arith}
@@ -8,36 +8,16 @@ use lib.ListN.{length, get_or}
 use lib.Dec.{eqb}
 use borrow.Author.Tests.{ne_eqb}
 use Rattle.reading.specs.Reading.{Does}
-use Rattle.reading.specs.Stepping.{Spot, Next, cell, onward}
-use Rattle.reading.specs.declared.Marked.{Marked}
+use Rattle.reading.specs.declared.Move.{Move}
+use Rattle.reading.proofs.Decoding.{Faithful, move-found}
 use Rattle.jp2.specs.Table.{begins, is_list}
 use Rattle.jp2.specs.Rule as rule
 use Rattle.jp2.specs.Rule.{plain, return, first, shifted, escape}
-use Rattle.jp2.proofs.Kept.{Short, SoundPhase, SoundState}
-use Rattle.jp2_read.specs.Cursor.{phase_of, state_of, in_escape, phase_for, spot_of, cursor_of, does_of}
-use Rattle.jp2_read.specs.declared.Phase.{Phase}
-use Rattle.jp2_read.specs.declared.Phase.TheVariants.{Plain, Return, First, Shifted, Escape, Escape1, Escape2}
+use Rattle.jp2.proofs.Sets.{Writable}
+use Rattle.jp2.proofs.Kept.{Short, SoundPhase, SoundState, jp2-kept}
+use Rattle.jp2_read.specs.Cursor.{phase_of, state_of, in_escape, phase_for, state_for, state_back, does_of, jp2_code}
+use Rattle.jp2_read.specs.declared.Phase.TheVariants.{Escape, Escape1, Escape2}
 use Rattle.jp2_read.specs.declared.State.{State}
-use Rattle.jp2_read.specs.declared.Move.{Move}
-
-phase-back : (p : Phase) → phase_for (phase_of p) ≡ p
-phase-back Plain = refl
-phase-back Return = refl
-phase-back (First a) = refl
-phase-back Shifted = refl
-phase-back Escape = refl
-phase-back (Escape1 x) = refl
-phase-back (Escape2 x y) = refl
-
--- a step's cell is the definition's
-pub cell-told :
-    {m : Marked} {at handed : ℕ} {st : State} {x : Next (Spot rule.State)} → cell m (record { at = at; handed = handed; state = state_of st }) ≡ x →
-    cell m (record { at = at; handed = handed; state = st }) ≡ onward cursor_of x
-cell-told {st = st} e = rw (← e, phase-back st.phase)
-
--- what an arm that found the move `m` knows
-pub moved : {r m : Move} {does : Does rule.State} → does_of r ≡ does → r ≡ m → does ≡ does_of m
-moved h e = sym h ∙ ap does_of e
 
 -- the phase inside an escape, by how many bytes there are
 pub inside_one : (bytes : List ℕ) → length bytes < 2 → Escape ≡ in_escape bytes
@@ -72,9 +52,23 @@ sound_back (first a) g0 g2 h = refl
 sound_back shifted g0 g2 h = refl
 sound_back (escape bytes) g0 g2 h = escape-back bytes h
 
--- a cursor means the spot that it was made for
-pub sound-cursor : (p : Spot rule.State) → SoundState p.state → spot_of (cursor_of p) ≡ p
-sound-cursor p h = rw (sound_back p.state.phase p.state.g0 p.state.g2 h.within)
+pub means-back : (st : rule.State) → SoundState st → state_of (state_for st) ≡ st
+means-back st h = rw (sound_back st.phase st.g0 st.g2 h.within)
+
+abbrev pub jp2-faithful : Faithful jp2_code
+jp2-faithful =
+    record {
+      Sound = SoundState;
+      Good = Writable;
+      kept = jp2-kept;
+      writes-back = λ st _. state_back st;
+      means-back = means-back;
+      settles = λ _ _. tt;
+    }
+
+-- what an arm that found the move `m` knows
+pub moved : {r m : Move State} {does : Does rule.State} → does_of r ≡ does → r ≡ m → does ≡ does_of m
+moved h e = move-found jp2_code h e
 
 -- two bytes are a list of two by their tests
 both-tests : (s t : Bool) → (cond s (cond t true false) false && true) ≡ (s && t)

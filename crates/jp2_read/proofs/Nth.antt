@@ -7,30 +7,22 @@ use Rattle.answer.specs.Answer.{limit, too_long}
 use Rattle.reading.specs.Reading.{verdict_of, reading}
 use Rattle.reading.specs.Spans.{no_mark, marked_in}
 use Rattle.reading.specs.Stepping.{in_text, cell, final}
+use Rattle.reading.specs.declared.Cursor.{Cursor}
 use Rattle.reading.proofs.Cursors as cursors
 use Rattle.reading.proofs.Cursors.{Cursors, cursor_after}
+use Rattle.reading.proofs.Decoding.{code-cursors}
 use Rattle.jp2.specs.Rule.{jp2}
 use Rattle.jp2.specs.Spans.{span_in}
-use Rattle.jp2.proofs.Sets.{Writable}
-use Rattle.jp2.proofs.Kept.{SoundState, jp2-kept}
 use Rattle.jp2_read.specs.Cursor.{spot_of, cursor_of, step_of}
-use Rattle.jp2_read.specs.declared.Cursor.{Cursor}
-use Rattle.jp2_read.proofs.Moves.{sound-cursor}
+use Rattle.jp2_read.specs.declared.State.{State}
+use Rattle.jp2_read.proofs.Moves.{jp2-faithful}
 
-abbrev pub jp2-cursors : Cursors jp2 span_in Cursor
-jp2-cursors =
-    record {
-      Sound = SoundState;
-      Good = Writable;
-      kept = jp2-kept;
-      spot = spot_of;
-      cursor = cursor_of;
-      back = sound-cursor;
-    }
+abbrev pub jp2-cursors : Cursors jp2 span_in (Cursor State)
+jp2-cursors = code-cursors jp2-faithful
 
 module _ (text : List ℕ) where
   -- the cursor after n steps from `start`
-  abbrev pub after : ℕ → Cursor
+  abbrev pub after : ℕ → Cursor State
   after n = cursor_after jp2-cursors text n
 
   pub step-cell :
@@ -40,7 +32,7 @@ module _ (text : List ℕ) where
   pub step-final : length text ≤ limit → (n : ℕ) → length (reading jp2 text).cells ≤ n → step_of text (after n) ≡ final (verdict_of (reading jp2 text))
   step-final = cursors.step-final jp2-cursors text
 
-  pub step-over : limit < length text → (c : Cursor) → step_of text c ≡ final too_long
+  pub step-over : limit < length text → (c : Cursor State) → step_of text c ≡ final too_long
   step-over = cursors.step-over jp2-cursors text
 
   -- the repair that `step` does first changes nothing at a cursor that steps lead to

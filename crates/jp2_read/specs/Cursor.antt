@@ -1,19 +1,16 @@
 -- What a cursor's numbers denote, and what a step from any cursor gives.
-use Rattle.std.specs.Prelude.{ℕ, List, [], ◌∷◌}
-use Rattle.answer.specs.Answer.{number_of, in_numbers}
-use Rattle.reading.specs.Reading.{Does, give, go, bad}
-use Rattle.reading.specs.Stepping.{Spot, in_text, Next, cell, final, onward, next_at}
+use Rattle.std.specs.Prelude.{ℕ, ◌≡◌, refl, List, [], ◌∷◌}
+use Rattle.reading.specs.Reading.{Does}
+use Rattle.reading.specs.Stepping.{Spot, Next}
+use Rattle.reading.specs.Decoding.{Code, spot_by, cursor_by, step_by, does_by}
+use Rattle.reading.specs.declared.Move.{Move}
+use Rattle.reading.specs.declared.Cursor.{Cursor}
 use Rattle.jp2.specs.Rule as rule
 use Rattle.jp2.specs.Rule.{plain, return, first, shifted, escape, jp2}
 use Rattle.jp2.specs.Spans.{span_in}
 use Rattle.jp2_read.specs.declared.Phase.{Phase}
 use Rattle.jp2_read.specs.declared.Phase.TheVariants.{Plain, Return, First, Shifted, Escape, Escape1, Escape2}
 use Rattle.jp2_read.specs.declared.State.{State}
-use Rattle.jp2_read.specs.declared.Move.{Move}
-use Rattle.jp2_read.specs.declared.Move.TheVariants.{Give, Go, Bad}
-use Rattle.jp2_read.specs.declared.Cursor.{Cursor}
-use Rattle.jp2_read.specs.declared.Stepped.{Stepped}
-use Rattle.jp2_read.specs.declared.Stepped.TheVariants.{Cell, Final}
 
 -- the phase that a value of the code means, and the state
 abbrev pub phase_of : Phase → rule.Phase
@@ -45,24 +42,34 @@ phase_for (escape bytes) = in_escape bytes
 abbrev pub state_for : rule.State → State
 state_for st = record { g0 = st.g0; g2 = st.g2; phase = phase_for st.phase }
 
+phase-back : (p : Phase) → phase_for (phase_of p) ≡ p
+phase-back Plain = refl
+phase-back Return = refl
+phase-back (First a) = refl
+phase-back Shifted = refl
+phase-back Escape = refl
+phase-back (Escape1 x) = refl
+phase-back (Escape2 x y) = refl
+
+-- every state is the state of its meaning
+pub state_back : (st : State) → state_for (state_of st) ≡ st
+state_back st = rw (phase-back st.phase)
+
+abbrev pub jp2_code : Code State rule.State
+jp2_code = record { rule = jp2; marking = span_in; means = state_of; writes = state_for; Settled = λ _. Unit }
+
 -- where a cursor's numbers say that it stands
-abbrev pub spot_of : Cursor → Spot rule.State
-spot_of c = record { at = c.at; handed = c.handed; state = state_of c.state }
+abbrev pub spot_of : Cursor State → Spot rule.State
+spot_of = spot_by state_of
 
 -- the cursor that stands there
-abbrev pub cursor_of : Spot rule.State → Cursor
-cursor_of p = record { at = p.at; handed = p.handed; state = state_for p.state }
+abbrev pub cursor_of : Spot rule.State → Cursor State
+cursor_of = cursor_by state_for
 
--- a step as document 01 numbers it, and the step from any cursor
-abbrev pub told : Stepped → Next Cursor
-told (Cell given) = cell given.cell given.next
-told (Final answer) = final (in_numbers answer)
-
-abbrev pub step_of : List ℕ → Cursor → Next Cursor
-step_of text c = onward cursor_of (next_at jp2 span_in text (in_text text (spot_of c)))
+-- the step from any cursor
+abbrev pub step_of : List ℕ → Cursor State → Next (Cursor State)
+step_of text c = step_by jp2_code text c
 
 -- the code's move as what a byte does
-abbrev pub does_of : Move → Does rule.State
-does_of (Give v st) = give v (state_of st)
-does_of (Go st) = go (state_of st)
-does_of (Bad why) = bad (number_of why)
+abbrev pub does_of : Move State → Does rule.State
+does_of = does_by jp2_code

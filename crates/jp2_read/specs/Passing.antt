@@ -1,25 +1,22 @@
--- A cell all of whose bytes come next, and designations before it.
-use Rattle.std.specs.Prelude.{ℕ, ◌+◌, ◌<◌, ◌≤◌, ◌≡◌, List, length, drop}
-use Rattle.reading.specs.Stepping.{Spot, Next, cell, next_from}
-use Rattle.jp2.specs.Rule.{State, jp2}
-use Rattle.jp2.specs.Spans.{span_in}
+-- A cell all of whose bytes come next.
+use Rattle.std.specs.Prelude.{ℕ, ◌+◌, ◌<◌, ◌≤◌, ◌≡◌, List, length}
+use Rattle.reading.specs.Stepping.{cell}
+use Rattle.reading.specs.Decoding.{step_from}
+use Rattle.reading.specs.declared.Marked.{Marked}
+use Rattle.jp2_read.specs.Cursor.{state_of, jp2_code}
+use Rattle.jp2_read.specs.declared.Phase.TheVariants.{Plain}
+use Rattle.jp2_read.specs.declared.State.{State}
 
--- the step from a place and a state, after some cells
-unfoldable pub step_from : List ℕ → ℕ → State → ℕ → Next (Spot State)
-step_from text at st handed = next_from jp2 span_in (length text) (drop at text) (record { at = at; handed = handed; state = st })
+-- between cells
+abbrev pub at_rest : ℕ → ℕ → State
+at_rest g0 g2 = record { g0 = g0; g2 = g2; phase = Plain }
 
--- a cell of so many bytes at a place, and the reader behind them
-abbrev pub handed_on : ℕ → ℕ → ℕ → ℕ → State → Next (Spot State)
-handed_on value at count handed st = cell (record { value = value; begin = at; end = at + count }) (record { at = at + count; handed = handed + 1; state = st })
+-- a cell of so many bytes at a place
+abbrev pub marked_at : ℕ → ℕ → ℕ → Marked
+marked_at value at count = record { value = value; begin = at; end = at + count }
 
--- the step hands out a cell of so many bytes, and the reader is in the same state behind them
-pub record Hands (text : List ℕ) (at : ℕ) (st : State) (value count : ℕ) : Type 0 where
-  pub some : 0 < count
-  pub within : at + count ≤ length text
-  pub so : (handed : ℕ) → step_from text at st handed ≡ handed_on value at count handed st
-
--- the step from a place is the one from a later place, with the sets that are there
-pub record Passes (text : List ℕ) (from : ℕ) (st : State) (to : ℕ) (st' : State) : Type 0 where
-  pub ordered : from ≤ to
-  pub within : to ≤ length text
-  pub so : (handed : ℕ) → step_from text from st handed ≡ step_from text to st' handed
+-- the step hands out this cell, and the reader is in the same state behind it
+pub record Hands (text : List ℕ) (at : ℕ) (st : State) (m : Marked) : Type 0 where
+  pub some : at < m.end
+  pub within : m.end ≤ length text
+  pub so : (handed : ℕ) → step_from jp2_code text at st handed ≡ cell m (record { at = m.end; handed = handed + 1; state = state_of st })

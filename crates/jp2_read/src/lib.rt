@@ -4,19 +4,19 @@
 pub mod escapes;
 mod past;
 
-ghost use Rattle.std.specs.Prelude.{◌≡◌, true, false, cond, ◌&&◌, ◌||◌, [], ◌∷◌, ℕ, ◌+◌, ◌*◌, ◌<◌, ◌≤◌, length, eqb};
+ghost use Rattle.std.specs.Prelude.{◌≡◌, true, false, cond, ◌&&◌, ◌||◌, [], ◌∷◌, ℕ, ◌+◌, ◌*◌, ◌<◌, ◌≤◌, length, eqb, IfSome};
 ghost use Rattle.answer.specs.Answer.{limit, in_numbers};
 ghost use Rattle.reading.specs.Reading.{give, closing};
-ghost use Rattle.reading.specs.Spans.{Takes};
-ghost use Rattle.reading.specs.Stepping.{onward, at_start};
+ghost use Rattle.reading.specs.Stepping.{at_start};
+ghost use Rattle.reading.specs.Decoding.{told, Gets};
+ghost use Rattle.jp2.specs.Rule as rule;
 ghost use Rattle.jp2.specs.Table.{row_at, is_list};
 ghost use Rattle.jp2.specs.Rule.{plain, return, state, cell_of, graphic, designated, in_phase, end_phase, jp2, single_does, first_does, second_does, between_does, shifted_does, escape_does, byte_does, ends_in};
-ghost use Rattle.jp2.specs.Spans.{phase_span};
-ghost use Rattle.jp2_read.specs.Cursor.{phase_of, state_of, in_escape, state_for, does_of, cursor_of, told, step_of};
-ghost use Rattle.jp2_read.specs.Passing.{step_from, handed_on, Hands, Passes};
+ghost use Rattle.jp2_read.specs.Cursor.{phase_of, state_of, in_escape, state_for, state_back, does_of, cursor_of, step_of, jp2_code};
+ghost use Rattle.jp2_read.specs.Passing.{at_rest, marked_at, Hands};
 
 use answer::{Answer, Refusal};
-use reading::Marked;
+use reading::{Ahead, Cursor, Decoder, Marked, Move, Stepped};
 
 // Where a reader stands to cells and escapes.
 #[derive(Clone, Copy)]
@@ -41,38 +41,6 @@ pub struct State {
     pub g0: u16,
     pub g2: u16,
     pub phase: Phase,
-}
-
-// Where a reader stands in its text.
-#[derive(Clone, Copy)]
-pub struct Cursor {
-    pub at: usize,
-    // how many cells were handed out
-    pub handed: usize,
-    pub state: State,
-}
-
-// A cell with its bytes, and where the next step starts.
-#[derive(Clone, Copy)]
-pub struct Given {
-    pub cell: Marked,
-    pub next: Cursor,
-}
-
-// What a step gives: the next cell, or the answer of reading the whole text with room enough.
-#[derive(Clone, Copy)]
-pub enum Stepped {
-    Cell(Given),
-    Final(Answer),
-}
-
-// What a byte does.
-#[derive(Clone, Copy)]
-pub enum Move {
-    // completes a cell
-    Give(u32, State),
-    Go(State),
-    Bad(Refusal),
 }
 
 // The cell of a byte and of a pair, by the set's number.
@@ -121,7 +89,7 @@ fn after_single(b: u8) -> Phase
 }
 
 // A byte of a set of single bytes, also directly after a CR.
-fn single(g0: u16, g2: u16, cr: bool, b: u8) -> Move
+fn single(g0: u16, g2: u16, cr: bool, b: u8) -> Move<State>
     ensures { does_of result ≡ single_does g0 g2 cr b }
 {
     if b == 14 {
@@ -144,7 +112,7 @@ fn single(g0: u16, g2: u16, cr: bool, b: u8) -> Move
 }
 
 // The first byte of a pair.
-fn first(g0: u16, g2: u16, b: u8) -> Move
+fn first(g0: u16, g2: u16, b: u8) -> Move<State>
     ensures { does_of result ≡ first_does g0 g2 b }
 {
     if jp2::is_graphic(b as u32) {
@@ -158,7 +126,7 @@ fn first(g0: u16, g2: u16, b: u8) -> Move
 }
 
 // The second byte of a pair, after the first, a.
-fn second(g0: u16, g2: u16, a: u8, b: u8) -> Move
+fn second(g0: u16, g2: u16, a: u8, b: u8) -> Move<State>
     ensures { does_of result ≡ second_does g0 g2 a b }
 {
     if jp2::is_graphic(b as u32) {
@@ -175,7 +143,7 @@ fn second(g0: u16, g2: u16, a: u8, b: u8) -> Move
 }
 
 // A byte where a cell or an escape starts.
-fn between(g0: u16, g2: u16, cr: bool, b: u8) -> Move
+fn between(g0: u16, g2: u16, cr: bool, b: u8) -> Move<State>
     ensures { does_of result ≡ between_does g0 g2 cr b }
 {
     if b == 27 {
@@ -195,7 +163,7 @@ fn between(g0: u16, g2: u16, cr: bool, b: u8) -> Move
 }
 
 // A byte after ESC N.
-fn shifted(g0: u16, g2: u16, b: u8) -> Move
+fn shifted(g0: u16, g2: u16, b: u8) -> Move<State>
     ensures { does_of result ≡ shifted_does g0 g2 b }
 {
     if b < 32 {
@@ -257,7 +225,7 @@ fn inside(bytes: &[u8]) -> Phase
 }
 
 // The last of the bytes since ESC.
-fn escape(g0: u16, g2: u16, bytes: &[u8]) -> Move
+fn escape(g0: u16, g2: u16, bytes: &[u8]) -> Move<State>
     requires { 0 < length bytes.now }
     ensures { does_of result ≡ escape_does g0 g2 bytes.now }
 {
@@ -284,7 +252,7 @@ fn escape(g0: u16, g2: u16, bytes: &[u8]) -> Move
 }
 
 // A byte below 128.
-fn low(st: State, b: u8) -> Move
+fn low(st: State, b: u8) -> Move<State>
     ensures { does_of result ≡ in_phase (phase_of st.phase) st.g0 st.g2 b }
 {
     let g0 = st.g0;
@@ -311,7 +279,7 @@ fn low(st: State, b: u8) -> Move
 }
 
 // What a byte does in a state.
-pub fn feed(st: State, b: u8) -> Move
+pub fn feed(st: State, b: u8) -> Move<State>
     ensures { does_of result ≡ byte_does (state_of st) b }
 {
     if b < 128 {
@@ -346,22 +314,6 @@ pub fn finish(size: usize, handed: usize, st: State) -> Answer
     }
 }
 
-// How many bytes the cell has that a byte in this phase completes.
-fn width(st: State) -> usize
-    ensures { Takes (phase_span (phase_of st.phase)) result }
-{
-    let phase = st.phase;
-    match phase {
-        Phase::Plain => 1,
-        Phase::Return => 1,
-        Phase::First(_) => 2,
-        Phase::Shifted => 3,
-        Phase::Escape => 1,
-        Phase::Escape1(_) => 1,
-        Phase::Escape2(_, _) => 1,
-    }
-}
-
 // The state at the start of a text.
 pub fn begin() -> State
     ensures { result ≡ state_for jp2.start }
@@ -371,24 +323,6 @@ pub fn begin() -> State
         g2: 0,
         phase: Phase::Plain,
     }
-}
-
-// The cursor of a reader that has read nothing.
-pub fn start() -> Cursor
-    ensures { result ≡ cursor_of (at_start jp2) }
-{
-    Cursor {
-        at: 0,
-        handed: 0,
-        state: begin(),
-    }
-}
-
-// A cell all of whose bytes come next, and how many they are; 0: none is told.
-#[derive(Clone, Copy)]
-struct Told {
-    value: u32,
-    count: usize,
 }
 
 fn is_code(b: u8) -> bool
@@ -404,176 +338,138 @@ fn is_shifted(g2: u16, x: u8, y: u8) -> bool
     (x == 78) & (g2 != 0) & (32 <= y) & (y < 128)
 }
 
-// A byte of a set of single bytes that is a cell and changes nothing.
-fn single_next(g0: u16, b: u8) -> Told
+// The cell of a byte of a set of single bytes that changes nothing.
+fn single_next(g0: u16, b: u8) -> Option<u32>
     requires { (eqb g0 6 || eqb g0 14) ≡ true }
-    ensures { (result.count ≡ 0 → ⊥) → (result.count ≡ 1) × ((g2 : ℕ) → byte_does (state g0 g2 plain) b ≡ give result.value (state g0 g2 plain)) }
+    ensures { IfSome result (λ value. (g2 : ℕ) → byte_does (state g0 g2 plain) b ≡ give value (state g0 g2 plain)) }
 {
     if is_code(b) {
-        return Told {
-            value: cell_of(g0, b),
-            count: 1,
-        };
+        return Some(cell_of(g0, b));
     }
     if b == 32 {
-        return Told {
-            value: cell_of(6, b),
-            count: 1,
-        };
+        return Some(cell_of(6, b));
     }
-    Told { value: 0, count: 0 }
+    None
 }
 
-// A cell that comes between cells: of a single-byte set, a pair, or ESC N and a byte.
-fn cell_next(text: &[u8], at: usize, g0: u16, g2: u16) -> Told
+// The cell of the next bytes.
+fn marked(value: u32, at: usize, count: usize) -> Marked
+    requires { at + count ≤ limit }
+    ensures { result ≡ marked_at value at count }
+{
+    Marked {
+        value,
+        begin: at,
+        end: at + count,
+    }
+}
+
+// A cell that comes between cells, with all its bytes: of a single-byte set, a pair, or ESC N and a byte.
+fn cell_next(text: &[u8], at: usize, g0: u16, g2: u16) -> Option<Marked>
     requires { (at < length text.now) × (length text.now ≤ limit) }
-    ensures { (result.count ≡ 0 → ⊥) → Hands text.now at (state g0 g2 plain) result.value result.count }
+    ensures { IfSome result (Hands text.now at (at_rest g0 g2)) }
 {
     if text.len() < at + 3 {
-        return Told { value: 0, count: 0 };
+        return None;
     }
     let b = text[at];
     let x = text[at + 1];
     let y = text[at + 2];
     if b == 27 {
         if is_shifted(g2, x, y) {
-            return Told {
-                value: cell_of(g2, y),
-                count: 3,
-            };
+            return Some(marked(cell_of(g2, y), at, 3));
         }
-        return Told { value: 0, count: 0 };
+        return None;
     }
     if (g0 == 6) | (g0 == 14) {
-        return single_next(g0, b);
+        return Some(marked(single_next(g0, b)?, at, 1));
     }
     if is_code(b) & is_code(x) {
-        return Told {
-            value: pair_of(g0, b, x),
-            count: 2,
-        };
+        return Some(marked(pair_of(g0, b, x), at, 2));
     }
-    Told { value: 0, count: 0 }
+    None
 }
 
-// The cell that comes next, where the reader stands between cells.
-fn told_at(text: &[u8], at: usize, st: State) -> Told
+// To the cell that comes next, where the reader stands between cells.
+fn to_cell(text: &[u8], at: usize, st: State) -> Ahead<State>
     requires { length text.now ≤ limit }
-    ensures { (result.count ≡ 0 → ⊥) → (phase_of st.phase ≡ plain) × Hands text.now at (state st.g0 st.g2 plain) result.value result.count }
+    ensures { Gets jp2_code text.now at st result }
 {
-    let phase = st.phase;
-    if let Phase::Plain = phase {
+    if let Phase::Plain = st.phase {
         if at < text.len() {
-            return cell_next(text, at, st.g0, st.g2);
-        }
-    }
-    Told { value: 0, count: 0 }
-}
-
-// The step from a place, a byte at a time.
-fn step_on(text: &[u8], from: usize, handed: usize, state: State) -> Stepped
-    requires { handed ≤ from }
-    ensures { told result ≡ onward cursor_of (step_from text.now from (state_of state) handed) }
-{
-    let mut at = from;
-    let mut st = state;
-    while at < text.len() {
-        let b = text[at];
-        match feed(st, b) {
-            Move::Give(value, state) => {
-                let cell = reading::mark(value, width(st), at + 1);
-                let next = Cursor {
-                    at: at + 1,
-                    handed: handed + 1,
-                    state,
+            if let Some(cell) = cell_next(text, at, st.g0, st.g2) {
+                return Ahead {
+                    cell: Some(cell),
+                    at: cell.end,
+                    state: st,
                 };
-                return Stepped::Cell(Given { cell, next });
-            }
-            Move::Go(state) => {
-                st = state;
-                at += 1;
-            }
-            Move::Bad(why) => {
-                return Stepped::Final(Answer::Refused(why, at));
             }
         }
     }
-    Stepped::Final(finish(text.len(), handed, st))
-}
-
-// The step that hands out a cell all of whose bytes come next.
-fn handed_on(t: Told, at: usize, handed: usize, g0: u16, g2: u16) -> Stepped
-    requires { (handed ≤ at) × (at + t.count ≤ limit) }
-    ensures { told result ≡ onward cursor_of (handed_on t.value at t.count handed (state g0 g2 plain)) }
-{
-    let end = at + t.count;
-    let one_more = handed + 1;
-    let cell = Marked {
-        value: t.value,
-        begin: at,
-        end,
-    };
-    let next = Cursor {
-        at: end,
-        handed: one_more,
-        state: State {
-            g0,
-            g2,
-            phase: Phase::Plain,
-        },
-    };
-    Stepped::Cell(Given { cell, next })
-}
-
-// Over the designations that come next, where the reader stands between cells.
-fn passed(text: &[u8], from: usize, st: State) -> past::Passed
-    requires { from ≤ length text.now }
-    ensures { Passes text.now from (state_of st) result.at (state result.g0 result.g2 (phase_of st.phase)) }
-{
-    let phase = st.phase;
-    if let Phase::Plain = phase {
-        return past::pass(text, from, st.g0, st.g2);
-    }
-    past::Passed {
-        at: from,
-        g0: st.g0,
-        g2: st.g2,
+    Ahead {
+        cell: None,
+        at,
+        state: st,
     }
 }
 
-// The step past designations: a cell that comes next, or a byte at a time.
-fn step_past(text: &[u8], from: usize, handed: usize, given: State) -> Stepped
-    requires { (handed ≤ from) × (from ≤ length text.now) × (length text.now ≤ limit) }
-    ensures { told result ≡ onward cursor_of (step_from text.now from (state_of given) handed) }
-{
-    let p = passed(text, from, given);
-    let at = p.at;
-    let phase = given.phase;
-    let state = State {
-        g0: p.g0,
-        g2: p.g2,
-        phase,
-    };
-    let t = told_at(text, at, state);
-    if t.count != 0 {
-        return handed_on(t, at, handed, p.g0, p.g2);
+impl Decoder for State {
+    ghost Meaning = { rule.State };
+
+    ghost code = { jp2_code };
+
+    ghost writes_back = { λ st _. state_back st };
+
+    fn settled(self) -> State {
+        self
     }
-    step_on(text, at, handed, state)
+
+    fn feed(self, b: u8) -> Move<State> {
+        feed(self, b)
+    }
+
+    fn finish(self, size: usize, handed: usize) -> Answer {
+        finish(size, handed, self)
+    }
+
+    #[tactic(auto, unfolding(jp2::specs::Spans::span_in))]
+    fn width(self, _: u8) -> usize {
+        match self.phase {
+            Phase::Plain => 1,
+            Phase::Return => 1,
+            Phase::First(_) => 2,
+            Phase::Shifted => 3,
+            Phase::Escape => 1,
+            Phase::Escape1(_) => 1,
+            Phase::Escape2(_, _) => 1,
+        }
+    }
+
+    // To a cell that comes next, also past designations.
+    fn get_ahead(self, text: &[u8], from: usize) -> Ahead<State> {
+        let a = to_cell(text, from, self);
+        if a.cell.is_some() {
+            return a;
+        }
+        let (at, state) = past::pass(text, from, self);
+        to_cell(text, at, state)
+    }
+}
+
+// The cursor of a reader that has read nothing.
+pub fn start() -> Cursor<State>
+    ensures { result ≡ cursor_of (at_start jp2) }
+{
+    Cursor {
+        at: 0,
+        handed: 0,
+        state: begin(),
+    }
 }
 
 // The step from any cursor over a text.
-pub fn step(text: &[u8], c: Cursor) -> Stepped
+pub fn step(text: &[u8], c: Cursor<State>) -> Stepped<State>
     ensures { told result ≡ step_of text.now c }
 {
-    if answer::over_limit(text.len()) {
-        return Stepped::Final(answer::too_long());
-    }
-    let at = reading::lesser(c.at, text.len());
-    let handed = reading::lesser(c.handed, at);
-    let state = c.state;
-    let t = told_at(text, at, state);
-    if t.count != 0 {
-        return handed_on(t, at, handed, state.g0, state.g2);
-    }
-    step_past(text, at, handed, state)
+    reading::step(text, c)
 }

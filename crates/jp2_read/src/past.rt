@@ -1,26 +1,19 @@
 // Over whole designations between cells.
-ghost use Rattle.std.specs.Prelude.{◌≤◌, length};
-ghost use Rattle.jp2.specs.Rule.{plain, state};
-ghost use Rattle.jp2_read.specs.Passing.{Passes};
+ghost use Rattle.reading.specs.Decoding.{Leads};
+ghost use Rattle.jp2_read.specs.Cursor.{jp2_code};
 
-use crate::escapes;
+use crate::{Phase, State, escapes};
 
-// Where the designations end, and the sets in G0 and G2 there.
-#[derive(Clone, Copy)]
-pub struct Passed {
-    pub at: usize,
-    pub g0: u16,
-    pub g2: u16,
-}
-
-// Over the designations that come next.
-pub fn pass(text: &[u8], from: usize, first: u16, second: u16) -> Passed
-    requires { from ≤ length text.now }
-    ensures { Passes text.now from (state first second plain) result.at (state result.g0 result.g2 plain) }
+// Over the designations that come next, where the reader stands between cells: where they end, and the sets there.
+pub fn pass(text: &[u8], from: usize, st: State) -> (usize, State)
+    ensures { Leads jp2_code text.now from st result.0 result.1 }
 {
+    let Phase::Plain = st.phase else {
+        return (from, st);
+    };
     let mut at = from;
-    let mut g0 = first;
-    let mut g2 = second;
+    let mut g0 = st.g0;
+    let mut g2 = st.g2;
     let mut row = escapes::row_at(text, at);
     while row != 0 {
         g0 = escapes::g0_after(g0, row);
@@ -28,5 +21,6 @@ pub fn pass(text: &[u8], from: usize, first: u16, second: u16) -> Passed
         at += (row % 8) as usize;
         row = escapes::row_at(text, at);
     }
-    Passed { at, g0, g2 }
+    let phase = Phase::Plain;
+    (at, State { g0, g2, phase })
 }

@@ -13,7 +13,8 @@ ghost use Rattle.jp2_read.specs.Cursor.{state_of};
 ghost use Rattle.jp2_whole.specs.Quick.{Stands, Filled};
 
 use answer::{Answer, Refusal};
-use jp2_read::{Move, Phase, State};
+use jp2_read::{Phase, State};
+use reading::Move;
 
 // The state where a loop over tokens stopped.
 fn standing(r: quick::Reached) -> State

@@ -1,6 +1,6 @@
 -- The code's numbers are the bits of the definitions. Assumes nothing.
 use Prim.Native.Nat.{ℕ, ◌+◌, ◌-◌, ◌*◌, ◌/◌, ◌%◌, ◌^◌, ◌<◌, ◌≤◌}
-use mathlib.Core.Path.{◌≡◌, refl, sym, ap, ◌∙◌}
+use mathlib.Core.Path.{◌≡◌, refl}
 use mathlib.Core.Bool.{true, false, cond}
 use mathlib.Core.List.{◌++◌}
 use native.Mathlib.Omega.{arith}
@@ -12,73 +12,56 @@ use borrow.Author.Tests.{lt-ltb, le-ltb}
 use Rattle.answer.specs.declared.Refusal.TheVariants.{NeedlessShift}
 use Rattle.bits.specs.Bits.{bits, number}
 use Rattle.bits.proofs.Bits.{number_lt, length-bits, number-bits, bits-append, bits-take, bits-drop, bits-mod, zero_bits, spelled}
-use Rattle.reading.specs.Reading.{Does, give, go, bad}
-use Rattle.reading.proofs.Laws.{SoundDoes}
-use Rattle.reading.specs.Stepping.{Spot, Next, cell, onward}
-use Rattle.reading.specs.declared.Marked.{Marked}
+use Rattle.reading.specs.Reading.{go, bad}
+use Rattle.reading.specs.Decoding.{told_move, does_by, Moves}
+use Rattle.reading.specs.declared.Move.{Move}
+use Rattle.reading.specs.declared.Move.TheVariants.{Give, Go, Bad}
+use Rattle.reading.proofs.Decoding as code
+use Rattle.reading.proofs.Decoding.{Faithful, move-found}
 use Rattle.utf7.specs.Sets.{printable}
 use Rattle.utf7.specs.Writing.{IsUnit}
 use Rattle.mailbox.specs.Rule.{Shift, outside, opening, run, gives_unit, unit_does, close_does, byte_does}
 use Rattle.mailbox.proofs.Kept.{SoundShift, mailbox-kept}
-use Rattle.mailbox_read.specs.Cursor.{shift_of, state_of, spot_of, cursor_of, Settled, on_state, told_move, move_of, does_of, SettledDoes, Moves}
+use Rattle.mailbox_read.specs.Cursor.{settled_back, shift_of, state_of, Settled, move_of, mailbox_code}
 use Rattle.mailbox_read.specs.declared.State.{State}
 use Rattle.mailbox_read.specs.declared.State.TheVariants.{Outside, Opening, Run}
-use Rattle.mailbox_read.specs.declared.Move.{Move}
-use Rattle.mailbox_read.specs.declared.Move.TheVariants.{Give, Go, Bad}
 
--- a settled state is the state of its shift
-pub settled_back : (st : State) → Settled st → state_of (shift_of st) ≡ st
-settled_back (Outside after) h = refl
-settled_back (Opening after) h = refl
-settled_back (Run n v) h = rw (mod-eq_of_lt h.0, length-bits n v, number-bits n v h.1)
-
--- and a shift with fewer than sixteen pending bits is the shift of its state
-shift_back : (shift : Shift) → SoundShift shift → shift_of (state_of shift) ≡ shift
+-- a shift with fewer than sixteen pending bits is the shift of its state
+pub shift_back : (shift : Shift) → SoundShift shift → shift_of (state_of shift) ≡ shift
 shift_back (outside after) h = refl
 shift_back (opening after) h = refl
 shift_back (run pending) h = rw (mod-eq_of_lt h, spelled pending (length pending) (number pending) refl refl)
 
--- a cursor means the spot that it was made for
-pub settled-cursor : (p : Spot Shift) → SoundShift p.state → spot_of (cursor_of p) ≡ p
-settled-cursor p h = rw (shift_back p.state h)
-
--- what an arm that found the move `m` knows
-pub moved : {r m : Move} {does : Does Shift} → Moves r does → r ≡ m → (does ≡ does_of m) × SettledDoes (told_move m)
-moved h e = (sym h.so ∙ ap does_of e, rw e at h.settled)
-
--- such a move in numbers
-pub move-told : (r : Move) (does : Does Shift) → Moves r does → told_move r ≡ on_state state_of does
-move-told (Give v st) does h = rw (← h.so, settled_back st h.settled)
-move-told (Go st) does h = rw (← h.so, settled_back st h.settled)
-move-told (Bad why) does h = rw (← h.so)
-
--- and back, from a byte's move in any state
+-- a state of any numbers means such a shift
 sound-shift : (st : State) → SoundShift (shift_of st)
 sound-shift (Outside after) = tt
 sound-shift (Opening after) = tt
 sound-shift (Run n v) = rw (length-bits (n % 16) v) (omega arith)
 
-settled-state : (shift : Shift) → SoundShift shift → Settled (state_of shift)
+pub settled-state : (shift : Shift) → SoundShift shift → Settled (state_of shift)
 settled-state (outside after) h = tt
 settled-state (opening after) h = tt
 settled-state (run pending) h = (h, number_lt pending)
 
-state-back :
-    (does : Does Shift) → SoundDoes SoundShift IsUnit does →
-    (on_state shift_of (on_state state_of does) ≡ does) × SettledDoes (on_state state_of does)
-state-back (give v shift) h = (rw (shift_back shift h.1), settled-state shift h.1)
-state-back (go shift) h = (rw (shift_back shift h), settled-state shift h)
-state-back (bad k) h = (refl, tt)
+abbrev pub mailbox-faithful : Faithful mailbox_code
+mailbox-faithful =
+    record {
+      Sound = SoundShift;
+      Good = IsUnit;
+      kept = mailbox-kept;
+      writes-back = settled_back;
+      means-back = shift_back;
+      settles = settled-state;
+    }
 
-byte-moves : (st : State) (b : ℕ) {r : Move} → told_move r ≡ move_of st b → Moves r (byte_does (shift_of st) b)
+-- a byte's move in any state
+pub byte-moves : (st : State) (b : ℕ) {r : Move State} → told_move r ≡ move_of st b → Moves mailbox_code r (byte_does (shift_of st) b)
 unfolding move_of
-byte-moves st b e =
-    let h = state-back (byte_does (shift_of st) b) (mailbox-kept.keeps (shift_of st) b (sound-shift st)) in
-    record { so = ap (on_state shift_of) e ∙ h.0; settled = rw e h.1 }
+byte-moves st b e = code.byte-moves mailbox-faithful st b (sound-shift st) e
 
 pub byte-moved :
-    (st : State) (b : ℕ) {r m : Move} → told_move r ≡ move_of st b → r ≡ m → byte_does (shift_of st) b ≡ does_of m
-byte-moved st b e k = (moved (byte-moves st b e) k).0
+    (st : State) (b : ℕ) {r m : Move State} → told_move r ≡ move_of st b → r ≡ m → byte_does (shift_of st) b ≡ does_by mailbox_code m
+byte-moved st b e k = move-found mailbox_code (byte-moves st b e).so k
 
 -- a letter's six bits behind the pending ones: too few for a unit, or sixteen and some
 module _ (n v x : ℕ) (few : n < 16) (fits : v < 2 ^ n) (letter : x < 64) where
@@ -88,7 +71,7 @@ module _ (n v x : ℕ) (few : n < 16) (fits : v < 2 ^ n) (letter : x < 64) where
   all-bits : bits n v ++ bits 6 x ≡ bits (n + 6) (v * 64 + x)
   all-bits = bits-append n 6 v x fits letter
 
-  pub letter-go : n < 10 → Moves (Go (Run (n + 6) (v * 64 + x))) (unit_does (bits n v ++ bits 6 x))
+  pub letter-go : n < 10 → Moves mailbox_code (Go (Run (n + 6) (v * 64 + x))) (unit_does (bits n v ++ bits 6 x))
   unfolding unit_does
   letter-go h =
       let few' : n + 6 < 16 = omega arith in
@@ -114,11 +97,11 @@ module _ (n v x : ℕ) (few : n < 16) (fits : v < 2 ^ n) (letter : x < 64) where
         let fits' : all < 2 ^ (16 + k) = rw (← e) all-fits in
         rw (all-bits, length-bits (n + 6) all, le-ltb (n + 6) 16 (omega arith), e, bits-take 16 k all fits', bits-drop 16 k all fits', number-bits 16 (all / 2 ^ k) (shr_lt 16 k fits'))
 
-    pub letter-needless : printable (all / 2 ^ k) ≡ true → Moves (Bad NeedlessShift) (unit_does (bits n v ++ bits 6 x))
+    pub letter-needless : printable (all / 2 ^ k) ≡ true → Moves mailbox_code (Bad NeedlessShift) (unit_does (bits n v ++ bits 6 x))
     unfolding gives_unit
     letter-needless t = record { so = rw (letter-unit, t); settled = tt }
 
-    pub letter-give : printable (all / 2 ^ k) ≡ false → Moves (Give (all / 2 ^ k) (Run k (all % 2 ^ k))) (unit_does (bits n v ++ bits 6 x))
+    pub letter-give : printable (all / 2 ^ k) ≡ false → Moves mailbox_code (Give (all / 2 ^ k) (Run k (all % 2 ^ k))) (unit_does (bits n v ++ bits 6 x))
     unfolding gives_unit
     letter-give t = record { so = rw (letter-unit, t, mod-eq_of_lt small); settled = (small, mod-lt all (pow_pos k)) }
 
@@ -132,9 +115,3 @@ settle-run n v =
 pub closed : (n v : ℕ) → v < 2 ^ n → close_does (bits n v) ≡ cond (eqb v 0) (cond (ltb n 6) (go (outside true)) (bad 17)) (bad 4)
 unfolding close_does
 closed n v h = rw (zero_bits n v h, length-bits n v)
-
--- a step's cell, at a settled state, is the definition's
-pub cell-told :
-    {m : Marked} {at handed : ℕ} {st : State} {x : Next (Spot Shift)} → Settled st → cell m (record { at = at; handed = handed; state = shift_of st }) ≡ x →
-    cell m (record { at = at; handed = handed; state = st }) ≡ onward cursor_of x
-cell-told {st = st} h e = rw (← e, settled_back st h)

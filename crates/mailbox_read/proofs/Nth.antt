@@ -7,30 +7,22 @@ use Rattle.answer.specs.Answer.{limit, too_long}
 use Rattle.reading.specs.Reading.{verdict_of, reading}
 use Rattle.reading.specs.Spans.{no_mark, marked_in}
 use Rattle.reading.specs.Stepping.{in_text, cell, final}
+use Rattle.reading.specs.declared.Cursor.{Cursor}
 use Rattle.reading.proofs.Cursors as cursors
 use Rattle.reading.proofs.Cursors.{Cursors, cursor_after}
+use Rattle.reading.proofs.Decoding.{code-cursors}
 use Rattle.mailbox.specs.Rule.{mailbox}
 use Rattle.mailbox.specs.Spans.{span_in}
-use Rattle.utf7.specs.Writing.{IsUnit}
-use Rattle.mailbox.proofs.Kept.{SoundShift, mailbox-kept}
 use Rattle.mailbox_read.specs.Cursor.{spot_of, cursor_of, step_of}
-use Rattle.mailbox_read.specs.declared.Cursor.{Cursor}
-use Rattle.mailbox_read.proofs.Moves.{settled-cursor}
+use Rattle.mailbox_read.specs.declared.State.{State}
+use Rattle.mailbox_read.proofs.Moves.{mailbox-faithful}
 
-abbrev pub mailbox-cursors : Cursors mailbox span_in Cursor
-mailbox-cursors =
-    record {
-      Sound = SoundShift;
-      Good = IsUnit;
-      kept = mailbox-kept;
-      spot = spot_of;
-      cursor = cursor_of;
-      back = settled-cursor;
-    }
+abbrev pub mailbox-cursors : Cursors mailbox span_in (Cursor State)
+mailbox-cursors = code-cursors mailbox-faithful
 
 module _ (text : List ℕ) where
   -- the cursor after n steps from `start`
-  abbrev pub after : ℕ → Cursor
+  abbrev pub after : ℕ → Cursor State
   after n = cursor_after mailbox-cursors text n
 
   pub step-cell :
@@ -40,7 +32,7 @@ module _ (text : List ℕ) where
   pub step-final : length text ≤ limit → (n : ℕ) → length (reading mailbox text).cells ≤ n → step_of text (after n) ≡ final (verdict_of (reading mailbox text))
   step-final = cursors.step-final mailbox-cursors text
 
-  pub step-over : limit < length text → (c : Cursor) → step_of text c ≡ final too_long
+  pub step-over : limit < length text → (c : Cursor State) → step_of text c ≡ final too_long
   step-over = cursors.step-over mailbox-cursors text
 
   -- the repair that `step` does first changes nothing at a cursor that steps lead to

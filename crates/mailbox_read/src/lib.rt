@@ -5,18 +5,17 @@ ghost use Rattle.std.specs.Prelude.{◌≡◌, ◌≢◌, true, ◌++◌, ◌+�
 ghost use Rattle.bits.specs.Bits.{bits};
 ghost use Rattle.answer.specs.Answer.{in_numbers};
 ghost use Rattle.reading.specs.Reading.{closing};
-ghost use Rattle.reading.specs.Spans.{Takes};
-ghost use Rattle.reading.specs.Stepping.{onward, at_start};
+ghost use Rattle.reading.specs.Stepping.{at_start};
+ghost use Rattle.reading.specs.Decoding.{told, told_move, Moves, Leads, Gets};
 ghost use Rattle.alphabet.specs.Letters.{set_b, comma};
 ghost use Rattle.utf7.specs.Sets.{printable};
-ghost use Rattle.mailbox.specs.Rule.{mailbox, outside_does, unit_does, close_does, low_does, byte_does, ends_in};
-ghost use Rattle.mailbox.specs.Spans.{span_in};
-ghost use Rattle.mailbox_read.specs.Cursor.{shift_of, cursor_of, told, step_of, Settled, told_move, move_of, Moves};
-ghost use Rattle.mailbox_read.specs.Passing.{step_from, Between, Leads, Gets};
+ghost use Rattle.mailbox.specs.Rule.{Shift, mailbox, outside_does, unit_does, close_does, low_does, byte_does, ends_in};
+ghost use Rattle.mailbox_read.specs.Cursor.{shift_of, cursor_of, step_of, Settled, settled_back, move_of, mailbox_code};
+ghost use Rattle.mailbox_read.specs.Cursor.{Between};
 ghost use Rattle.mailbox_read.specs.declared.State.TheVariants.{Run};
 
 use answer::{Answer, Refusal};
-use reading::Marked;
+use reading::{Ahead, Cursor, Decoder, Move, Stepped};
 
 // Where a reader stands to runs.
 #[derive(Clone, Copy)]
@@ -29,38 +28,6 @@ pub enum State {
     Run(u32, u32),
 }
 
-// Where a reader stands in its text.
-#[derive(Clone, Copy)]
-pub struct Cursor {
-    pub at: usize,
-    // how many cells were handed out
-    pub handed: usize,
-    pub state: State,
-}
-
-// A cell with its bytes, and where the next step starts.
-#[derive(Clone, Copy)]
-pub struct Given {
-    pub cell: Marked,
-    pub next: Cursor,
-}
-
-// What a step gives: the next cell, or the answer of reading the whole text with room enough.
-#[derive(Clone, Copy)]
-pub enum Stepped {
-    Cell(Given),
-    Final(Answer),
-}
-
-// What a byte does.
-#[derive(Clone, Copy)]
-pub enum Move {
-    // completes a cell
-    Give(u32, State),
-    Go(State),
-    Bad(Refusal),
-}
-
 fn is_printable(u: u32) -> bool
     ensures { result ≡ printable u }
 {
@@ -71,8 +38,8 @@ fn is_printable(u: u32) -> bool
 }
 
 // A byte outside a run.
-fn outside(after: bool, b: u8) -> Move
-    ensures { Moves result (outside_does after b) }
+fn outside(after: bool, b: u8) -> Move<State>
+    ensures { Moves mailbox_code result (outside_does after b) }
 {
     if b == 38 {
         return Move::Go(State::Opening(after));
@@ -84,9 +51,9 @@ fn outside(after: bool, b: u8) -> Move
 }
 
 // A letter of value x in a run, after n pending bits of value v.
-fn letter(n: u32, v: u32, x: u32) -> Move
+fn letter(n: u32, v: u32, x: u32) -> Move<State>
     requires { (n < 16) × (v < 2 ^ n) × (x < 64) }
-    ensures { Moves result (unit_does (bits n v ++ bits 6 x)) }
+    ensures { Moves mailbox_code result (unit_does (bits n v ++ bits 6 x)) }
 {
     let all = v * 64 + x;
     if n < 10 {
@@ -102,9 +69,9 @@ fn letter(n: u32, v: u32, x: u32) -> Move
 }
 
 // The '-' that closes a run with n left-over bits of value v.
-fn close(n: u32, v: u32) -> Move
+fn close(n: u32, v: u32) -> Move<State>
     requires { v < 2 ^ n }
-    ensures { Moves result (close_does (bits n v)) }
+    ensures { Moves mailbox_code result (close_does (bits n v)) }
 {
     if v != 0 {
         return Move::Bad(Refusal::LeftOverBits);
@@ -115,9 +82,9 @@ fn close(n: u32, v: u32) -> Move
     Move::Bad(Refusal::NeedlessShift)
 }
 
-fn low(st: State, b: u8) -> Move
+fn low(st: State, b: u8) -> Move<State>
     requires { Settled st }
-    ensures { Moves result (low_does (shift_of st) b) }
+    ensures { Moves mailbox_code result (low_does (shift_of st) b) }
 {
     let x = alphabet::value_of(b',', b);
     match st {
@@ -146,90 +113,6 @@ fn low(st: State, b: u8) -> Move
     }
 }
 
-// What a byte does in a state.
-fn feed(st: State, b: u8) -> Move
-    requires { Settled st }
-    ensures { Moves result (byte_does (shift_of st) b) }
-{
-    if b < 128 {
-        return low(st, b);
-    }
-    Move::Bad(Refusal::HighByte)
-}
-
-// The answer of a text of some size that ends in any state, after some cells.
-pub fn finish(size: usize, handed: usize, st: State) -> Answer
-    ensures { in_numbers result ≡ closing (ends_in size (shift_of st)) handed }
-{
-    match st {
-        State::Outside(_) => Answer::Accepted(handed),
-        State::Opening(_) => Answer::Refused(Refusal::LoneSign, size),
-        State::Run(_, _) => Answer::Refused(Refusal::CutShort, size),
-    }
-}
-
-// The settled state that means the same.
-fn settled(st: State) -> State
-    ensures { Settled result × (shift_of result ≡ shift_of st) }
-{
-    match st {
-        State::Outside(after) => State::Outside(after),
-        State::Opening(after) => State::Opening(after),
-        State::Run(n, v) => {
-            let k = n % 16;
-            let w = bits::power(k);
-            State::Run(k, v % w)
-        }
-    }
-}
-
-// What a byte does in any state.
-pub fn byte_does(st: State, b: u8) -> Move
-    ensures { told_move result ≡ move_of st b }
-{
-    feed(settled(st), b)
-}
-
-// How many bytes the cell has that a byte completes: in a run the letters that hold its bits.
-fn width(st: State, b: u8) -> usize
-    requires { Settled st }
-    ensures { Takes (span_in (shift_of st) b) result }
-{
-    match st {
-        State::Outside(_) => 1,
-        State::Opening(_) => 2,
-        State::Run(n, _) => (n as usize + 11) / 6,
-    }
-}
-
-// The cursor of a reader that has read nothing.
-pub fn start() -> Cursor
-    ensures { result ≡ cursor_of (at_start mailbox) }
-{
-    Cursor {
-        at: 0,
-        handed: 0,
-        state: State::Outside(false),
-    }
-}
-
-// Where a reader gets without going byte by byte: to a cell of the last `count` bytes, where `given`, or just to a place.
-#[derive(Clone, Copy)]
-struct Ahead {
-    given: bool,
-    unit: u32,
-    count: usize,
-    at: usize,
-    state: State,
-}
-
-// A place, and a state there.
-#[derive(Clone, Copy)]
-struct Place {
-    at: usize,
-    state: State,
-}
-
 // The '-' comes that closes a run with n left-over bits of value v, and it may close.
 fn closes(text: &[u8], at: usize, n: u32, v: u32) -> bool
     ensures { result ≡ true → (at < length text.now) × (get_or text.now at 0 ≡ 45)
@@ -246,17 +129,16 @@ fn closes(text: &[u8], at: usize, n: u32, v: u32) -> bool
 }
 
 // Outside a run that closes here, or where the reader stands.
-fn closed(text: &[u8], at: usize, st: State) -> Place
+fn closed(text: &[u8], at: usize, st: State) -> (usize, State)
     requires { Settled st }
-    ensures { Leads text.now at st result.at result.state }
+    ensures { Leads mailbox_code text.now at st result.0 result.1 }
 {
     if let State::Run(n, v) = st {
         if closes(text, at, n, v) {
-            let state = State::Outside(true);
-            return Place { at: at + 1, state };
+            return (at + 1, State::Outside(true));
         }
     }
-    Place { at, state: st }
+    (at, st)
 }
 
 // '&' and a letter come.
@@ -276,19 +158,18 @@ fn opens(text: &[u8], at: usize) -> bool
 
 // In a run that opens here, with no bits yet, or where the reader stands: a letter does in such a run what it does directly after the
 // '&', unless a run was closed directly before that.
-fn opened(text: &[u8], at: usize, st: State) -> Place
+fn opened(text: &[u8], at: usize, st: State) -> (usize, State)
     requires { Settled st }
-    ensures { Leads text.now at st result.at result.state }
+    ensures { Leads mailbox_code text.now at st result.0 result.1 }
 {
     if let State::Outside(after) = st {
         if !after {
             if opens(text, at) {
-                let state = State::Run(0, 0);
-                return Place { at: at + 1, state };
+                return (at + 1, State::Run(0, 0));
             }
         }
     }
-    Place { at, state: st }
+    (at, st)
 }
 
 // A byte that is a cell by itself comes.
@@ -308,9 +189,9 @@ fn is_alone(text: &[u8], at: usize, st: State) -> bool
 }
 
 // Over letters in a run, until a unit is complete or something else comes.
-fn letters(text: &[u8], from: usize, pending: u32, value: u32) -> Ahead
+fn letters(text: &[u8], from: usize, pending: u32, value: u32) -> Ahead<State>
     requires { Settled (Run pending value) }
-    ensures { Gets text.now from (Run pending value) result }
+    ensures { Gets mailbox_code text.now from (Run pending value) result }
 {
     let mut at = from;
     let mut n = pending;
@@ -332,108 +213,113 @@ fn letters(text: &[u8], from: usize, pending: u32, value: u32) -> Ahead
                 break;
             }
             return Ahead {
-                given: true,
-                unit,
-                count: (n as usize + 11) / 6,
+                cell: Some(reading::mark(unit, (n as usize + 11) / 6, at + 1)),
                 at: at + 1,
                 state: State::Run(n - 10, all % w),
             };
         }
     }
     Ahead {
-        given: false,
-        unit: 0,
-        count: 0,
+        cell: None,
         at,
         state: State::Run(n, v),
     }
 }
 
-// Over what most names are made of.
-fn get_ahead(text: &[u8], from: usize, given: State) -> Ahead
-    requires { Settled given }
-    ensures { Gets text.now from given result }
-{
-    let c = closed(text, from, given);
-    let at = c.at;
-    let st = c.state;
-    if is_alone(text, at, st) {
-        let state = State::Outside(false);
-        return Ahead {
-            given: true,
-            unit: text[at] as u32,
-            count: 1,
-            at: at + 1,
-            state,
-        };
-    }
-    let o = opened(text, at, st);
-    let at = o.at;
-    let st = o.state;
-    if let State::Run(n, v) = st {
-        return letters(text, at, n, v);
-    }
-    Ahead {
-        given: false,
-        unit: 0,
-        count: 0,
-        at,
-        state: st,
-    }
-}
+impl Decoder for State {
+    ghost Meaning = { Shift };
 
-// The step from a place, a byte at a time.
-fn step_on(text: &[u8], from: usize, handed: usize, state: State) -> Stepped
-    requires { Settled state × (handed ≤ from) }
-    ensures { told result ≡ onward cursor_of (step_from text.now from state handed) }
-{
-    let mut at = from;
-    let mut st = state;
-    while at < text.len() {
-        let b = text[at];
-        match feed(st, b) {
-            Move::Give(value, state) => {
-                let cell = reading::mark(value, width(st, b), at + 1);
-                let next = Cursor {
-                    at: at + 1,
-                    handed: handed + 1,
-                    state,
-                };
-                return Stepped::Cell(Given { cell, next });
-            }
-            Move::Go(state) => {
-                st = state;
-                at += 1;
-            }
-            Move::Bad(why) => {
-                return Stepped::Final(Answer::Refused(why, at));
+    ghost code = { mailbox_code };
+
+    ghost writes_back = { settled_back };
+
+    fn settled(self) -> State {
+        match self {
+            State::Outside(after) => State::Outside(after),
+            State::Opening(after) => State::Opening(after),
+            State::Run(n, v) => {
+                let k = n % 16;
+                let w = bits::power(k);
+                State::Run(k, v % w)
             }
         }
     }
-    Stepped::Final(finish(text.len(), handed, st))
+
+    fn feed(self, b: u8) -> Move<State> {
+        if b < 128 {
+            return low(self, b);
+        }
+        Move::Bad(Refusal::HighByte)
+    }
+
+    fn finish(self, size: usize, handed: usize) -> Answer {
+        finish(size, handed, self)
+    }
+
+    fn width(self, b: u8) -> usize {
+        match self {
+            State::Outside(_) => 1,
+            State::Opening(_) => 2,
+            State::Run(n, _) => (n as usize + 11) / 6,
+        }
+    }
+
+    // Over what most names are made of.
+    fn get_ahead(self, text: &[u8], from: usize) -> Ahead<State> {
+        let (at, st) = closed(text, from, self);
+        if is_alone(text, at, st) {
+            let cell = Some(reading::mark(text[at] as u32, 1, at + 1));
+            let state = State::Outside(false);
+            return Ahead {
+                cell,
+                at: at + 1,
+                state,
+            };
+        }
+        let (at, st) = opened(text, at, st);
+        if let State::Run(n, v) = st {
+            return letters(text, at, n, v);
+        }
+        Ahead {
+            cell: None,
+            at,
+            state: st,
+        }
+    }
+}
+
+// What a byte does in any state.
+pub fn byte_does(st: State, b: u8) -> Move<State>
+    ensures { told_move result ≡ move_of st b }
+{
+    st.settled().feed(b)
+}
+
+// The answer of a text of some size that ends in any state, after some cells.
+pub fn finish(size: usize, handed: usize, st: State) -> Answer
+    ensures { in_numbers result ≡ closing (ends_in size (shift_of st)) handed }
+{
+    match st {
+        State::Outside(_) => Answer::Accepted(handed),
+        State::Opening(_) => Answer::Refused(Refusal::LoneSign, size),
+        State::Run(_, _) => Answer::Refused(Refusal::CutShort, size),
+    }
+}
+
+// The cursor of a reader that has read nothing.
+pub fn start() -> Cursor<State>
+    ensures { result ≡ cursor_of (at_start mailbox) }
+{
+    Cursor {
+        at: 0,
+        handed: 0,
+        state: State::Outside(false),
+    }
 }
 
 // The step from any cursor over a text.
-pub fn step(text: &[u8], c: Cursor) -> Stepped
+pub fn step(text: &[u8], c: Cursor<State>) -> Stepped<State>
     ensures { told result ≡ step_of text.now c }
 {
-    if answer::over_limit(text.len()) {
-        return Stepped::Final(answer::too_long());
-    }
-    let at = reading::lesser(c.at, text.len());
-    let handed = reading::lesser(c.handed, at);
-    let given = c.state;
-    let a = get_ahead(text, at, settled(given));
-    let state = a.state;
-    if a.given {
-        let cell = reading::mark(a.unit, a.count, a.at);
-        let one_more = handed + 1;
-        let next = Cursor {
-            at: a.at,
-            handed: one_more,
-            state,
-        };
-        return Stepped::Cell(Given { cell, next });
-    }
-    step_on(text, a.at, handed, state)
+    reading::step(text, c)
 }

@@ -11,6 +11,7 @@ ghost use Rattle.page_file.specs.Inner.{belongs_by};
 use answer::Answer;
 use codec::Kind;
 use ledger::Page;
+use reading::Move;
 
 // The answer of reading a text with room enough.
 fn utf7_answer(text: &[u8]) -> Answer
@@ -21,16 +22,16 @@ fn utf7_answer(text: &[u8]) -> Answer
     let mut st = utf7_read::State::Outside;
     while at < text.len() {
         match utf7_read::byte_does(st, text[at]) {
-            utf7_read::Move::Give(_, state) => {
+            Move::Give(_, state) => {
                 st = state;
                 n += 1;
                 at += 1;
             }
-            utf7_read::Move::Go(state) => {
+            Move::Go(state) => {
                 st = state;
                 at += 1;
             }
-            utf7_read::Move::Bad(why) => {
+            Move::Bad(why) => {
                 return Answer::Refused(why, at);
             }
         }
@@ -46,16 +47,16 @@ fn jp2_answer(text: &[u8]) -> Answer
     let mut st = jp2_read::begin();
     while at < text.len() {
         match jp2_read::feed(st, text[at]) {
-            jp2_read::Move::Give(_, state) => {
+            Move::Give(_, state) => {
                 st = state;
                 n += 1;
                 at += 1;
             }
-            jp2_read::Move::Go(state) => {
+            Move::Go(state) => {
                 st = state;
                 at += 1;
             }
-            jp2_read::Move::Bad(why) => {
+            Move::Bad(why) => {
                 return Answer::Refused(why, at);
             }
         }

@@ -16,6 +16,7 @@ use crate::hex;
 use crate::lines::Plan;
 use answer::Answer;
 use codec::Kind;
+use reading::Move;
 
 // The answer of reading n bytes with room enough.
 fn utf7_answer(file: &[u8], base: usize, n: usize) -> Answer
@@ -28,16 +29,16 @@ fn utf7_answer(file: &[u8], base: usize, n: usize) -> Answer
     while at < n {
         let b = hex::byte_at(file, base + at * 2);
         match utf7_read::byte_does(st, b) {
-            utf7_read::Move::Give(_, state) => {
+            Move::Give(_, state) => {
                 st = state;
                 count += 1;
                 at += 1;
             }
-            utf7_read::Move::Go(state) => {
+            Move::Go(state) => {
                 st = state;
                 at += 1;
             }
-            utf7_read::Move::Bad(why) => {
+            Move::Bad(why) => {
                 return Answer::Refused(why, at);
             }
         }
@@ -55,16 +56,16 @@ fn jp2_answer(file: &[u8], base: usize, n: usize) -> Answer
     while at < n {
         let b = hex::byte_at(file, base + at * 2);
         match jp2_read::feed(st, b) {
-            jp2_read::Move::Give(_, state) => {
+            Move::Give(_, state) => {
                 st = state;
                 count += 1;
                 at += 1;
             }
-            jp2_read::Move::Go(state) => {
+            Move::Go(state) => {
                 st = state;
                 at += 1;
             }
-            jp2_read::Move::Bad(why) => {
+            Move::Bad(why) => {
                 return Answer::Refused(why, at);
             }
         }
@@ -107,7 +108,7 @@ fn utf7_same(file: &[u8], base: usize, n: usize, text: usize, m: usize) -> bool
     while at < n {
         let b = hex::byte_at(file, base + at * 2);
         match utf7_read::byte_does(st, b) {
-            utf7_read::Move::Give(value, state) => {
+            Move::Give(value, state) => {
                 if m <= count {
                     return false;
                 }
@@ -118,11 +119,11 @@ fn utf7_same(file: &[u8], base: usize, n: usize, text: usize, m: usize) -> bool
                 count += 1;
                 at += 1;
             }
-            utf7_read::Move::Go(state) => {
+            Move::Go(state) => {
                 st = state;
                 at += 1;
             }
-            utf7_read::Move::Bad(_) => {
+            Move::Bad(_) => {
                 return false;
             }
         }
@@ -144,7 +145,7 @@ fn jp2_same(file: &[u8], base: usize, n: usize, text: usize, m: usize) -> bool
     while at < n {
         let b = hex::byte_at(file, base + at * 2);
         match jp2_read::feed(st, b) {
-            jp2_read::Move::Give(value, state) => {
+            Move::Give(value, state) => {
                 if m <= count {
                     return false;
                 }
@@ -155,11 +156,11 @@ fn jp2_same(file: &[u8], base: usize, n: usize, text: usize, m: usize) -> bool
                 count += 1;
                 at += 1;
             }
-            jp2_read::Move::Go(state) => {
+            Move::Go(state) => {
                 st = state;
                 at += 1;
             }
-            jp2_read::Move::Bad(_) => {
+            Move::Bad(_) => {
                 return false;
             }
         }

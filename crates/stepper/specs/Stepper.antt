@@ -1,7 +1,10 @@
 -- What a step of a reader that holds its text gives, and the reader after it, in any format.
 use Rattle.std.specs.Prelude.{ℕ, zero, suc, List}
 use Rattle.std.specs.Borrow.{Bor}
+use Rattle.std.specs.declared.ops.ControlFlow.{ControlFlow}
+use Rattle.std.specs.declared.ops.ControlFlow.TheVariants.{Continue, Break}
 use Rattle.answer.specs.Answer.{Verdict, in_numbers}
+use Rattle.answer.specs.declared.Answer.{Answer}
 use Rattle.reading.specs.Reading.{Reading, reading}
 use Rattle.reading.specs.Spans.{marked_in}
 use Rattle.reading.specs.Stepping.{Next, cell, final, onward, on_spot, at_start, cells_of, answer_of, nth_of}
@@ -19,8 +22,6 @@ use Rattle.codec.specs.declared.Format.{Format}
 use Rattle.codec.specs.declared.Format as format
 use Rattle.stepper.specs.declared.Place.{Place}
 use Rattle.stepper.specs.declared.Place.TheVariants.{Utf7, Jp2, Mailbox}
-use Rattle.stepper.specs.declared.Handed.{Handed}
-use Rattle.stepper.specs.declared.Handed.TheVariants.{Cell, Final}
 use Rattle.stepper.specs.declared.Reader.{Reader}
 
 -- what a step hands out: a cell with its bytes, or the answer of the whole reading, as document 01 numbers it
@@ -28,9 +29,9 @@ pub data Gift : Type 0 where
   a_cell : Marked → Gift
   the_answer : Verdict → Gift
 
-abbrev pub told : Handed → Gift
-told (Cell m) = a_cell m
-told (Final answer) = the_answer (in_numbers answer)
+abbrev pub told : ControlFlow Answer Marked → Gift
+told (Continue m) = a_cell m
+told (Break answer) = the_answer (in_numbers answer)
 
 abbrev pub gift : {P : Type 0} → Next P → Gift
 gift (cell m p) = a_cell m

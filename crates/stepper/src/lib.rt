@@ -2,26 +2,25 @@
 #![tactic(auto)]
 
 ghost use Rattle.std.specs.Prelude.{◌≡◌};
-ghost use Rattle.stepper.specs.Stepper.{told, start_of, given_at, place_after, opened, given_by, moved_of};
+ghost use Rattle.reading.specs.Stepping.{on_spot};
+ghost use Rattle.reading.specs.Decoding.{step_by};
+ghost use Rattle.stepper.specs.Stepper.{told, gift, start_of, given_at, place_after, opened, given_by, moved_of};
 
 use answer::Answer;
 use codec::Format;
-use reading::Marked;
+use reading::{Cursor, Decoder, Marked};
+use std::ops::ControlFlow;
 
 // Where a reader stands in a text of its format.
 #[derive(Clone, Copy)]
 pub enum Place {
-    Utf7(utf7_read::Cursor),
-    Jp2(jp2_read::Cursor),
-    Mailbox(mailbox_read::Cursor),
+    Utf7(Cursor<utf7_read::State>),
+    Jp2(Cursor<jp2_read::State>),
+    Mailbox(Cursor<mailbox_read::State>),
 }
 
 // What a step hands out: the next cell with its bytes, or the answer of reading the whole text with room enough.
-#[derive(Clone, Copy)]
-pub enum Handed {
-    Cell(Marked),
-    Final(Answer),
-}
+pub type Handed = ControlFlow<Answer, Marked>;
 
 // What a step hands out, and where the next one starts: behind the cell, or at the same place where the answer was given.
 #[derive(Clone, Copy)]
@@ -40,24 +39,13 @@ pub fn start(format: Format) -> Place
     }
 }
 
-// One step from a place of a name.
-fn mailbox_turn(text: &[u8], c: mailbox_read::Cursor) -> Turn
-    ensures { (told result.handed ≡ given_at text.now (Place.Mailbox c)) × (result.place ≡ place_after text.now (Place.Mailbox c)) }
+// What a step hands out, and the cursor behind it.
+fn turned<D: Decoder>(text: &[u8], c: Cursor<D>) -> (Handed, Cursor<D>)
+    ensures { (told result.0 ≡ gift (step_by D.code text.now c)) × (result.1 ≡ on_spot (step_by D.code text.now c) c) }
 {
-    let found = mailbox_read::step(text, c);
-    match found {
-        mailbox_read::Stepped::Cell(given) => {
-            let cell = given.cell;
-            let next = given.next;
-            Turn {
-                handed: Handed::Cell(cell),
-                place: Place::Mailbox(next),
-            }
-        }
-        mailbox_read::Stepped::Final(answer) => Turn {
-            handed: Handed::Final(answer),
-            place: Place::Mailbox(c),
-        },
+    match reading::step(text, c) {
+        ControlFlow::Continue(given) => (ControlFlow::Continue(given.cell), given.next),
+        ControlFlow::Break(answer) => (ControlFlow::Break(answer), c),
     }
 }
 
@@ -67,40 +55,20 @@ pub fn step(text: &[u8], place: Place) -> Turn
 {
     match place {
         Place::Utf7(c) => {
-            let found = utf7_read::step(text, c);
-            match found {
-                utf7_read::Stepped::Cell(given) => {
-                    let cell = given.cell;
-                    let next = given.next;
-                    Turn {
-                        handed: Handed::Cell(cell),
-                        place: Place::Utf7(next),
-                    }
-                }
-                utf7_read::Stepped::Final(answer) => Turn {
-                    handed: Handed::Final(answer),
-                    place,
-                },
-            }
+            let (handed, next) = turned(text, c);
+            let place = Place::Utf7(next);
+            Turn { handed, place }
         }
         Place::Jp2(c) => {
-            let found = jp2_read::step(text, c);
-            match found {
-                jp2_read::Stepped::Cell(given) => {
-                    let cell = given.cell;
-                    let next = given.next;
-                    Turn {
-                        handed: Handed::Cell(cell),
-                        place: Place::Jp2(next),
-                    }
-                }
-                jp2_read::Stepped::Final(answer) => Turn {
-                    handed: Handed::Final(answer),
-                    place,
-                },
-            }
+            let (handed, next) = turned(text, c);
+            let place = Place::Jp2(next);
+            Turn { handed, place }
         }
-        Place::Mailbox(c) => mailbox_turn(text, c),
+        Place::Mailbox(c) => {
+            let (handed, next) = turned(text, c);
+            let place = Place::Mailbox(next);
+            Turn { handed, place }
+        }
     }
 }
 

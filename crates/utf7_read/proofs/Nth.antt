@@ -7,30 +7,22 @@ use Rattle.answer.specs.Answer.{limit, too_long}
 use Rattle.reading.specs.Reading.{verdict_of, reading}
 use Rattle.reading.specs.Spans.{no_mark, marked_in}
 use Rattle.reading.specs.Stepping.{in_text, cell, final}
+use Rattle.reading.specs.declared.Cursor.{Cursor}
 use Rattle.reading.proofs.Cursors as cursors
 use Rattle.reading.proofs.Cursors.{Cursors, cursor_after}
+use Rattle.reading.proofs.Decoding.{code-cursors}
 use Rattle.utf7.specs.Rule.{utf7}
 use Rattle.utf7.specs.Spans.{span_in}
-use Rattle.utf7.specs.Writing.{IsUnit}
-use Rattle.utf7.proofs.Kept.{SoundShift, utf7-kept}
 use Rattle.utf7_read.specs.Cursor.{spot_of, cursor_of, step_of}
-use Rattle.utf7_read.specs.declared.Cursor.{Cursor}
-use Rattle.utf7_read.proofs.Moves.{settled-cursor}
+use Rattle.utf7_read.specs.declared.State.{State}
+use Rattle.utf7_read.proofs.Moves.{utf7-faithful}
 
-abbrev pub utf7-cursors : Cursors utf7 span_in Cursor
-utf7-cursors =
-    record {
-      Sound = SoundShift;
-      Good = IsUnit;
-      kept = utf7-kept;
-      spot = spot_of;
-      cursor = cursor_of;
-      back = settled-cursor;
-    }
+abbrev pub utf7-cursors : Cursors utf7 span_in (Cursor State)
+utf7-cursors = code-cursors utf7-faithful
 
 module _ (text : List ℕ) where
   -- the cursor after n steps from `start`
-  abbrev pub after : ℕ → Cursor
+  abbrev pub after : ℕ → Cursor State
   after n = cursor_after utf7-cursors text n
 
   pub step-cell :
@@ -40,7 +32,7 @@ module _ (text : List ℕ) where
   pub step-final : length text ≤ limit → (n : ℕ) → length (reading utf7 text).cells ≤ n → step_of text (after n) ≡ final (verdict_of (reading utf7 text))
   step-final = cursors.step-final utf7-cursors text
 
-  pub step-over : limit < length text → (c : Cursor) → step_of text c ≡ final too_long
+  pub step-over : limit < length text → (c : Cursor State) → step_of text c ≡ final too_long
   step-over = cursors.step-over utf7-cursors text
 
   -- the repair that `step` does first changes nothing at a cursor that steps lead to

@@ -13,7 +13,8 @@ ghost use Rattle.utf7.specs.Rule.{utf7};
 ghost use Rattle.utf7_whole.specs.Quick.{Padded, Agrees};
 
 use answer::{Answer, Refusal};
-use utf7_read::{Move, State};
+use reading::Move;
+use utf7_read::State;
 
 // A text goes to the front of a room of zeros.
 fn pad(text: &[u8], room: &mut [u8])

@@ -14,7 +14,8 @@ ghost use Rattle.utf7_whole.specs.Mailbox.{Tokens, Fills, Sign, Others, All, Sta
 
 use crate::{copy, pad, quick};
 use answer::{Answer, Refusal};
-use mailbox_read::{Move, State};
+use mailbox_read::State;
+use reading::Move;
 
 // Where a reader stands outside a run: the place of the next byte, after how many cells, and whether a run was closed
 // directly before.

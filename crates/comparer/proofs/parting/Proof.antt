@@ -43,7 +43,7 @@ known c =
     let s = x in
     let l = s.before.before.before.before.before.before.before in
     let a = l.args in
-    let i = is-cell (stands l).left (rw x.in-Cell.is at s.step-a.ensures.0) in
+    let i = is-cell (stands l).left (rw x.in-Continue.is at s.step-a.ensures.0) in
     omega (arith, i.0, few-marks a.format a.first.now)
 
 add-n : tie.Need-overflow_add-n invariant-loop decreases-loop
@@ -59,8 +59,8 @@ loop-again c = λ f b.
     let y = c in
     let x = y in
     let s = x in
-    let first = rw x.in-Cell.is at s.step-a.ensures.0 in
-    let second = rw y.in-Cell-y.is at x.step-b.ensures.0 in
+    let first = rw x.in-Continue.is at s.step-a.ensures.0 in
+    let second = rw y.in-Continue-y.is at x.step-b.ensures.0 in
     rw (s.step-a.ensures.1, x.step-b.ensures.1)
     (beside-next (s.loop-c.invariant f b) first second c.if-c-d.true)
 
@@ -69,33 +69,33 @@ returns c =
     let y = c in
     let x = y in
     let s = x in
-    let first = rw x.in-Cell.is at s.step-a.ensures.0 in
-    let second = rw y.in-Cell-y.is at x.step-b.ensures.0 in
+    let first = rw x.in-Continue.is at s.step-a.ensures.0 in
+    let second = rw y.in-Continue-y.is at x.step-b.ensures.0 in
     beside-part (stands s.before.before.before.before.before.before.before) first second c.if-c-d.false
 
-returns-2 : tie.Need-returns-in-Final-y invariant-loop decreases-loop
+returns-2 : tie.Need-returns-in-Break-y invariant-loop decreases-loop
 returns-2 c =
     let x = c in
     let s = x in
-    let first = rw x.in-Cell.is at s.step-a.ensures.0 in
-    let second = rw c.in-Final-y.is at x.step-b.ensures.0 in
+    let first = rw x.in-Continue.is at s.step-a.ensures.0 in
+    let second = rw c.in-Break-y.is at x.step-b.ensures.0 in
     beside-second (stands s.before.before.before.before) first second
 
-returns-3 : tie.Need-returns-in-Cell-y-2 invariant-loop decreases-loop
+returns-3 : tie.Need-returns-in-Continue-y-2 invariant-loop decreases-loop
 returns-3 c =
     let y = c in
     let x = y in
     let s = x in
-    let first = rw x.in-Final.is at s.step-a.ensures.0 in
-    let second = rw y.in-Cell-y-2.is at x.step-b.ensures.0 in
+    let first = rw x.in-Break.is at s.step-a.ensures.0 in
+    let second = rw y.in-Continue-y-2.is at x.step-b.ensures.0 in
     beside_first (stands s.before.before.before.before) first second
 
-returns-4 : tie.Need-returns-in-Final-y-2 invariant-loop decreases-loop
+returns-4 : tie.Need-returns-in-Break-y-2 invariant-loop decreases-loop
 returns-4 c =
     let x = c in
     let s = x in
-    let first = rw x.in-Final.is at s.step-a.ensures.0 in
-    let second = rw c.in-Final-y-2.is at x.step-b.ensures.0 in
+    let first = rw x.in-Break.is at s.step-a.ensures.0 in
+    let second = rw c.in-Break-y-2.is at x.step-b.ensures.0 in
     beside_same (stands s.before.before.before.before) first second
 
 pub parting_spec : {M : Type 1} → statement M

@@ -1,4 +1,3 @@
-use borrow.Author.Rules.{rules}
 use borrow.Author.Tests.{eq-eqb, ne_eqb}
 use Rattle.utf7_read.proofs.Moves.{may-end}
 use Rattle.utf7_read.proofs.may_end.Statement.{statement}

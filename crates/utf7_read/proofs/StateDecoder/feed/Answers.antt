@@ -1,0 +1,11 @@
+use borrow.Author.Tests.{lt-ltb, le-ltb}
+use Rattle.utf7.specs.Rule.{byte_does}
+use Rattle.utf7_read.proofs.StateDecoder.feed.Goals as goal
+
+pub returns-then-b-lt128 : goal.returns-then-b-lt128
+unfolding byte_does
+returns-then-b-lt128 c = simp (lt-ltb _ _ c.if-b-lt128.true) c.low.ensures
+
+pub returns : goal.returns
+unfolding byte_does
+returns c = record { so = simp (le-ltb _ _ c.if-b-lt128.false); settled = tt }

@@ -1,0 +1,7 @@
+use native.Mathlib.Omega.{arith}
+use Rattle.bits.proofs.Bits.{power_small}
+use Rattle.utf7_read.proofs.Moves.{settle-run}
+use Rattle.utf7_read.proofs.StateDecoder.settled.Goals as goal
+
+pub returns-in-Run : goal.returns-in-Run
+returns-in-Run c = rw (power_small _ _ c.power-w.ensures (omega arith), c.in-Run.is) (settle-run _ _)
