@@ -7,19 +7,18 @@ use native.Mathlib.Nat.{add-zero, zero-add}
 use native.Mathlib.Omega.{arith}
 use lib.ListN.{length, get_or, take, drop, set, length-append, length-drop, length-take, replicate, get_or-eq_default}
 use lib.Seq.{slice, length-slice, length-take-le, take-take, take_at, take-add, take-length, ext_get_or, get_or-set_other}
-use lib.Dec.{ltb, eqb, lit<}
-use borrow.Author.Tests.{eqb-true, ltb-true, ltb-false, lt-ltb, le-ltb, ne_eqb}
+use lib.Dec.{ltb}
+use borrow.Author.Tests.{ltb-true, ltb-false, lt-ltb, ne_eqb}
 use Rattle.answer.proofs.Laid.{Laid, laid_none, laid_one, laid_on, laid-front}
 use Rattle.marks.specs.Marks.{ahead_in}
 use Rattle.marks.proofs.Counting.{ahead-le, ahead-zero}
-use Rattle.bits.specs.Bits.{left_over}
 use Rattle.alphabet.specs.Letters.{value_of, set_b, slash}
 use Rattle.reading.specs.Reading.{Rule, Reading, give, go, read_from, reading}
 use Rattle.reading.proofs.Laws.{left-start, left-more, left-go}
 use Rattle.reading.proofs.Strides.{Stride, stride-give, left-stride}
 use Rattle.utf7.specs.Sets.{alphanumeric, set_d, set_o, direct}
-use Rattle.utf7.specs.Rule.{outside, may_end, utf7}
-use Rattle.utf7_whole.specs.Quick.{Padded, FilledBy, Filled, Fills, Marked, Span, Ahead, Letters, Run, Values, One, Went, Last, bits_in, units_between, past, units_of, lows, closes, stops}
+use Rattle.utf7.specs.Rule.{outside, utf7}
+use Rattle.utf7_whole.specs.Quick.{Padded, FilledBy, Filled, Fills, Marked, Span, Ahead, Letters, Run, Values, One, Went, Last, units_between, past, units_of, lows, closes, stops}
 use Rattle.utf7_whole.proofs.Tokens.{span-stay, span-on, span-ahead, ahead-as, length-units, no-unit, units-split, units-front, set_more, known, Known, ends-closed, closed-by, three-run, one_unit, slice_at, slice-rest, some_at, direct-stride, sign-stride, run-stride}
 
 -- a front that is all

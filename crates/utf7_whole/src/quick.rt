@@ -244,13 +244,11 @@ fn values_near(last: u8, text: &[u8], at: usize) -> [u8; 32]
     ensures { Values last text.now at result }
 {
     let mut x = [64u8; 32];
-    let mut k: usize = 0;
-    while k < 32 {
+    for k in 0..32 {
         if text.len() <= at + k {
             return x;
         }
         x[k] = value(last, text[at + k]);
-        k += 1;
     }
     x
 }
@@ -272,10 +270,8 @@ fn lay(y: [u32; 12], u: usize, out: &mut [u32], n: usize)
     requires { (length y ≡ 12) × (u ≤ 12) × (n + u ≤ length out.old) }
     ensures { Laid (take u y) n out.old out.new }
 {
-    let mut k: usize = 0;
-    while k < u {
+    for k in 0..u {
         out[n + k] = y[k];
-        k += 1;
     }
 }
 
@@ -491,15 +487,12 @@ fn letters_end(last: u8, text: &[u8], from: usize) -> usize
     requires { (0 < last) × (from ≤ length text.now) }
     ensures { Letters last text.now from result }
 {
-    let mut at = from;
-    while at < text.len() {
-        if value(last, text[at]) < 64 {
-            at += 1;
-        } else {
+    for at in from..text.len() {
+        if 64 <= value(last, text[at]) {
             return at;
         }
     }
-    at
+    text.len()
 }
 
 // A run may end behind so many letters, of which this is the last.
@@ -641,10 +634,8 @@ pub fn is_same(cells: &[u32], n: usize, list: &[u32], from: usize) -> bool
     ensures { result ≡ same_cells (take n cells.now) (take n (drop from list.now)) }
 {
     let mut same = true;
-    let mut k: usize = 0;
-    while k < n {
+    for k in 0..n {
         same = same & (cells[k] == list[from + k]);
-        k += 1;
     }
     same
 }

@@ -1,5 +1,5 @@
 use Prim.Native.Nat.{◌+◌, ◌-◌, ◌≤◌}
-use mathlib.Core.Path.{◌≡◌, refl, sym, ap, ◌∙◌}
+use mathlib.Core.Path.{◌≡◌, refl, sym, ◌∙◌}
 use mathlib.Core.Bool.{false≢true}
 use native.Mathlib.Omega.{arith}
 use lib.ListN.{length, take, drop}
@@ -7,7 +7,7 @@ use borrow.Author.Rules.{rules}
 use Rattle.reading.specs.Reading.{reading}
 use Rattle.reading.specs.Matching.{same_cells}
 use Rattle.utf7.specs.Rule.{outside, utf7}
-use Rattle.utf7_whole.specs.Quick.{Padded, Filled, Agrees}
+use Rattle.utf7_whole.specs.Quick.{Filled, Agrees}
 use Rattle.utf7_whole.proofs.Buffers.{padded-part, filled_in}
 use Rattle.utf7_whole.proofs.Agreed.{agrees_start, agrees-less, agrees-other, agrees_on}
 use Rattle.utf7_whole.proofs.quick.compare.Statement.{statement}
