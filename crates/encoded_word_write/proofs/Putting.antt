@@ -1,13 +1,13 @@
 -- Parts put into an output one after another. Assumes nothing.
 use Prim.Native.Nat.{ℕ, ◌+◌, ◌-◌, ◌/◌, ◌%◌, ◌^◌, ◌≤◌, ◌<◌}
-use mathlib.Core.Path.{◌≡◌, refl, sym, ◌∙◌}
+use mathlib.Core.Path.{◌≡◌, refl, sym, ap, ◌∙◌}
 use mathlib.Core.List.{List, [], ◌∷◌, ◌++◌, append_assoc, append-nil}
 use native.Mathlib.Omega.{arith}
 use native.Mathlib.Nat.{add-zero}
 use native.Mathlib.Nat.{div-one}
 use native.Mathlib.Numerals.{add-one}
-use lib.ListN.{length, get_or, take, drop, set, length-set, length-append}
-use lib.Seq.{take-suc, length-take-le}
+use lib.ListN.{length, get_or, take, drop, set, length-set, length-append, length-drop, drop_of_length-le}
+use lib.Seq.{take-suc, take_all, length-take-le}
 use Rattle.parsing.specs.Digits.{digit, digits}
 use borrow.Rule.Slice.PartMut.{put_mid}
 use Rattle.answer.specs.Output.{filled}
@@ -65,3 +65,12 @@ pub puts-lent :
 puts-lent part at out y h e =
     let s = (put-lent part [] (put_as (sym (append-nil part)) (put-from out part at h)) e).same in
     (s, λ text first rest p. put-lent part rest p e)
+
+-- a part copied to its place
+pub puts-part : (part : List ℕ) (at : ℕ) (out : List ℕ) → at + length part ≤ length out → Puts part at out (take at out ++ filled part (drop at out))
+puts-part part at out h =
+    let n : length (drop at out) ≤ length out - at = omega (arith, length-drop at out) in
+    let e : put_mid at (length out - at) out (filled part (drop at out)) ≡ take at out ++ filled part (drop at out) =
+    ap (λ (z : List ℕ). take at out ++ z)
+    (ap (λ (z : List ℕ). filled part (drop at out) ++ z) (drop_of_length-le (drop at out) n) ∙ append-nil (filled part (drop at out))) in
+    rw e at (puts-lent part at out (filled part (drop at out)) h (rw (take_all (length out - at) (drop at out) n) refl))
