@@ -190,9 +190,8 @@ fn rest_reads_as(text: &[u8], cells: &[u32], from: usize, before: usize) -> bool
 pub fn reads_as(text: &[u8], cells: &[u32]) -> bool
     ensures { result ≡ reads_as utf7 text.now cells.now }
 {
-    let found = quick::compare(text, cells);
-    if found.same {
-        return rest_reads_as(text, cells, found.at, found.n);
+    match quick::compare(text, cells) {
+        Some(found) => rest_reads_as(text, cells, found.at, found.n),
+        None => false,
     }
-    false
 }
