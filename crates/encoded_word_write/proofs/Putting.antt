@@ -3,20 +3,15 @@ use Prim.Native.Nat.{ℕ, ◌+◌, ◌-◌, ◌/◌, ◌%◌, ◌^◌, ◌≤◌
 use mathlib.Core.Path.{◌≡◌, refl, sym, ap, ◌∙◌}
 use mathlib.Core.List.{List, [], ◌∷◌, ◌++◌, append_assoc, append-nil}
 use native.Mathlib.Omega.{arith}
-use native.Mathlib.Nat.{add-zero}
 use native.Mathlib.Nat.{div-one}
-use native.Mathlib.Numerals.{add-one}
-use lib.ListN.{length, get_or, take, drop, set, length-set, length-append, length-drop, drop_of_length-le}
-use lib.Seq.{take-suc, take_all, length-take-le}
+use lib.ListN.{length, take, drop, set, length-set, length-append, length-drop, drop_of_length-le}
+use lib.Seq.{take_all}
 use Rattle.parsing.specs.Digits.{digit, digits}
 use borrow.Rule.Slice.PartMut.{put_mid}
 use Rattle.answer.specs.Output.{filled}
 use Rattle.answer.proofs.Put.{Put, put_as, put_next, put-lent}
 use Rattle.utf7_write.proofs.Several.{put-from}
 use Rattle.encoded_word_write.specs.Inner.{Puts}
-
-pub puts_none : (at : ℕ) (out : List ℕ) → Puts [] at out out
-puts_none at out = (refl, λ text first rest p. rw add-zero p)
 
 pub puts_one : (x at : ℕ) (out : List ℕ) → Puts (x ∷ []) at out (set out at x)
 puts_one x at out = (simp length-set, λ text first rest p. put_next p)
@@ -48,15 +43,6 @@ puts-pair b at out {h} {l} k e f = (simp length-set, λ text first rest p. three
         let three : at + 1 + 1 + 1 ≡ at + 3 = omega arith in
         let q : Put text first out at (61 ∷ h ∷ l ∷ rest) = rw (e, f) (rw (high, div-one b) at p) in
         rw (← three, ← two) (put_next (put_next (put_next q)))
-
--- one byte more of a list
-pub puts-next :
-    (l : List ℕ) (i at : ℕ) (x y : List ℕ) → i < length l → Puts (take i l) at x y →
-    Puts (take (i + 1) l) at x (set y (at + i) (get_or l i 0))
-puts-next l i at x y h p =
-    let k : at + i ≡ at + length (take i l) = omega (arith, length-take-le i l (omega arith)) in
-    rw (add-one i, take-suc l i 0 h)
-    (puts-on (take i l) (get_or l i 0 ∷ []) at (at + i) x y _ p k (puts_one (get_or l i 0) (at + i) y))
 
 -- a part put into the rest of the output, which was lent as `&mut out[at..]`
 pub puts-lent :
