@@ -1,22 +1,17 @@
 -- Parts put into an output one after another. Assumes nothing.
 use Prim.Native.Nat.{ℕ, ◌+◌, ◌-◌, ◌/◌, ◌%◌, ◌^◌, ◌≤◌, ◌<◌}
-use mathlib.Core.Path.{◌≡◌, refl, sym, ◌∙◌}
+use mathlib.Core.Path.{◌≡◌, refl, sym, ap, ◌∙◌}
 use mathlib.Core.List.{List, [], ◌∷◌, ◌++◌, append_assoc, append-nil}
 use native.Mathlib.Omega.{arith}
-use native.Mathlib.Nat.{add-zero}
 use native.Mathlib.Nat.{div-one}
-use native.Mathlib.Numerals.{add-one}
-use lib.ListN.{length, get_or, take, drop, set, length-set, length-append}
-use lib.Seq.{take-suc, length-take-le}
+use lib.ListN.{length, take, drop, set, length-set, length-append, length-drop, drop_of_length-le}
+use lib.Seq.{take_all}
 use Rattle.parsing.specs.Digits.{digit, digits}
 use borrow.Rule.Slice.PartMut.{put_mid}
 use Rattle.answer.specs.Output.{filled}
 use Rattle.answer.proofs.Put.{Put, put_as, put_next, put-lent}
 use Rattle.utf7_write.proofs.Several.{put-from}
 use Rattle.encoded_word_write.specs.Inner.{Puts}
-
-pub puts_none : (at : ℕ) (out : List ℕ) → Puts [] at out out
-puts_none at out = (refl, λ text first rest p. rw add-zero p)
 
 pub puts_one : (x at : ℕ) (out : List ℕ) → Puts (x ∷ []) at out (set out at x)
 puts_one x at out = (simp length-set, λ text first rest p. put_next p)
@@ -49,15 +44,6 @@ puts-pair b at out {h} {l} k e f = (simp length-set, λ text first rest p. three
         let q : Put text first out at (61 ∷ h ∷ l ∷ rest) = rw (e, f) (rw (high, div-one b) at p) in
         rw (← three, ← two) (put_next (put_next (put_next q)))
 
--- one byte more of a list
-pub puts-next :
-    (l : List ℕ) (i at : ℕ) (x y : List ℕ) → i < length l → Puts (take i l) at x y →
-    Puts (take (i + 1) l) at x (set y (at + i) (get_or l i 0))
-puts-next l i at x y h p =
-    let k : at + i ≡ at + length (take i l) = omega (arith, length-take-le i l (omega arith)) in
-    rw (add-one i, take-suc l i 0 h)
-    (puts-on (take i l) (get_or l i 0 ∷ []) at (at + i) x y _ p k (puts_one (get_or l i 0) (at + i) y))
-
 -- a part put into the rest of the output, which was lent as `&mut out[at..]`
 pub puts-lent :
     (part : List ℕ) (at : ℕ) (out y : List ℕ) → at + length part ≤ length out →
@@ -65,3 +51,12 @@ pub puts-lent :
 puts-lent part at out y h e =
     let s = (put-lent part [] (put_as (sym (append-nil part)) (put-from out part at h)) e).same in
     (s, λ text first rest p. put-lent part rest p e)
+
+-- a part copied to its place
+pub puts-part : (part : List ℕ) (at : ℕ) (out : List ℕ) → at + length part ≤ length out → Puts part at out (take at out ++ filled part (drop at out))
+puts-part part at out h =
+    let n : length (drop at out) ≤ length out - at = omega (arith, length-drop at out) in
+    let e : put_mid at (length out - at) out (filled part (drop at out)) ≡ take at out ++ filled part (drop at out) =
+    ap (λ (z : List ℕ). take at out ++ z)
+    (ap (λ (z : List ℕ). filled part (drop at out) ++ z) (drop_of_length-le (drop at out) n) ∙ append-nil (filled part (drop at out))) in
+    rw e at (puts-lent part at out (filled part (drop at out)) h (rw (take_all (length out - at) (drop at out) n) refl))

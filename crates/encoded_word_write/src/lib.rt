@@ -127,13 +127,11 @@ fn share(units: &[u32]) -> Taken
     ensures { (result.count ≡ share_of units.now)
         × (result.size ≡ q_size (take (share_of units.now) units.now)) }
 {
-    let mut i: usize = 0;
-    let mut size: usize = 0;
-    let mut before: usize = 0;
-    let mut run: usize = 0;
-    while i < units.len() {
-        let u = units[i];
-        let own = alone(u);
+    let mut size = 0;
+    let mut before = 0;
+    let mut run = 0;
+    for (i, u) in units.iter().enumerate() {
+        let own = alone(*u);
         let more = size + brought(own, run);
         if 63 < more {
             return cut(units, i, size, before);
@@ -141,9 +139,11 @@ fn share(units: &[u32]) -> Taken
         before = size;
         size = more;
         run = run_after(own, run);
-        i += 1;
     }
-    Taken { count: i, size }
+    Taken {
+        count: units.len(),
+        size,
+    }
 }
 
 // The characters of CR, LF and a space, where there are more words.
@@ -177,12 +177,9 @@ fn put_bytes(bytes: &[u8], out: &mut [u8], at: usize) -> usize
     ensures { (result ≡ at + length bytes.now)
         × Puts bytes.now at out.old out.new }
 {
-    let mut i: usize = 0;
-    while i < bytes.len() {
-        out[at + i] = bytes[i];
-        i += 1;
-    }
-    at + i
+    let end = at + bytes.len();
+    out[at..end].copy_from_slice(bytes);
+    end
 }
 
 fn figure(d: u8) -> u8
@@ -228,10 +225,8 @@ fn show(out: &mut [u8], n: usize)
     requires { n ≤ length out.old }
     ensures { out.new ≡ filled (map shown_as (take n out.old)) out.old }
 {
-    let mut k: usize = 0;
-    while k < n {
+    for k in 0..n {
         out[k] = shown(out[k]);
-        k += 1;
     }
 }
 

@@ -1,46 +1,43 @@
 -- Comparing the bytes of two lists from their start. Assumes nothing.
-use Prim.Native.Nat.{ℕ, ◌+◌, ◌<◌, ◌≤◌}
-use mathlib.Core.Path.{◌≡◌, refl, ◌∙◌}
-use mathlib.Core.Bool.{Bool, true, false, cond, false≢true}
+use Prim.Native.Nat.{ℕ, ◌<◌, ◌≤◌}
+use Prim.Native.Nat.compare.{suc-suc}
+use mathlib.Core.Path.{◌≡◌, refl}
+use mathlib.Core.Bool.{Bool, true, false, cond, ◌&&◌, false≢true}
 use mathlib.Core.List.{List, [], ◌∷◌}
 use native.Mathlib.Omega.{arith}
-use native.Mathlib.Numerals.{add-one}
-use lib.ListN.{length, get_or, drop, drop_of_length-le}
-use lib.Seq.{drop-cons}
+use lib.ListN.{length, get_or}
 use lib.Dec.{eqb}
-use borrow.Author.Tests.{eq-eqb, ne_eqb, eqb-true}
-use Rattle.jp2.specs.Table.{begins}
+use borrow.Author.Tests.{ne_eqb, eqb-true}
+use lib.Pointwise.{pointwise}
+use Rattle.std.specs.List.{starts_with}
+use Rattle.jp2.specs.Table.{begins, is_list}
 
 guard : (s t : Bool) → cond s t false ≡ true → (s ≡ true) × (t ≡ true)
 guard true t e = (refl, e)
 guard false t e = absurd (false≢true e)
 
--- the first k bytes agree
-pub record Agree (bytes l : List ℕ) (k : ℕ) : Type 0 where
-  pub so : begins bytes l ≡ begins (drop k bytes) (drop k l)
+-- what `starts_with` and `==` answer
+and-cond : (s t : Bool) → cond s t false ≡ (s && t)
+and-cond true t = refl
+and-cond false t = refl
 
-pub agree-start : (bytes l : List ℕ) → Agree bytes l 0
-agree-start bytes l = record { so = refl }
+pub begins-std : (bytes l : List ℕ) → begins bytes l ≡ starts_with eqb l bytes
+unfolding begins
+begins-std [] l = refl
+begins-std (b ∷ bytes) [] = refl
+begins-std (b ∷ bytes) (a ∷ l) = rw (begins-std bytes l) (and-cond (eqb b a) _)
 
-module _ {bytes l : List ℕ} {k : ℕ} (a : Agree bytes l k) where
-  module _ (h : k < length bytes) where
-    pub agree-short : length l ≤ k → false ≡ begins bytes l
-    unfolding begins
-    agree-short q = rw (a.so, drop-cons bytes k 0 h, drop_of_length-le l q)
+and-assoc : (s t u : Bool) → (cond s t false && u) ≡ (s && (t && u))
+and-assoc true t u = refl
+and-assoc false t u = refl
 
-    module _ (q : k < length l) where
-      pub agree-not : (get_or bytes k 0 ≡ get_or l k 0 → ⊥) → false ≡ begins bytes l
-      unfolding begins
-      agree-not e = rw (a.so, drop-cons bytes k 0 h, drop-cons l k 0 q, ne_eqb (get_or bytes k 0) (get_or l k 0) e)
-
-      pub agree_on : get_or bytes k 0 ≡ get_or l k 0 → Agree bytes l (k + 1)
-      unfolding begins
-      agree_on e =
-          record { so = a.so ∙ rw (drop-cons bytes k 0 h, drop-cons l k 0 q, eq-eqb (get_or bytes k 0) (get_or l k 0) e, add-one) }
-
-  pub agree-end : length bytes ≤ k → true ≡ begins bytes l
-  unfolding begins
-  agree-end h = rw (a.so, drop_of_length-le bytes h)
+pub is_list-std : (bytes l : List ℕ) → is_list bytes l ≡ pointwise eqb bytes l
+unfolding begins
+is_list-std [] [] = refl
+is_list-std [] (a ∷ l) = ne_eqb 0 (length (a ∷ l)) (λ e. absurd (omega (arith, e)))
+is_list-std (b ∷ bytes) [] = refl
+is_list-std (b ∷ bytes) (a ∷ l) =
+    rw (← is_list-std bytes l, suc-suc (length bytes) (length l)) (and-assoc (eqb b a) (begins bytes l) (eqb (length bytes) (length l)))
 
 -- bytes that begin a list are no longer than it, and start as it does
 pub begins-length : (bytes l : List ℕ) → begins bytes l ≡ true → length bytes ≤ length l

@@ -1,7 +1,7 @@
 -- The bytes of JP-2's cells: in order, and no two cells share one. Assumes nothing.
-use Prim.Native.Nat.{ℕ, ◌+◌, ◌≤◌}
+use Prim.Native.Nat.{ℕ, ◌+◌}
 use mathlib.Core.Path.{◌≡◌, refl}
-use mathlib.Core.Bool.{Bool, true, false, cond, ◌&&◌, ◌||◌}
+use mathlib.Core.Bool.{Bool, true, false, cond, ◌||◌}
 use mathlib.Core.List.{List, [], ◌∷◌, ◌++◌}
 use native.Mathlib.Omega.{arith}
 use lib.ListN.{length}
@@ -11,8 +11,8 @@ use Rattle.reading.specs.Reading.{Does, go}
 use Rattle.reading.specs.Spans.{Takes, marked_in, InOrder}
 use Rattle.reading.proofs.Spans.{Gives, LeadDoes, alone, Marks, in_order}
 use Rattle.jp2.specs.Table.{row_at, is_list, row_of_escape, row_begun_by}
-use Rattle.jp2.specs.Rule.{Phase, plain, return, first, shifted, escape, State, state, designated, graphic, single_does, first_does, second_does, between_does, shifted_does, escape_does, in_phase, byte_does, jp2}
-use Rattle.jp2.specs.Spans.{phase_span, span_in}
+use Rattle.jp2.specs.Rule.{Phase, plain, return, first, shifted, escape, State, state, graphic, single_does, first_does, second_does, between_does, shifted_does, escape_does, in_phase, byte_does, jp2}
+use Rattle.jp2.specs.Spans.{span_in}
 use Rattle.jp2.proofs.Kept.{SoundState, jp2-kept}
 
 -- so many bytes before the next one are of the cell in the making; an escape may be ESC N

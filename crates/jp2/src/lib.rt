@@ -17,7 +17,7 @@ pub struct Designation {
 }
 
 // In the order of document 01's table.
-const TABLE: [Designation; 9] = [
+static TABLE: [Designation; 9] = [
     Designation {
         number: 6,
         escape: [27, 40, 66, 0],
@@ -101,130 +101,74 @@ pub fn all_rows() -> [Designation; 9]
 pub fn row_of_number(number: u16) -> usize
     ensures { result ≡ row_of_number number }
 {
-    let mut i: usize = 0;
-    while i < 9 {
-        let d = row_at(i);
+    for (i, d) in TABLE.iter().enumerate() {
         if d.number == number {
             return i;
         }
-        i += 1;
     }
-    i
+    TABLE.len()
 }
 
-// The first bytes of the escape that a row sends are these.
-fn begins_row(bytes: &[u8], i: usize) -> bool
-    requires { i < 9 }
-    ensures { result ≡ begins bytes.now (sent (row_at i)) }
-{
-    let d = row_at(i);
-    let escape = d.escape;
-    let length = d.length;
-    let mut k: usize = 0;
-    while k < bytes.len() {
-        if length <= k {
-            return false;
-        }
-        if bytes[k] != escape[k] {
-            return false;
-        }
-        k += 1;
+impl Designation {
+    // The escape's bytes, as they are sent.
+    pub fn sent(&self) -> &[u8]
+        ensures { result.now ≡ sent self.now }
+    {
+        &self.escape[..self.length.min(4)]
     }
-    true
 }
 
 // The first row whose escape begins with these bytes, or 9.
 pub fn row_begun_by(bytes: &[u8]) -> usize
     ensures { result ≡ row_begun_by bytes.now }
 {
-    let mut i: usize = 0;
-    while i < 9 {
-        if begins_row(bytes, i) {
+    for (i, d) in TABLE.iter().enumerate() {
+        if d.sent().starts_with(bytes) {
             return i;
         }
-        i += 1;
     }
-    i
+    TABLE.len()
 }
 
 // The row whose escape is these bytes, or 9.
 pub fn row_of_escape(bytes: &[u8]) -> usize
     ensures { result ≡ row_of_escape bytes.now }
 {
-    let mut i: usize = 0;
-    while i < 9 {
-        if is_row(bytes, i) {
+    for (i, d) in TABLE.iter().enumerate() {
+        if bytes == d.sent() {
             return i;
         }
-        i += 1;
     }
-    i
-}
-
-fn is_row(bytes: &[u8], i: usize) -> bool
-    requires { i < 9 }
-    ensures { result ≡ is_list bytes.now (sent (row_at i)) }
-{
-    let d = row_at(i);
-    if begins_row(bytes, i) {
-        return bytes.len() == d.length;
-    }
-    false
+    TABLE.len()
 }
 
 #[tactic(auto, unfolding(crate::specs::Rule::graphic))]
 pub fn is_graphic(b: u32) -> bool
     ensures { result ≡ graphic b }
 {
-    if b < 33 {
-        return false;
-    }
-    b <= 126
+    33 <= b && b <= 126
 }
 
 // The codes of set 6.
+#[tactic(auto, unfolding(crate::specs::Writable::ascii))]
 fn is_ascii(c: u32) -> bool
     ensures { result ≡ ascii c }
 {
-    if 127 < c {
-        return false;
-    }
-    if c == 14 {
-        return false;
-    }
-    if c == 15 {
-        return false;
-    }
-    c != 27
+    c <= 127 && !matches!(c, 14 | 15 | 27)
 }
 
 #[tactic(auto, unfolding(crate::specs::Writable::pair_set))]
 pub fn is_pair_set(n: u32) -> bool
     ensures { result ≡ pair_set n }
 {
-    if n == 42 {
-        return true;
-    }
-    if n == 58 {
-        return true;
-    }
-    if n == 87 {
-        return true;
-    }
-    if n == 149 {
-        return true;
-    }
-    n == 159
+    matches!(n, 42 | 58 | 87 | 149 | 159)
 }
 
 #[tactic(auto, unfolding(crate::specs::Writable::shift_set))]
 pub fn is_shift_set(n: u32) -> bool
     ensures { result ≡ shift_set n }
 {
-    if n == 100 {
-        return true;
-    }
-    n == 126
+    matches!(n, 100 | 126)
 }
 
 #[tactic(auto, unfolding(crate::specs::Writable::codes, crate::specs::Writable::writable))]
@@ -234,36 +178,24 @@ pub fn is_writable(v: u32) -> bool
     let n = v / 65536;
     let c = v % 65536;
     if n == 6 {
-        return is_ascii(c);
+        is_ascii(c)
+    } else if n == 14 {
+        is_graphic(c)
+    } else if is_pair_set(n) {
+        is_graphic(c / 256) && is_graphic(c % 256)
+    } else {
+        is_shift_set(n) && 32 <= c && c <= 127
     }
-    if n == 14 {
-        return is_graphic(c);
-    }
-    if is_pair_set(n) {
-        if is_graphic(c / 256) {
-            return is_graphic(c % 256);
-        }
-        return false;
-    }
-    if is_shift_set(n) {
-        if c < 32 {
-            return false;
-        }
-        return c <= 127;
-    }
-    false
 }
 
 // The index of the first cell that is not writable, or the length.
 pub fn first_foreign(cells: &[u32]) -> usize
     ensures { result ≡ first_foreign cells.now }
 {
-    let mut i: usize = 0;
-    while i < cells.len() {
-        if !is_writable(cells[i]) {
+    for (i, v) in cells.iter().enumerate() {
+        if !is_writable(*v) {
             return i;
         }
-        i += 1;
     }
-    i
+    cells.len()
 }

@@ -1,7 +1,7 @@
 // The tally of a list of JP-2 cells.
 #![tactic(auto)]
 
-ghost use Rattle.std.specs.Prelude.{◌≡◌, ◌+◌, ◌<◌, ◌^◌, get_or, set, eqb};
+ghost use Rattle.std.specs.Prelude.{◌≡◌, eqb};
 ghost use Rattle.answer.specs.Answer.{in_numbers};
 ghost use Rattle.jp2.specs.Table.{first_where};
 ghost use Rattle.jp2.specs.Tally.{sets, tally_of};
@@ -15,30 +15,18 @@ pub struct Tallied {
 }
 
 // In rising number: the order of the counts, which is not the table's.
-const SETS: [u32; 9] = [6, 14, 42, 58, 87, 100, 126, 149, 159];
+static SETS: [u32; 9] = [6, 14, 42, 58, 87, 100, 126, 149, 159];
 
 // The place of a set's count, or 9.
 fn place_of(number: u32) -> usize
     ensures { result ≡ first_where (λ s. eqb s number) sets }
 {
-    let mut k: usize = 0;
-    while k < 9 {
-        if SETS[k] == number {
+    for (k, set) in SETS.iter().enumerate() {
+        if *set == number {
             return k;
         }
-        k += 1;
     }
-    k
-}
-
-// One count is one more.
-fn raise(counts: [u32; 9], k: usize) -> [u32; 9]
-    requires { (k < 9) × (get_or counts k 0 + 1 < 2 ^ 32) }
-    ensures { result ≡ set counts k (get_or counts k 0 + 1) }
-{
-    let mut next = counts;
-    next[k] = counts[k] + 1;
-    next
+    SETS.len()
 }
 
 // One count for each set, in rising number of the sets.
@@ -51,23 +39,18 @@ pub fn tally(cells: &[u32]) -> Tallied
             counts: [0; 9],
         };
     }
-    let mut counts = [0u32; 9];
-    let mut i: usize = 0;
-    while i < cells.len() {
-        let v = cells[i];
-        if !jp2::is_writable(v) {
+    let mut counts = [0; 9];
+    for (i, v) in cells.iter().enumerate() {
+        if !jp2::is_writable(*v) {
             return Tallied {
                 answer: Answer::Refused(Refusal::Unwritable, i),
                 counts: [0; 9],
             };
         }
-        let k = place_of(v / 65536);
-        let next = raise(counts, k);
-        counts = next;
-        i += 1;
+        counts[place_of(*v / 65536)] += 1;
     }
     Tallied {
-        answer: Answer::Accepted(i),
+        answer: Answer::Accepted(cells.len()),
         counts,
     }
 }

@@ -3,7 +3,7 @@
 
 mod quick;
 
-ghost use Rattle.std.specs.Prelude.{◌≡◌, ◌≤◌, length, take};
+ghost use Rattle.std.specs.Prelude.{◌≡◌, ◌<◌, ◌≤◌, ◌^◌, length, take};
 ghost use Rattle.answer.specs.Answer.{in_numbers, limit};
 ghost use Rattle.answer.specs.Output.{leaves, filled};
 ghost use Rattle.reading.specs.Reading.{verdict_of, reading, read_into};
@@ -35,24 +35,17 @@ fn decode(text: &[u8], from: quick::Reached, out: &mut [u32])
     ensures { take (length (reading jp2 text.now).cells) out.new ≡ (reading jp2 text.now).cells }
 {
     let reached = quick::fill_on(text, from, out);
-    let mut at = reached.at;
     let mut n = reached.n;
     let mut st = standing(reached);
-    while at < text.len() {
+    for at in reached.at..text.len() {
         match jp2_read::feed(st, text[at]) {
             Move::Give(value, state) => {
                 out[n] = value;
                 st = state;
                 n += 1;
-                at += 1;
             }
-            Move::Go(state) => {
-                st = state;
-                at += 1;
-            }
-            Move::Bad(_) => {
-                return;
-            }
+            Move::Go(state) => st = state,
+            Move::Bad(_) => return,
         }
     }
 }
@@ -63,11 +56,7 @@ fn copy(cells: &[u32], n: usize, out: &mut [u32])
     requires n_in_bounds_2 { n ≤ length out.old }
     ensures { out.new ≡ filled (take n cells.now) out.old }
 {
-    let mut k: usize = 0;
-    while k < n {
-        out[k] = cells[k];
-        k += 1;
-    }
+    out[..n].copy_from_slice(&cells[..n]);
 }
 
 // The answer of a text that has room enough, on from a place, with nothing written.
@@ -76,26 +65,19 @@ fn measure(text: &[u8], from: quick::Reached) -> Answer
     ensures { in_numbers result ≡ verdict_of (reading jp2 text.now) }
 {
     let reached = quick::judge(text, from);
-    let mut at = reached.at;
     let mut n = reached.n;
     let mut st = standing(reached);
-    while at < text.len() {
+    for at in reached.at..text.len() {
         match jp2_read::feed(st, text[at]) {
             Move::Give(_, state) => {
                 st = state;
                 n += 1;
-                at += 1;
             }
-            Move::Go(state) => {
-                st = state;
-                at += 1;
-            }
-            Move::Bad(why) => {
-                return Answer::Refused(why, at);
-            }
+            Move::Go(state) => st = state,
+            Move::Bad(why) => return Answer::Refused(why, at),
         }
     }
-    jp2_read::finish(at, n, st)
+    jp2_read::finish(text.len(), n, st)
 }
 
 // Reads a text by way of a buffer. The whole text is judged before a cell is written to the output: the cells that the
@@ -127,36 +109,12 @@ fn through(text: &[u8], cells: &mut [u32], out: &mut [u32]) -> Answer
     }
 }
 
-// Each size is a function, so that LLVM lays their buffers over each other.
-fn through_256(text: &[u8], out: &mut [u32]) -> Answer
-    requires { length text.now ≤ limit }
+// By way of a buffer of N cells on the stack. Each size is a function, so that LLVM lays their buffers over each other.
+fn through_in<const N: usize>(text: &[u8], out: &mut [u32]) -> Answer
+    requires { (length text.now ≤ limit) × (N < 2 ^ 16) }
     ensures { leaves result out.new ≡ read_into jp2 text.now out.old }
 {
-    let mut cells = [0u32; 256];
-    through(text, &mut cells, out)
-}
-
-fn through_1024(text: &[u8], out: &mut [u32]) -> Answer
-    requires { length text.now ≤ limit }
-    ensures { leaves result out.new ≡ read_into jp2 text.now out.old }
-{
-    let mut cells = [0u32; 1024];
-    through(text, &mut cells, out)
-}
-
-fn through_4096(text: &[u8], out: &mut [u32]) -> Answer
-    requires { length text.now ≤ limit }
-    ensures { leaves result out.new ≡ read_into jp2 text.now out.old }
-{
-    let mut cells = [0u32; 4096];
-    through(text, &mut cells, out)
-}
-
-fn through_12288(text: &[u8], out: &mut [u32]) -> Answer
-    requires { length text.now ≤ limit }
-    ensures { leaves result out.new ≡ read_into jp2 text.now out.old }
-{
-    let mut cells = [0u32; 12288];
+    let mut cells = [0; N];
     through(text, &mut cells, out)
 }
 
@@ -169,15 +127,15 @@ pub fn read(text: &[u8], out: &mut [u32]) -> Answer
         return answer::too_long();
     }
     if text.len() <= 256 {
-        return through_256(text, out);
+        return through_in::<256>(text, out);
     }
     if text.len() <= 1024 {
-        return through_1024(text, out);
+        return through_in::<1024>(text, out);
     }
     if text.len() <= 4096 {
-        return through_4096(text, out);
+        return through_in::<4096>(text, out);
     }
-    through_12288(text, out)
+    through_in::<12288>(text, out)
 }
 
 // The text is accepted and reads as the cells. Nothing is lent to be written.
@@ -185,10 +143,9 @@ pub fn reads_as(text: &[u8], cells: &[u32]) -> bool
     ensures { result ≡ reads_as jp2 text.now cells.now }
 {
     let reached = quick::follow(text, cells);
-    let mut at = reached.at;
     let mut n = reached.n;
     let mut st = standing(reached);
-    while at < text.len() {
+    for at in reached.at..text.len() {
         match jp2_read::feed(st, text[at]) {
             Move::Give(value, state) => {
                 if cells.len() <= n {
@@ -199,18 +156,12 @@ pub fn reads_as(text: &[u8], cells: &[u32]) -> bool
                 }
                 st = state;
                 n += 1;
-                at += 1;
             }
-            Move::Go(state) => {
-                st = state;
-                at += 1;
-            }
-            Move::Bad(_) => {
-                return false;
-            }
+            Move::Go(state) => st = state,
+            Move::Bad(_) => return false,
         }
     }
-    match jp2_read::finish(at, n, st) {
+    match jp2_read::finish(text.len(), n, st) {
         Answer::Accepted(_) => n == cells.len(),
         Answer::Refused(_, _) => false,
     }

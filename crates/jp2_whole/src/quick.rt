@@ -204,11 +204,8 @@ fn widen(text: &[u8], from: usize, to: usize, out: &mut [u32], n: usize)
     requires from_in_bounds { n + (to - from) ≤ length out.old }
     ensures { Laid (map (cell_of 6) (take (to - from) (drop from text.now))) n out.old out.new }
 {
-    let size = to - from;
-    let mut k: usize = 0;
-    while k < size {
+    for k in 0..to - from {
         out[n + k] = ascii_cell(text[from + k]);
-        k += 1;
     }
 }
 
@@ -578,12 +575,10 @@ fn is_same(buf: &[u32], count: usize, cells: &[u32], from: usize) -> bool
     if cells.len() - from < count {
         return false;
     }
-    let mut k: usize = 0;
-    while k < count {
+    for k in 0..count {
         if buf[k] != cells[from + k] {
             return false;
         }
-        k += 1;
     }
     true
 }

@@ -40,17 +40,15 @@ fn stretch_end(cells: &[u32], from: usize, g0: u16, g2: u16) -> usize
     if g2 != 0 {
         return from;
     }
-    let mut i: usize = from;
-    while i < cells.len() {
+    for i in from..cells.len() {
         if cells[i] < FIRST_PLAIN {
             return i;
         }
         if LAST_PLAIN < cells[i] {
             return i;
         }
-        i += 1;
     }
-    i
+    cells.len()
 }
 
 // G2 after a cell of G0: CR and then LF clear it.
@@ -154,17 +152,18 @@ fn survey_ready(cells: &[u32], from: usize, g0: u16, g2: u16) -> Reached
     requires { (from ≤ length cells.now) × (length cells.now ≤ limit) }
     ensures { Run cells.now g0 g2 from result.i result.count }
 {
-    let mut i = from;
-    let mut count: usize = 0;
-    while i < cells.len() {
+    let mut count = 0;
+    for i in from..cells.len() {
         let size = ready(cells[i], g0, g2);
         if size == 0 {
             return Reached { i, count };
         }
         count += size;
-        i += 1;
     }
-    Reached { i, count }
+    Reached {
+        i: cells.len(),
+        count,
+    }
 }
 
 // Judges cells and counts their bytes. A set that is not in force is designated, and its cell then looked at again.
@@ -224,14 +223,9 @@ fn designate(out: &mut [u8], n: u16) -> usize
     ensures { Puts (designation_of n) out.old out.new result }
 {
     let d = jp2::row_at(jp2::row_of_number(n));
-    let escape = d.escape;
-    let size = d.length;
-    let mut j: usize = 0;
-    while j < size {
-        out[j] = escape[j];
-        j += 1;
-    }
-    j
+    let sent = d.sent();
+    out[..sent.len()].copy_from_slice(sent);
+    sent.len()
 }
 
 // Plain cells go to the front of the output.
@@ -239,12 +233,10 @@ fn put_plain(out: &mut [u8], cells: &[u32]) -> usize
     requires { length cells.now ≤ length out.old }
     ensures { Puts (map low_byte cells.now) out.old out.new result }
 {
-    let mut k: usize = 0;
-    while k < cells.len() {
-        out[k] = (cells[k] % 256) as u8;
-        k += 1;
+    for (k, v) in cells.iter().enumerate() {
+        out[k] = (*v % 256) as u8;
     }
-    k
+    cells.len()
 }
 
 // A cell of G0 whose set is in force: a single byte, or a pair, whose code is no byte.

@@ -1,20 +1,19 @@
 -- Numbers by hex digits, and lines of them, from where the digits end. Assumes nothing.
 use Prim.Native.Nat.{ℕ, zero, suc, ◌+◌, ◌-◌, ◌*◌, ◌/◌, ◌%◌, ◌^◌, ◌<◌, ◌≤◌, max}
-use mathlib.Core.Path.{◌≡◌, refl, sym, ap, ◌∙◌, subst}
-use mathlib.Core.Bool.{Bool, true, false, cond, ◌&&◌}
+use mathlib.Core.Path.{◌≡◌, refl, sym, ap, ◌∙◌}
+use mathlib.Core.Bool.{Bool, true, false}
 use mathlib.Core.List.{List, [], ◌∷◌}
 use mathlib.Core.Logic.{◌⊎◌, inl, inr, ⊎_elim}
 use native.Mathlib.Omega.{arith}
-use native.Mathlib.Numerals.{add-one}
 use native.Mathlib.Nat.{add-zero, sub-zero, pow-succ', mul_assoc, mul-le-mul_right, one-mul, suc-mul, zero-mul, add-mul}
 use native.Mathlib.Nat.{one-le-pow, div-add-mod', mod-lt}
 use lib.ListN.{length, get_or, drop, drop_of_length-le}
-use lib.Dec.{ltb, leb, eqb, lit<, lit≤}
-use borrow.Author.Tests.{leb-true, leb-false, ltb-true, ltb-false, lt-ltb, le-ltb, le-leb, eqb-true, eq-eqb, ne_eqb}
+use lib.Dec.{ltb, leb, eqb, lit<}
+use borrow.Author.Tests.{leb-true, leb-false, ltb-true, ltb-false, lt-ltb, le-ltb, le-leb, eqb-true, ne_eqb}
 use Rattle.answer.specs.Ahead.{Ahead}
 use Rattle.answer.proofs.Below.{all_below, below}
-use Rattle.parsing.specs.Parsing.{Parsed, found, failed, on_parsed, further, or_else, literal}
-use Rattle.parsing.specs.Digits.{digit, value_of, digit_where, number_from, number, LF, with_more, line_end, list}
+use Rattle.parsing.specs.Parsing.{Parsed, found, failed, further, literal}
+use Rattle.parsing.specs.Digits.{digit, value_of, digit_where, number_from, number, with_more, line_end, list}
 use Rattle.parsing.proofs.Digits.{digit_value}
 use Rattle.scan.specs.Inner.{nibble, hex_at, hexes_at, IsDigit}
 use Rattle.scan.proofs.Words.{here}

@@ -1,8 +1,8 @@
 -- Bytes that must stand there, compared one after another; and a byte's value as a digit. Assumes nothing.
-use Prim.Native.Nat.{ℕ, suc, ◌+◌, ◌-◌, ◌<◌, ◌≤◌}
-use mathlib.Core.Path.{◌≡◌, refl, sym, ap, ◌∙◌}
+use Prim.Native.Nat.{ℕ, ◌+◌, ◌-◌, ◌<◌, ◌≤◌}
+use mathlib.Core.Path.{◌≡◌, refl}
 use mathlib.Core.Bool.{Bool, true, false, cond, ◌&&◌}
-use mathlib.Core.List.{List, [], ◌∷◌}
+use mathlib.Core.List.{List, ◌∷◌}
 use native.Mathlib.Omega.{arith}
 use native.Mathlib.Numerals.{add-one}
 use lib.ListN.{length, get_or, drop, drop_of_length-le}
@@ -11,7 +11,7 @@ use lib.Dec.{ltb, leb, eqb}
 use borrow.Author.Tests.{ltb-true, ltb-false, eqb-true, eqb-false, eq-eqb, ne_eqb}
 use Rattle.answer.specs.Ahead.{Ahead}
 use Rattle.answer.proofs.Below.{both, all_below, below}
-use Rattle.parsing.specs.Parsing.{Parsed, found, failed, literal}
+use Rattle.parsing.specs.Parsing.{found, failed, literal}
 use Rattle.parsing.specs.Digits.{value_of}
 use Rattle.scan.specs.Inner.{IsDigit}
 

@@ -32,16 +32,14 @@ fn not_found(at: usize) -> Found
 pub fn word(s: &[u8], from: usize, bytes: &[u8]) -> Found
     ensures { passed_in s.now result ≡ literal bytes.now (drop from s.now) from }
 {
-    let mut i: usize = 0;
     let mut at = from;
-    while i < bytes.len() {
+    for b in bytes {
         if s.len() <= at {
             return not_found(at);
         }
-        if s[at] != bytes[i] {
+        if s[at] != *b {
             return not_found(at);
         }
-        i += 1;
         at += 1;
     }
     Found {
@@ -57,9 +55,10 @@ fn counted(v: u8, from: u8, to: u8, first: u8, b: u8) -> u8
     ensures { result ≡ cond (leb from b && leb b to) (b - from + first) v }
 {
     if from <= b && b <= to {
-        return b - from + first;
+        b - from + first
+    } else {
+        v
     }
-    v
 }
 
 // A byte's value as a digit, 16 where it is none.
@@ -68,31 +67,6 @@ pub fn digit_value(b: u8) -> u8
 {
     let decimal = counted(16, b'0', b'9', 0, b);
     counted(decimal, b'A', b'F', 10, b)
-}
-
-fn tens(k: usize) -> usize
-    requires { k < 7 }
-    ensures { result ≡ 10 ^ k }
-{
-    if k == 0 {
-        return 1;
-    }
-    if k == 1 {
-        return 10;
-    }
-    if k == 2 {
-        return 100;
-    }
-    if k == 3 {
-        return 1000;
-    }
-    if k == 4 {
-        return 10000;
-    }
-    if k == 5 {
-        return 100000;
-    }
-    1000000
 }
 
 fn digit_at(s: &[u8], at: usize) -> usize
@@ -106,19 +80,13 @@ fn digit_at(s: &[u8], at: usize) -> usize
 fn width_of(long: bool) -> usize
     ensures { result ≡ cond long 7 5 }
 {
-    if long {
-        return 7;
-    }
-    5
+    if long { 7 } else { 5 }
 }
 
 fn most_of(long: bool) -> usize
     ensures { result ≡ cond long 1048576 65536 }
 {
-    if long {
-        return 1048576;
-    }
-    65536
+    if long { 1048576 } else { 65536 }
 }
 
 // A number of five decimal digits, at most 65,536; a long one of seven, at most 1,048,576.
@@ -129,8 +97,7 @@ pub fn decimal(s: &[u8], from: usize, long: bool) -> Found
     let most = most_of(long);
     let mut at = from;
     let mut v: usize = 0;
-    let mut k = width_of(long);
-    while 0 < k {
+    for k in (0..width_of(long)).rev() {
         if s.len() <= at {
             return not_found(at);
         }
@@ -138,9 +105,8 @@ pub fn decimal(s: &[u8], from: usize, long: bool) -> Found
         if 9 < d {
             return not_found(at);
         }
-        k -= 1;
         let next = v * 10 + d;
-        if most < next * tens(k) {
+        if most < next * 10usize.pow(k as u32) {
             return not_found(at);
         }
         v = next;
@@ -187,14 +153,12 @@ fn digits_end(s: &[u8], from: usize, to: usize) -> usize
     ensures { (from ≤ result) × (result ≤ to) × Ahead IsDigit s.now from (result - from)
         × (result < to → 16 ≤ value_of (get_or s.now result 0)) }
 {
-    let mut at = past_digits(s, from, to);
-    while at < to {
+    for at in past_digits(s, from, to)..to {
         if 16 <= digit_at(s, at) {
             return at;
         }
-        at += 1;
     }
-    at
+    to
 }
 
 // The place that n groups of k bytes lead to, or the end of the text if that comes first.
@@ -240,21 +204,12 @@ fn line_of(s: &[u8], from: usize, k: usize, least: usize, most: usize) -> Found
     }
 }
 
-fn smaller(a: usize, b: usize) -> usize
-    ensures { result ≡ min a b }
-{
-    if a < b {
-        return a;
-    }
-    b
-}
-
 // A line of bytes, at least and at most so many.
 pub fn bytes_line(s: &[u8], from: usize, least: usize, most: usize) -> Found
     ensures { (numbers_in 2 from s.now result ≡ list 2 least most (drop from s.now) from)
         × Spans 2 0 most from s.now result }
 {
-    line_of(s, from, 2, smaller(least, most), most)
+    line_of(s, from, 2, least.min(most), most)
 }
 
 // A line of so many words.

@@ -15,7 +15,7 @@ use Rattle.utf7.specs.Lines.{line_end, LinesClosed}
 use Rattle.utf7.specs.declared.Style.{Style}
 use Rattle.utf7.specs.declared.Style.TheVariants.{Header, Body, Name}
 use Rattle.bits.specs.Bits.{bits_of}
-use Rattle.utf7.proofs.Sets.{own-direct, mail-sign, mail-last}
+use Rattle.utf7.proofs.Sets.{own-direct, mail-sign}
 use Rattle.utf7.proofs.Round.{Good, AllGood, shifted-units, xs, xs-below, self-walk, piece-walk, pieces-good}
 
 -- bytes that end no line

@@ -14,7 +14,7 @@ use Rattle.bits.specs.Bits.{number, groups, full, filler}
 use Rattle.bits.proofs.Bits.{number_append, zeros-number}
 use Rattle.bits.proofs.Groups.{length-bits_of, length-groups, length-filler, full-more, full-few}
 use Rattle.alphabet.specs.Letters.{letter_of}
-use Rattle.utf7.specs.Sets.{sign_of, last_of, own}
+use Rattle.utf7.specs.Sets.{sign_of, own}
 use Rattle.utf7.specs.Writing.{IsUnit, Piece, self, sign, stretch, extend, pieces, letters, spell, spell_all, writing, first_over}
 use Rattle.utf7.specs.declared.Style.{Style}
 

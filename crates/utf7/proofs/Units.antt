@@ -1,8 +1,8 @@
 -- The bytes of a run's units, by any rule that has runs: UTF-7's and that of mailbox names. Assumes nothing.
-use Prim.Native.Nat.{ℕ, zero, suc, ◌+◌, ◌-◌, ◌*◌, ◌/◌, ◌<◌, ◌≤◌}
-use mathlib.Core.Path.{◌≡◌, refl}
+use Prim.Native.Nat.{ℕ, zero, suc, ◌+◌, ◌*◌, ◌/◌, ◌<◌, ◌≤◌}
+use mathlib.Core.Path.{◌≡◌}
 use mathlib.Core.Bool.{Bool, true}
-use mathlib.Core.List.{List, [], ◌∷◌, ◌++◌}
+use mathlib.Core.List.{List, [], ◌++◌}
 use native.Mathlib.Omega.{arith}
 use native.Mathlib.Nat.{zero-add}
 use lib.ListN.{length, get_or, drop, length-append, length-drop}
@@ -11,7 +11,7 @@ use Rattle.bits.specs.Bits.{bits}
 use Rattle.bits.proofs.Bits.{length-bits}
 use Rattle.alphabet.specs.Letters.{value_of, set_b}
 use Rattle.reading.specs.Reading.{Does, give, go, bad, Rule}
-use Rattle.reading.specs.Spans.{Span, up_to, marked_as, no_mark, Marking, marked_from, marked_in}
+use Rattle.reading.specs.Spans.{Span, up_to, no_mark, Marking, marked_from, marked_in}
 use Rattle.reading.specs.declared.Marked.{Marked}
 use Rattle.reading.proofs.Spans.{LeadDoes, marked-walk}
 use Rattle.reading.proofs.Walk.{Walk, stay, gives, goes}

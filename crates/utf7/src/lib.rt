@@ -178,12 +178,10 @@ fn first_over_from(cells: &[u32], from: usize) -> usize
     requires { (from ≤ length cells.now) × (from + first_over (drop from cells.now) ≡ first_over cells.now) }
     ensures { result ≡ first_over cells.now }
 {
-    let mut i = from;
-    while i < cells.len() {
+    for i in from..cells.len() {
         if 65535 < cells[i] {
             return i;
         }
-        i += 1;
     }
-    i
+    cells.len()
 }

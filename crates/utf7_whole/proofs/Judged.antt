@@ -1,16 +1,16 @@
 -- A text judged a token at a time: what each kind adds. Assumes nothing.
-use Prim.Native.Nat.{ℕ, ◌+◌, ◌-◌, ◌*◌, ◌/◌, ◌<◌, ◌≤◌}
-use mathlib.Core.Path.{◌≡◌, refl, ◌∙◌}
+use Prim.Native.Nat.{ℕ, ◌+◌, ◌-◌, ◌*◌, ◌/◌}
+use mathlib.Core.Path.{◌≡◌, ◌∙◌}
 use mathlib.Core.List.{List}
 use native.Mathlib.Omega.{arith}
 use lib.ListN.{length, get_or}
 use lib.Seq.{slice, length-slice}
-use Rattle.alphabet.specs.Letters.{set_b, slash}
+use Rattle.alphabet.specs.Letters.{slash}
 use Rattle.reading.proofs.Laws.{Left}
 use Rattle.reading.proofs.Strides.{left-stride}
 use Rattle.utf7.specs.Sets.{direct}
 use Rattle.utf7.specs.Rule.{outside, utf7}
-use Rattle.utf7_whole.specs.Quick.{Span, Run, One, units_between, past}
+use Rattle.utf7_whole.specs.Quick.{Span, Run, One, past}
 use Rattle.utf7_whole.proofs.Tokens.{length-units, some_at, direct-stride, sign-stride, run-stride}
 use Rattle.utf7_whole.proofs.Buffers.{slash-dash, one-run, one-units, one-past}
 

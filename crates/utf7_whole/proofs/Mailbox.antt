@@ -1,5 +1,5 @@
 -- Mailbox names read a token at a time: what each kind of token reads as, and what it lays into an output. Assumes nothing.
-use Prim.Native.Nat.{ℕ, zero, suc, ◌+◌, ◌-◌, ◌<◌, ◌≤◌}
+use Prim.Native.Nat.{ℕ, suc, ◌+◌, ◌-◌, ◌<◌, ◌≤◌}
 use mathlib.Core.Path.{◌≡◌, refl, sym, ap, ◌∙◌}
 use mathlib.Core.Bool.{Bool, true, false, ◌&&◌, ◌||◌, and-true, false≢true}
 use mathlib.Core.List.{List, [], ◌∷◌, ◌++◌, append-nil}
@@ -12,7 +12,7 @@ use borrow.Author.Tests.{ltb-true, eqb-true, eqb-false, ne_eqb}
 use Rattle.answer.specs.Lists.{Each}
 use Rattle.answer.specs.Output.{filled}
 use Rattle.answer.proofs.Below.{both}
-use Rattle.answer.proofs.Laid.{Laid, laid_none, laid_one, laid_on}
+use Rattle.answer.proofs.Laid.{Laid, laid_one, laid_on}
 use Rattle.bits.specs.Bits.{all_zero, left_over}
 use Rattle.alphabet.specs.Letters.{value_of, set_b, comma}
 use Rattle.reading.specs.Reading.{give, go, read_from, reading}
@@ -25,7 +25,7 @@ use Rattle.utf7.specs.Rule.{may_end}
 use Rattle.utf7.specs.declared.Style.TheVariants.{Name}
 use Rattle.mailbox.specs.Rule.{outside, opening, run, byte_does, mailbox}
 use Rattle.mailbox.proofs.Round.{Other, self-given, sign-opens, sign-closes, run-closes, whole_run}
-use Rattle.utf7_whole.specs.Quick.{Padded, FilledBy, Span, Run, One, Went, bits_in, units_between}
+use Rattle.utf7_whole.specs.Quick.{Padded, Span, Run, One, bits_in, units_between}
 use Rattle.utf7_whole.specs.Mailbox.{Goes, Puts, Stands, Holds, Matches}
 use Rattle.utf7_whole.specs.declared.names.Stand.{Stand}
 use Rattle.utf7_whole.proofs.Tokens.{span-each, slice-rest, some_at, each-by, at-cons}

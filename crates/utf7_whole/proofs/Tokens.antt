@@ -1,7 +1,7 @@
 -- What whole stretches and runs read as, and the bits of runs. Assumes nothing.
 use Prim.Native.Nat.{ℕ, zero, suc, ◌+◌, ◌-◌, ◌*◌, ◌/◌, ◌%◌, ◌^◌, ◌<◌, ◌≤◌}
 use mathlib.Core.Path.{◌≡◌, refl, sym, ap, ◌∙◌}
-use mathlib.Core.Bool.{Bool, true, false, cond, ◌&&◌, ◌||◌, not, false≢true}
+use mathlib.Core.Bool.{Bool, true, false, cond, ◌&&◌, false≢true}
 use mathlib.Core.List.{List, [], ◌∷◌, ◌++◌, append_assoc, append-nil, map}
 use native.Mathlib.Omega.{arith}
 use native.Mathlib.Nat.{mod-eq_of_lt, add-zero}
@@ -20,7 +20,7 @@ use Rattle.alphabet.specs.Letters.{value_of, set_b, slash}
 use Rattle.reading.specs.Reading.{go, read_from}
 use Rattle.reading.proofs.Walk.{Walk, stay, gives}
 use Rattle.reading.proofs.Strides.{Stride, stride-go, stride_on, stride-as, stride-to, stride-walk}
-use Rattle.utf7.specs.Sets.{alphanumeric, set_d, set_o, direct}
+use Rattle.utf7.specs.Sets.{direct}
 use Rattle.utf7.specs.Rule.{outside, run, may_end, end_does, low_does, byte_does, ends_in, utf7}
 use Rattle.utf7.specs.Writing.{sign, spell}
 use Rattle.utf7.specs.declared.Style.TheVariants.{Body}

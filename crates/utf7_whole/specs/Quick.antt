@@ -134,8 +134,3 @@ pub record Agrees (s cells : List ℕ) (at n : ℕ) : Type 0 where
   pub few : n ≤ at
   pub inside : n ≤ length cells
   pub so : gave (read_from utf7 (drop at s) at outside) (drop n cells) ≡ reads_as utf7 s cells
-
--- and what comparing found: so far the same, or another cell
-pub record Compared (s cells : List ℕ) (at n : ℕ) (same : Bool) : Type 0 where
-  pub agrees : same ≡ true → Agrees s cells at n
-  pub differs : same ≡ false → false ≡ reads_as utf7 s cells

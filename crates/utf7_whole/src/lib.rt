@@ -4,7 +4,7 @@
 pub mod names;
 mod quick;
 
-ghost use Rattle.std.specs.Prelude.{◌≡◌, ℕ, ◌≤◌, length, get_or, take};
+ghost use Rattle.std.specs.Prelude.{◌≡◌, ℕ, ◌<◌, ◌≤◌, ◌^◌, length, get_or, take};
 ghost use Rattle.answer.specs.Answer.{in_numbers, limit};
 ghost use Rattle.answer.specs.Output.{leaves, filled};
 ghost use Rattle.reading.specs.Reading.{verdict_of, reading, read_into};
@@ -22,11 +22,7 @@ fn pad(text: &[u8], room: &mut [u8])
     requires by_index { (i : ℕ) → get_or room.old i 0 ≡ 0 }
     ensures { Padded text.now room.new }
 {
-    let mut k: usize = 0;
-    while k < text.len() {
-        room[k] = text[k];
-        k += 1;
-    }
+    room[..text.len()].copy_from_slice(text);
 }
 
 // Reads a text, which is lent with zeros behind it too, into a buffer that has a place for every cell. The cells stand
@@ -38,27 +34,20 @@ fn decode(text: &[u8], room: &[u8], out: &mut [u32]) -> Answer
     ensures out_after { take (length (reading utf7 text.now).cells) out.new ≡ (reading utf7 text.now).cells }
 {
     let reached = quick::fill(room, out);
-    let mut at = reached.at;
     let mut n = reached.n;
     let mut st = State::Outside;
-    while at < text.len() {
+    for at in reached.at..text.len() {
         match utf7_read::byte_does(st, text[at]) {
             Move::Give(value, state) => {
                 out[n] = value;
                 st = state;
                 n += 1;
-                at += 1;
             }
-            Move::Go(state) => {
-                st = state;
-                at += 1;
-            }
-            Move::Bad(why) => {
-                return Answer::Refused(why, at);
-            }
+            Move::Go(state) => st = state,
+            Move::Bad(why) => return Answer::Refused(why, at),
         }
     }
-    utf7_read::ends_in(at, n, st)
+    utf7_read::ends_in(text.len(), n, st)
 }
 
 // The first n cells go to the front of the output.
@@ -67,11 +56,7 @@ fn copy(cells: &[u32], n: usize, out: &mut [u32])
     requires n_in_bounds_2 { n ≤ length out.old }
     ensures { out.new ≡ filled (take n cells.now) out.old }
 {
-    let mut k: usize = 0;
-    while k < n {
-        out[k] = cells[k];
-        k += 1;
-    }
+    out[..n].copy_from_slice(&cells[..n]);
 }
 
 // Reads a text by way of a room of zeros and a buffer that have a place for every byte. The whole text is judged before
@@ -104,26 +89,19 @@ fn judge(text: &[u8]) -> Answer
     ensures { in_numbers result ≡ verdict_of (reading utf7 text.now) }
 {
     let reached = quick::judge(text);
-    let mut at = reached.at;
     let mut n = reached.n;
     let mut st = State::Outside;
-    while at < text.len() {
+    for at in reached.at..text.len() {
         match utf7_read::byte_does(st, text[at]) {
             Move::Give(_, state) => {
                 st = state;
                 n += 1;
-                at += 1;
             }
-            Move::Go(state) => {
-                st = state;
-                at += 1;
-            }
-            Move::Bad(fault) => {
-                return Answer::Refused(fault, at);
-            }
+            Move::Go(state) => st = state,
+            Move::Bad(fault) => return Answer::Refused(fault, at),
         }
     }
-    utf7_read::ends_in(at, n, st)
+    utf7_read::ends_in(text.len(), n, st)
 }
 
 // Reads a text of any length straight into the output: judged first, then read once more.
@@ -146,41 +124,14 @@ fn straight(text: &[u8], out: &mut [u32]) -> Answer
     }
 }
 
-// A text of at most so many bytes, by way of a room and a buffer on the stack that have places for 80 more, so that
-// whole blocks reach its end. Each size is a function, so that LLVM lays their buffers over each other.
-fn through_64(text: &[u8], out: &mut [u32]) -> Answer
-    requires { length text.now ≤ 64 }
+// By way of a room and a buffer of N places on the stack: 80 more than the text has bytes, so that whole blocks reach its
+// end. Each size is a function, so that LLVM lays their buffers over each other.
+fn through_in<const N: usize>(text: &[u8], out: &mut [u32]) -> Answer
+    requires { (length text.now ≤ limit) × (length text.now ≤ N) × (N < 2 ^ 16) }
     ensures { leaves result out.new ≡ read_into utf7 text.now out.old }
 {
-    let mut room = [0u8; 144];
-    let mut cells = [0u32; 144];
-    through(text, &mut room, &mut cells, out)
-}
-
-fn through_256(text: &[u8], out: &mut [u32]) -> Answer
-    requires { length text.now ≤ 256 }
-    ensures { leaves result out.new ≡ read_into utf7 text.now out.old }
-{
-    let mut room = [0u8; 336];
-    let mut cells = [0u32; 336];
-    through(text, &mut room, &mut cells, out)
-}
-
-fn through_1024(text: &[u8], out: &mut [u32]) -> Answer
-    requires { length text.now ≤ 1024 }
-    ensures { leaves result out.new ≡ read_into utf7 text.now out.old }
-{
-    let mut room = [0u8; 1104];
-    let mut cells = [0u32; 1104];
-    through(text, &mut room, &mut cells, out)
-}
-
-fn through_4096(text: &[u8], out: &mut [u32]) -> Answer
-    requires { length text.now ≤ 4096 }
-    ensures { leaves result out.new ≡ read_into utf7 text.now out.old }
-{
-    let mut room = [0u8; 4176];
-    let mut cells = [0u32; 4176];
+    let mut room = [0; N];
+    let mut cells = [0; N];
     through(text, &mut room, &mut cells, out)
 }
 
@@ -193,16 +144,16 @@ pub fn read(text: &[u8], out: &mut [u32]) -> Answer
         return answer::too_long();
     }
     if text.len() <= 64 {
-        return through_64(text, out);
+        return through_in::<144>(text, out);
     }
     if text.len() <= 256 {
-        return through_256(text, out);
+        return through_in::<336>(text, out);
     }
     if text.len() <= 1024 {
-        return through_1024(text, out);
+        return through_in::<1104>(text, out);
     }
     if text.len() <= 4096 {
-        return through_4096(text, out);
+        return through_in::<4176>(text, out);
     }
     straight(text, out)
 }
@@ -212,10 +163,9 @@ fn rest_reads_as(text: &[u8], cells: &[u32], from: usize, before: usize) -> bool
     requires { Agrees text.now cells.now from before }
     ensures { result ≡ reads_as utf7 text.now cells.now }
 {
-    let mut at = from;
     let mut n = before;
     let mut st = State::Outside;
-    while at < text.len() {
+    for at in from..text.len() {
         match utf7_read::byte_does(st, text[at]) {
             Move::Give(value, state) => {
                 if cells.len() <= n {
@@ -226,18 +176,12 @@ fn rest_reads_as(text: &[u8], cells: &[u32], from: usize, before: usize) -> bool
                 }
                 st = state;
                 n += 1;
-                at += 1;
             }
-            Move::Go(state) => {
-                st = state;
-                at += 1;
-            }
-            Move::Bad(_) => {
-                return false;
-            }
+            Move::Go(state) => st = state,
+            Move::Bad(_) => return false,
         }
     }
-    match utf7_read::ends_in(at, n, st) {
+    match utf7_read::ends_in(text.len(), n, st) {
         Answer::Accepted(_) => n == cells.len(),
         Answer::Refused(_, _) => false,
     }
@@ -247,9 +191,8 @@ fn rest_reads_as(text: &[u8], cells: &[u32], from: usize, before: usize) -> bool
 pub fn reads_as(text: &[u8], cells: &[u32]) -> bool
     ensures { result ≡ reads_as utf7 text.now cells.now }
 {
-    let found = quick::compare(text, cells);
-    if found.same {
-        return rest_reads_as(text, cells, found.at, found.n);
+    match quick::compare(text, cells) {
+        Some(found) => rest_reads_as(text, cells, found.at, found.n),
+        None => false,
     }
-    false
 }

@@ -1,5 +1,5 @@
 // Reading mailbox names: a whole text at a time, as UTF-7 is read.
-ghost use Rattle.std.specs.Prelude.{◌≡◌, false, ℕ, ◌<◌, ◌≤◌, ◌+◌, length, get_or, eqb};
+ghost use Rattle.std.specs.Prelude.{◌≡◌, false, ℕ, ◌<◌, ◌≤◌, ◌+◌, ◌^◌, length, get_or, eqb};
 ghost use Rattle.std.proofs.Math.Seq.{slice};
 ghost use Rattle.answer.specs.Answer.{in_numbers, limit};
 ghost use Rattle.answer.specs.Inner.{Laid};
@@ -67,10 +67,8 @@ fn has_printable(units: &[u32], from: usize, to: usize) -> bool
     ensures { result ≡ false → Others units.now from to }
 {
     let mut some = false;
-    let mut k = from;
-    while k < to {
+    for k in from..to {
         some = some | is_printable(units[k]);
-        k += 1;
     }
     some
 }
@@ -192,27 +190,20 @@ fn decode(text: &[u8], room: &[u8], from: Stand, out: &mut [u32]) -> Answer
     ensures all { All text.now out.new }
 {
     let reached = fill(room, from, out);
-    let mut at = reached.at;
     let mut n = reached.n;
     let mut st = State::Outside(reached.after);
-    while at < text.len() {
+    for at in reached.at..text.len() {
         match mailbox_read::byte_does(st, text[at]) {
             Move::Give(value, state) => {
                 out[n] = value;
                 st = state;
                 n += 1;
-                at += 1;
             }
-            Move::Go(state) => {
-                st = state;
-                at += 1;
-            }
-            Move::Bad(why) => {
-                return Answer::Refused(why, at);
-            }
+            Move::Go(state) => st = state,
+            Move::Bad(why) => return Answer::Refused(why, at),
         }
     }
-    mailbox_read::finish(at, n, st)
+    mailbox_read::finish(text.len(), n, st)
 }
 
 // Counts the cells of a text on from a place, by way of a small buffer.
@@ -243,26 +234,19 @@ fn measure(text: &[u8], from: Stand) -> Answer
     ensures { in_numbers result ≡ verdict_of (reading mailbox text.now) }
 {
     let reached = judge(text, from);
-    let mut at = reached.at;
     let mut n = reached.n;
     let mut st = State::Outside(reached.after);
-    while at < text.len() {
+    for at in reached.at..text.len() {
         match mailbox_read::byte_does(st, text[at]) {
             Move::Give(_, state) => {
                 st = state;
                 n += 1;
-                at += 1;
             }
-            Move::Go(state) => {
-                st = state;
-                at += 1;
-            }
-            Move::Bad(fault) => {
-                return Answer::Refused(fault, at);
-            }
+            Move::Go(state) => st = state,
+            Move::Bad(fault) => return Answer::Refused(fault, at),
         }
     }
-    mailbox_read::finish(at, n, st)
+    mailbox_read::finish(text.len(), n, st)
 }
 
 fn start() -> Stand
@@ -323,40 +307,13 @@ fn front(text: &[u8], cells: &mut [u32], out: &mut [u32]) -> Answer
     }
 }
 
-// A text of at most so many bytes, with places for 80 more in its room and its buffer, as UTF-7's.
-fn through_64(text: &[u8], out: &mut [u32]) -> Answer
-    requires { length text.now ≤ 64 }
+// By way of a room and a buffer of N places, as UTF-7's.
+fn through_in<const N: usize>(text: &[u8], out: &mut [u32]) -> Answer
+    requires { (length text.now ≤ limit) × (length text.now ≤ N) × (N < 2 ^ 16) }
     ensures { leaves result out.new ≡ read_into mailbox text.now out.old }
 {
-    let mut room = [0u8; 144];
-    let mut cells = [0u32; 144];
-    through(text, &mut room, &mut cells, out)
-}
-
-fn through_256(text: &[u8], out: &mut [u32]) -> Answer
-    requires { length text.now ≤ 256 }
-    ensures { leaves result out.new ≡ read_into mailbox text.now out.old }
-{
-    let mut room = [0u8; 336];
-    let mut cells = [0u32; 336];
-    through(text, &mut room, &mut cells, out)
-}
-
-fn through_1024(text: &[u8], out: &mut [u32]) -> Answer
-    requires { length text.now ≤ 1024 }
-    ensures { leaves result out.new ≡ read_into mailbox text.now out.old }
-{
-    let mut room = [0u8; 1104];
-    let mut cells = [0u32; 1104];
-    through(text, &mut room, &mut cells, out)
-}
-
-fn through_4096(text: &[u8], out: &mut [u32]) -> Answer
-    requires { length text.now ≤ 4096 }
-    ensures { leaves result out.new ≡ read_into mailbox text.now out.old }
-{
-    let mut room = [0u8; 4176];
-    let mut cells = [0u32; 4176];
+    let mut room = [0; N];
+    let mut cells = [0; N];
     through(text, &mut room, &mut cells, out)
 }
 
@@ -376,16 +333,16 @@ pub fn read(text: &[u8], out: &mut [u32]) -> Answer
         return answer::too_long();
     }
     if text.len() <= 64 {
-        return through_64(text, out);
+        return through_in::<144>(text, out);
     }
     if text.len() <= 256 {
-        return through_256(text, out);
+        return through_in::<336>(text, out);
     }
     if text.len() <= 1024 {
-        return through_1024(text, out);
+        return through_in::<1104>(text, out);
     }
     if text.len() <= 4096 {
-        return through_4096(text, out);
+        return through_in::<4176>(text, out);
     }
     front_4176(text, out)
 }
@@ -424,10 +381,9 @@ pub fn reads_as(text: &[u8], cells: &[u32]) -> bool
     ensures { result ≡ reads_as mailbox text.now cells.now }
 {
     let reached = follow(text, cells);
-    let mut at = reached.at;
     let mut n = reached.n;
     let mut st = State::Outside(reached.after);
-    while at < text.len() {
+    for at in reached.at..text.len() {
         match mailbox_read::byte_does(st, text[at]) {
             Move::Give(value, state) => {
                 if cells.len() <= n {
@@ -438,18 +394,12 @@ pub fn reads_as(text: &[u8], cells: &[u32]) -> bool
                 }
                 st = state;
                 n += 1;
-                at += 1;
             }
-            Move::Go(state) => {
-                st = state;
-                at += 1;
-            }
-            Move::Bad(_) => {
-                return false;
-            }
+            Move::Go(state) => st = state,
+            Move::Bad(_) => return false,
         }
     }
-    match mailbox_read::finish(at, n, st) {
+    match mailbox_read::finish(text.len(), n, st) {
         Answer::Accepted(_) => n == cells.len(),
         Answer::Refused(_, _) => false,
     }

@@ -3,16 +3,16 @@
 // they reach its end. The loop that goes byte by byte, which names every fault, reads on from there. Loops have a fixed
 // length and tests of bytes are eager, so that they compile to no branch; a block is written whole, and what lies
 // behind its cells is written over by the next ones.
-ghost use Rattle.std.specs.Prelude.{◌≡◌, true, cond, ◌&&◌, List, ℕ, ◌<◌, ◌≤◌, ◌+◌, ◌-◌, ◌*◌, ◌/◌, ◌%◌, length, get_or, take, drop, leb, ltb, eqb};
+ghost use Rattle.std.specs.Prelude.{◌≡◌, true, false, MatchOption, cond, ◌&&◌, List, ℕ, ◌<◌, ◌≤◌, ◌+◌, ◌-◌, ◌*◌, ◌/◌, ◌%◌, length, get_or, take, drop, leb, ltb, eqb};
 ghost use Rattle.std.proofs.Math.Seq.{slice};
 ghost use Rattle.answer.specs.Inner.{Laid};
 ghost use Rattle.alphabet.specs.Letters.{value_of, set_b, slash};
 ghost use Rattle.reading.specs.Inner.{Left};
-ghost use Rattle.reading.specs.Matching.{same_cells};
+ghost use Rattle.reading.specs.Matching.{same_cells, reads_as};
 ghost use Rattle.utf7.specs.Sets.{direct};
 ghost use Rattle.utf7.specs.Rule.{outside, utf7};
 ghost use Rattle.utf7_whole.specs.Quick.{Padded, Filled, Span, Ahead, Letters, Run, Values, One, Went};
-ghost use Rattle.utf7_whole.specs.Quick.{Last, Compared, three_of, units_of, lows, closes, stops, past};
+ghost use Rattle.utf7_whole.specs.Quick.{Last, Agrees, three_of, units_of, lows, closes, stops, past};
 ghost use Rattle.utf7_whole.specs.Quick.{Marked, Fills};
 
 // Where a loop stopped: outside a run, after n cells.
@@ -244,13 +244,11 @@ fn values_near(last: u8, text: &[u8], at: usize) -> [u8; 32]
     ensures { Values last text.now at result }
 {
     let mut x = [64u8; 32];
-    let mut k: usize = 0;
-    while k < 32 {
+    for k in 0..32 {
         if text.len() <= at + k {
             return x;
         }
         x[k] = value(last, text[at + k]);
-        k += 1;
     }
     x
 }
@@ -272,10 +270,8 @@ fn lay(y: [u32; 12], u: usize, out: &mut [u32], n: usize)
     requires { (length y ≡ 12) × (u ≤ 12) × (n + u ≤ length out.old) }
     ensures { Laid (take u y) n out.old out.new }
 {
-    let mut k: usize = 0;
-    while k < u {
+    for k in 0..u {
         out[n + k] = y[k];
-        k += 1;
     }
 }
 
@@ -491,15 +487,12 @@ fn letters_end(last: u8, text: &[u8], from: usize) -> usize
     requires { (0 < last) × (from ≤ length text.now) }
     ensures { Letters last text.now from result }
 {
-    let mut at = from;
-    while at < text.len() {
-        if value(last, text[at]) < 64 {
-            at += 1;
-        } else {
+    for at in from..text.len() {
+        if 64 <= value(last, text[at]) {
             return at;
         }
     }
-    at
+    text.len()
 }
 
 // A run may end behind so many letters, of which this is the last.
@@ -626,14 +619,6 @@ pub fn judge(text: &[u8]) -> Reached
     Reached { at, n }
 }
 
-// How far a text and cells were compared, outside a run, and whether they were the same.
-#[derive(Clone, Copy)]
-pub struct Found {
-    pub at: usize,
-    pub n: usize,
-    pub same: bool,
-}
-
 // The first n cells of a buffer are those of a list from a place on. Each is compared, so that it compiles to no
 // branch.
 pub fn is_same(cells: &[u32], n: usize, list: &[u32], from: usize) -> bool
@@ -641,17 +626,15 @@ pub fn is_same(cells: &[u32], n: usize, list: &[u32], from: usize) -> bool
     ensures { result ≡ same_cells (take n cells.now) (take n (drop from list.now)) }
 {
     let mut same = true;
-    let mut k: usize = 0;
-    while k < n {
+    for k in 0..n {
         same = same & (cells[k] == list[from + k]);
-        k += 1;
     }
     same
 }
 
-// Compares a text with cells, as many at a time as a buffer takes.
-pub fn compare(text: &[u8], cells: &[u32]) -> Found
-    ensures { Compared text.now cells.now result.at result.n result.same }
+// Compares a text with cells, as many at a time as a buffer takes: how far they were the same, outside a run, or nothing.
+pub fn compare(text: &[u8], cells: &[u32]) -> Option<Reached>
+    ensures { MatchOption result (false ≡ reads_as utf7 text.now cells.now) (λ r. Agrees text.now cells.now r.at r.n) }
 {
     let mut buffer = [0u32; 1088];
     let mut at: usize = 0;
@@ -661,17 +644,17 @@ pub fn compare(text: &[u8], cells: &[u32]) -> Found
         let to = r.at;
         let m = r.n;
         if to == 0 {
-            return Found { at, n, same: true };
+            return Some(Reached { at, n });
         }
         if cells.len() - n < m {
-            return Found { at, n, same: false };
+            return None;
         }
         if is_same(&buffer, m, cells, n) {
             at += to;
             n += m;
         } else {
-            return Found { at, n, same: false };
+            return None;
         }
     }
-    Found { at, n, same: true }
+    Some(Reached { at, n })
 }

@@ -1,16 +1,16 @@
 -- Bytes told apart by choices, and blocks of units that are written as themselves. Assumes nothing.
 use Prim.Native.Nat.{ℕ, zero, suc, ◌+◌, ◌-◌, ◌/◌, ◌%◌, ◌^◌, ◌<◌, ◌≤◌}
 use mathlib.Core.Path.{◌≡◌, refl, sym, ap, ◌∙◌}
-use mathlib.Core.Bool.{Bool, true, false, cond, ◌&&◌, ◌||◌, not}
+use mathlib.Core.Bool.{Bool, true, false, cond, ◌&&◌}
 use mathlib.Core.List.{List, ◌∷◌, ◌++◌}
 use native.Mathlib.Omega.{arith}
 use native.Mathlib.Nat.{add-zero, zero-add}
 use native.Mathlib.Numerals.{add-one}
 use lib.ListN.{length, get_or, take, drop, set, length-drop}
 use lib.Seq.{paste, paste-suc, length-paste, length-take-le, drop-cons, get_or-take, get_or-drop, get_or-set_same, get_or-set_other, ext_get_or}
-use lib.Dec.{ltb, leb, eqb}
+use lib.Dec.{ltb, eqb}
 use borrow.Author.Tests.{ltb-true, ltb-false, lt-ltb, eqb-true, eqb-false}
-use Rattle.answer.proofs.Below.{all_below, below, same, same-eq}
+use Rattle.answer.proofs.Below.{all_below, below}
 use Rattle.alphabet.specs.Letters.{within}
 use Rattle.utf7.specs.Sets.{alphanumeric, set_d, set_o, direct, own}
 use Rattle.utf7.specs.Writing.{pieces, spell, spell_all, writing}

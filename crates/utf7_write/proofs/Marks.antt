@@ -7,9 +7,9 @@ use mathlib.Core.List.{List, [], ◌∷◌, ◌++◌, append_assoc}
 use native.Mathlib.Omega.{arith}
 use native.Mathlib.Nat.{zero-add, add-zero}
 use native.Mathlib.Numerals.{add-one}
-use lib.ListN.{length, get_or, take, drop, set, length-take, length-drop, get_or-append}
+use lib.ListN.{length, get_or, take, drop, set, length-drop, get_or-append}
 use lib.Seq.{paste, length-take-le, drop-cons, get_or-take, get_or-drop, get_or-set_same, get_or-set_other, get_or-append-add, ext_get_or}
-use lib.Count.{count_trailing_zeros, under, trailing_of_zero}
+use lib.Count.{count_trailing_zeros, trailing_of_zero}
 use lib.Dec.{eqb, ltb}
 use borrow.Author.Tests.{eqb-true, eqb-false, ltb-true, ltb-false}
 use Rattle.answer.specs.Ahead.{Ahead}

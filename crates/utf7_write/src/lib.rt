@@ -164,10 +164,8 @@ fn turn_letters(last: u8, out: &mut [u8], from: usize, to: usize)
     requires { (from ≤ to) × (to ≤ length out.old) }
     ensures { out.new ≡ sets out.old from (map (letter_of last) (take (to - from) (drop from out.old))) }
 {
-    let mut k = from;
-    while k < to {
+    for k in from..to {
         out[k] = alphabet::letter_of(last, out[k] as u32);
-        k += 1;
     }
 }
 
@@ -377,10 +375,8 @@ fn turn_marks(style: Style, marks: &mut [u8], n: usize)
     requires { n ≤ length marks.old }
     ensures { Turned style marks.old marks.new n }
 {
-    let mut k: usize = 0;
-    while k < n {
+    for k in 0..n {
         marks[k] = mark_of(style, marks[k]);
-        k += 1;
     }
 }
 

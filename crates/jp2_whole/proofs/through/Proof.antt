@@ -14,7 +14,6 @@ use Rattle.reading.proofs.Laws.{Left, left-start}
 use Rattle.reading.proofs.Filling.{into-refused, into-count, into-short, into-filled}
 use Rattle.jp2.specs.Rule.{plain, state, jp2}
 use Rattle.jp2.proofs.Kept.{jp2-kept}
-use Rattle.jp2_whole.specs.Quick.{Filled}
 use Rattle.jp2_whole.proofs.Laying.{laying-left, laying-front, filled-behind, all-front}
 use Rattle.jp2_whole.proofs.through.Statement.{statement}
 use Rattle.jp2_whole.proofs.through.Tie as tie

@@ -1,6 +1,5 @@
 use mathlib.Core.Path.{◌≡◌, sym, ◌∙◌}
 use native.Mathlib.Omega.{arith}
-use borrow.Author.Tests.{not-false}
 use Rattle.jp2_write.proofs.Counting.{ready_size, ready_by}
 use borrow.Author.Rules.{rules}
 use Rattle.jp2_write.proofs.ready.Statement.{statement}

@@ -5,7 +5,6 @@ use mathlib.Core.List.{List}
 use native.Mathlib.Omega.{arith}
 use lib.ListN.{length, get_or}
 use borrow.Author.Rules.{rules}
-use borrow.Author.Tests.{not-false}
 use Rattle.answer.proofs.Once.{limit-small}
 use Rattle.jp2.specs.Table.{row_of_number}
 use Rattle.jp2.specs.Writable.{shift_set, writable, first_foreign}

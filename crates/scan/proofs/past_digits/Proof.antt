@@ -1,7 +1,6 @@
-use Prim.Native.Nat.{◌+◌, ◌-◌, ◌≤◌}
+use Prim.Native.Nat.{◌-◌, ◌≤◌}
 use mathlib.Core.Path.{◌≡◌}
 use native.Mathlib.Omega.{arith}
-use borrow.Author.Tests.{not-false}
 use Rattle.answer.specs.Ahead.{Ahead}
 use Rattle.scan.specs.Inner.{IsDigit}
 use Rattle.scan.proofs.Words.{digits-none, digits-block}

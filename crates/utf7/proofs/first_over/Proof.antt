@@ -2,7 +2,6 @@ use Prim.Native.Nat.{◌+◌, ◌-◌, ◌≤◌}
 use mathlib.Core.Path.{◌≡◌}
 use native.Mathlib.Omega.{arith}
 use lib.ListN.{length, drop}
-use borrow.Author.Tests.{not-false}
 use Rattle.utf7.specs.Writing.{first_over}
 use Rattle.utf7.proofs.Over.{over-block}
 use borrow.Author.Rules.{rules}

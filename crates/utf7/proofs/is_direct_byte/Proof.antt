@@ -1,5 +1,5 @@
 -- One computed test over all bytes. Assumes nothing.
-use Prim.Native.Nat.{ℕ, ◌<◌}
+use Prim.Native.Nat.{ℕ}
 use mathlib.Core.Path.{◌≡◌, refl, sym}
 use mathlib.Core.Bool.{Bool, true, ◌&&◌, ◌||◌, not}
 use lib.Dec.{leb, eqb}

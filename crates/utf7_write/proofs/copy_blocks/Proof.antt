@@ -3,7 +3,6 @@ use mathlib.Core.Path.{◌≡◌, ap, ◌∙◌}
 use native.Mathlib.Omega.{arith}
 use lib.ListN.{length, take, drop, length-drop}
 use lib.Seq.{paste, paste-zero, length-paste, drop-drop}
-use borrow.Author.Tests.{not-false}
 use Rattle.utf7.specs.declared.Style.TheVariants.{Body}
 use Rattle.answer.specs.Ahead.{Ahead}
 use Rattle.utf7_write.specs.Ahead.{Own}

@@ -1,7 +1,4 @@
-use mathlib.Core.Path.{◌≡◌, sym, ◌∙◌}
-use mathlib.Core.Bool.{Bool, true, false, cond}
-use Prim.Native.Nat.{ℕ}
-use native.Mathlib.Omega.{arith}
+use mathlib.Core.Path.{sym, ◌∙◌}
 use Rattle.utf7.specs.Sets.{own}
 use borrow.Author.Rules.{rules}
 use Rattle.utf7_write.proofs.Marks.{mark-zero, mark-one}

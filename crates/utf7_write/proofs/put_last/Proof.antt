@@ -1,13 +1,10 @@
-use Prim.Native.Nat.{◌+◌, ◌-◌, ◌*◌, ◌/◌, ◌%◌, ◌≤◌}
+use Prim.Native.Nat.{◌+◌, ◌-◌, ◌≤◌}
 use mathlib.Core.Path.{◌≡◌, refl}
-use mathlib.Core.List.{[], ◌∷◌, ◌++◌}
 use native.Mathlib.Omega.{arith}
-use lib.ListN.{length, get_or, drop, length-set}
-use lib.Seq.{sets, length-sets}
+use lib.ListN.{length, get_or, length-set}
+use lib.Seq.{length-sets}
 use Rattle.answer.proofs.Below.{each_at}
-use Rattle.bits.specs.Bits.{bits_of}
 use Rattle.utf7.specs.Writing.{IsUnit}
-use Rattle.utf7_write.specs.Values.{values, four_of}
 use Rattle.utf7_write.proofs.Values.{last_none, last_one, last-two}
 use Rattle.utf7_write.proofs.Several.{sets-three, sets-six}
 use borrow.Author.Rules.{rules}

@@ -2,7 +2,6 @@ use Prim.Native.Nat.{◌+◌, ◌-◌, ◌≤◌}
 use mathlib.Core.Path.{◌≡◌, refl, sym, ◌∙◌}
 use native.Mathlib.Omega.{arith}
 use lib.ListN.{length, drop}
-use borrow.Author.Tests.{not-true, not-false}
 use Rattle.utf7_write.specs.Stretch.{stretch_length}
 use Rattle.answer.specs.Ahead.{Ahead}
 use Rattle.utf7_write.specs.Ahead.{High}

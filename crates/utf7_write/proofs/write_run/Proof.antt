@@ -1,11 +1,10 @@
-use Prim.Native.Nat.{ℕ, ◌+◌, ◌-◌, ◌^◌, ◌<◌, ◌≤◌}
+use Prim.Native.Nat.{◌+◌, ◌-◌}
 use mathlib.Core.Path.{◌≡◌, refl}
-use mathlib.Core.List.{List}
 use native.Mathlib.Omega.{arith}
-use lib.ListN.{length, set, length-set}
-use lib.Seq.{sets, length-sets}
+use lib.ListN.{length, length-set}
+use lib.Seq.{length-sets}
 use Rattle.bits.specs.Bits.{bits_of}
-use Rattle.utf7.specs.Writing.{stretch, spell}
+use Rattle.utf7.specs.Writing.{spell}
 use Rattle.utf7.proofs.Sets.{sign-byte}
 use Rattle.utf7_write.specs.Values.{values}
 use Rattle.utf7_write.proofs.Runs.{values-room, close-room, turned, run-done}

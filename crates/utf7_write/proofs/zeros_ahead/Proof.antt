@@ -1,9 +1,7 @@
-use Prim.Native.Nat.{ℕ, ◌+◌, ◌-◌, ◌*◌, ◌/◌, ◌<◌, ◌≤◌}
-use mathlib.Core.Path.{◌≡◌, sym, ap, ◌∙◌}
-use mathlib.Core.List.{List}
+use Prim.Native.Nat.{ℕ, ◌+◌, ◌*◌, ◌≤◌}
+use mathlib.Core.Path.{◌≡◌, sym, ◌∙◌}
 use native.Mathlib.Omega.{arith}
-use lib.ListN.{length}
-use lib.Count.{count_trailing_zeros, trailing_le}
+use lib.Count.{trailing_le}
 use Rattle.answer.specs.Ahead.{Ahead}
 use Rattle.utf7_write.specs.Ahead.{Bit, word_at}
 use Rattle.utf7_write.proofs.Marks.{word-eight, before-first, before-second}

@@ -3,7 +3,6 @@ use mathlib.Core.Path.{◌≡◌, ◌∙◌}
 use native.Mathlib.Omega.{arith}
 use lib.ListN.{length}
 use borrow.Author.Rules.{rules}
-use borrow.Author.Tests.{not-false}
 use Rattle.jp2_whole.specs.Quick.{Matches}
 use Rattle.jp2_whole.proofs.Laying.{matches-start, matches-on}
 use Rattle.jp2_whole.proofs.quick.follow.Statement.{statement}

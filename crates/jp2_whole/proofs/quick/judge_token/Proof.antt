@@ -2,7 +2,6 @@ use Prim.Native.Nat.{◌+◌, ◌-◌, ◌/◌}
 use mathlib.Core.Path.{◌≡◌, sym, ◌∙◌}
 use native.Mathlib.Omega.{arith}
 use borrow.Author.Rules.{rules}
-use borrow.Author.Tests.{not-false}
 use Rattle.reading.proofs.Laws.{Left}
 use Rattle.reading.proofs.Strides.{left-stride, left-none}
 use Rattle.jp2.specs.Rule.{plain, state, jp2}

@@ -2,7 +2,6 @@ use Prim.Native.Nat.{◌+◌, ◌-◌}
 use native.Mathlib.Omega.{arith}
 use lib.ListN.{length}
 use borrow.Author.Rules.{rules}
-use borrow.Author.Tests.{not-false}
 use Rattle.jp2_whole.specs.Quick.{Pairs}
 use Rattle.jp2_whole.proofs.Tokens.{spanned-stay, spanned-on}
 use Rattle.jp2_whole.proofs.quick.pairs_end.Statement.{statement}

@@ -1,7 +1,6 @@
-use Prim.Native.Nat.{◌+◌, ◌<◌, ◌≤◌}
+use Prim.Native.Nat.{◌+◌}
 use native.Mathlib.Omega.{arith}
-use mathlib.Core.List.{[], ◌∷◌}
-use lib.ListN.{length, set, length-set}
+use lib.ListN.{set, length-set}
 use borrow.Author.Rules.{rules}
 use Rattle.jp2_whole.specs.Quick.{Laying}
 use Rattle.jp2_whole.proofs.Tokens.{shift-stride}

@@ -3,7 +3,6 @@ use mathlib.Core.Path.{◌≡◌, refl}
 use mathlib.Core.Logic.{inl, inr}
 use native.Mathlib.Omega.{arith}
 use lib.ListN.{length}
-use borrow.Author.Tests.{not-false}
 use Rattle.jp2_whole.specs.Quick.{Plains}
 use Rattle.jp2_whole.proofs.Tokens.{spanned-stay, spanned-on}
 use Rattle.jp2_whole.proofs.quick.stretch_end.Statement.{statement}

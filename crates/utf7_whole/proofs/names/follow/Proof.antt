@@ -1,9 +1,7 @@
 use Prim.Native.Nat.{◌+◌, ◌-◌, ◌≤◌}
 use mathlib.Core.Path.{◌≡◌, refl, sym, ◌∙◌}
-use mathlib.Core.Bool.{true}
 use native.Mathlib.Omega.{arith}
 use lib.ListN.{length}
-use borrow.Author.Rules.{rules}
 use Rattle.utf7_whole.specs.Mailbox.{Puts, Matches}
 use Rattle.utf7_whole.proofs.Buffers.{padded-self}
 use Rattle.utf7_whole.proofs.Mailbox.{matches-start, matches-on, puts-in}

@@ -2,7 +2,6 @@ use Prim.Native.Nat.{◌+◌, ◌-◌}
 use mathlib.Core.Path.{◌≡◌, refl, sym, ◌∙◌}
 use native.Mathlib.Omega.{arith}
 use lib.ListN.{length}
-use borrow.Author.Rules.{rules}
 use Rattle.utf7_whole.specs.Mailbox.{Stands}
 use Rattle.utf7_whole.proofs.Buffers.{padded-self}
 use Rattle.utf7_whole.proofs.Mailbox.{stands_on}

@@ -1,7 +1,6 @@
-use Prim.Native.Nat.{◌+◌, ◌≤◌}
+use Prim.Native.Nat.{◌+◌}
 use mathlib.Core.Path.{◌≡◌}
 use native.Mathlib.Omega.{arith}
-use lib.ListN.{length}
 use borrow.Author.Rules.{rules}
 use Rattle.utf7_whole.proofs.Buffers.{laid-slices}
 use Rattle.utf7_whole.proofs.names.put_plain.Statement.{statement}

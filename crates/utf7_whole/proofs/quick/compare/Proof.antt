@@ -1,13 +1,12 @@
 use Prim.Native.Nat.{◌+◌, ◌-◌, ◌≤◌}
-use mathlib.Core.Path.{◌≡◌, refl, sym, ap, ◌∙◌}
-use mathlib.Core.Bool.{false≢true}
+use mathlib.Core.Path.{◌≡◌, refl, sym, ◌∙◌}
 use native.Mathlib.Omega.{arith}
 use lib.ListN.{length, take, drop}
 use borrow.Author.Rules.{rules}
 use Rattle.reading.specs.Reading.{reading}
 use Rattle.reading.specs.Matching.{same_cells}
 use Rattle.utf7.specs.Rule.{outside, utf7}
-use Rattle.utf7_whole.specs.Quick.{Padded, Filled, Agrees}
+use Rattle.utf7_whole.specs.Quick.{Filled, Agrees}
 use Rattle.utf7_whole.proofs.Buffers.{padded-part, filled_in}
 use Rattle.utf7_whole.proofs.Agreed.{agrees_start, agrees-less, agrees-other, agrees_on}
 use Rattle.utf7_whole.proofs.quick.compare.Statement.{statement}
@@ -47,13 +46,13 @@ kept : (c : tie.After-fill-r invariant-loop decreases-loop) → length c.fill-r.
 kept c = c.fill-r.auto.out ∙ c.loop-at.invariant.1
 
 returns : tie.Need-returns-then-to-eq0 invariant-loop decreases-loop
-returns c = record { agrees = λ _. c.loop-at.invariant.0; differs = λ e. absurd (false≢true (sym e)) }
+returns c = c.loop-at.invariant.0
 
 sub-if2 : tie.Need-overflow_sub-cells invariant-loop decreases-loop
 sub-if2 c = c.loop-at.invariant.0.inside
 
 returns-2 : tie.Need-returns-then-cells-n invariant-loop decreases-loop
-returns-2 c = let f = c.before.before.before in record { agrees = λ e. absurd (false≢true e); differs = λ _. agrees-less f.loop-at.invariant.0 (part f).left c.if-cells-n.true }
+returns-2 c = let f = c.before.before.before in agrees-less f.loop-at.invariant.0 (part f).left c.if-cells-n.true
 
 room : (c : tie.Else-cells-n invariant-loop decreases-loop) → let f = c.before.before.before in f.loop-at.n + f.fill-r.result.n ≤ length f.args.cells.now
 room c = omega (arith, c.if-cells-n.false, c.loop-at.invariant.0.inside)
@@ -85,10 +84,10 @@ loop-again c = (agreed c, kept c.before.before.before.before.before.before)
 
 returns-3 : tie.Need-returns-else-is_same invariant-loop decreases-loop
 returns-3 c = let f = c.before.before.before.before.before.before in
-    record { agrees = λ e. absurd (false≢true e); differs = λ _. agrees-other f.loop-at.invariant.0 (part f).left (room c.before.before.before) (sym (same c.before) ∙ c.if-is_same.false) }
+    agrees-other f.loop-at.invariant.0 (part f).left (room c.before.before.before) (sym (same c.before) ∙ c.if-is_same.false)
 
 returns-4 : tie.Need-returns invariant-loop decreases-loop
-returns-4 c = record { agrees = λ _. c.loop-at.invariant.0; differs = λ e. absurd (false≢true (sym e)) }
+returns-4 c = c.loop-at.invariant.0
 
 pub compare_spec : {M : Type 1} → statement M
 compare_spec =

@@ -1,15 +1,11 @@
-use Prim.Native.Nat.{ℕ, ◌+◌, ◌-◌, ◌<◌, ◌≤◌}
-use mathlib.Core.Path.{◌≡◌, refl, ◌∙◌}
-use mathlib.Core.List.{List}
+use Prim.Native.Nat.{◌+◌, ◌-◌, ◌≤◌}
 use native.Mathlib.Omega.{arith}
-use lib.ListN.{length, length-set}
-use lib.Seq.{slice}
 use borrow.Author.Rules.{rules}
 use Rattle.marks.proofs.Counting.{ahead-le}
 use Rattle.reading.proofs.Laws.{Left}
 use Rattle.utf7.specs.Rule.{outside, utf7}
 use Rattle.utf7_whole.proofs.Buffers.{span-marked}
-use Rattle.utf7_whole.proofs.Judged.{left-direct, left_one, left_as}
+use Rattle.utf7_whole.proofs.Judged.{left-direct, left_one}
 use Rattle.utf7_whole.proofs.quick.judge_shorts.Statement.{statement}
 use Rattle.utf7_whole.proofs.quick.judge_shorts.Tie as tie
 

@@ -1,11 +1,7 @@
-use Prim.Native.Nat.{ℕ, ◌+◌, ◌-◌, ◌*◌, ◌/◌, ◌<◌, ◌≤◌}
-use mathlib.Core.Path.{◌≡◌, refl, ◌∙◌}
-use mathlib.Core.List.{List}
 use native.Mathlib.Omega.{arith}
-use lib.ListN.{length, length-set}
-use lib.Seq.{slice}
+use lib.ListN.{length-set}
 use borrow.Author.Rules.{rules}
-use Rattle.utf7_whole.specs.Quick.{Fills, past}
+use Rattle.utf7_whole.specs.Quick.{Fills}
 use Rattle.utf7_whole.proofs.Tokens.{past-on}
 use Rattle.utf7_whole.proofs.Buffers.{fills-none, fills-on, filled-kept, filled-sign, filled-run, filled-one}
 use Rattle.utf7_whole.proofs.quick.put_token.Statement.{statement}
