@@ -24,7 +24,6 @@ ghost use Rattle.bench_calls.specs.Saves.{page_of, saved_bench, cells_at};
 use answer::{Answer, Refusal};
 use bench_records::{Judged, Pass};
 use benches::{Bench, Benches, Edited};
-use editor::Mark;
 use ledger::{Asked, Page};
 // What a call gives back of the caller's bench, and the words then used.
 #[derive(Clone, Copy)]
@@ -99,7 +98,7 @@ fn accept(
     cells: &[u32],
     used: usize,
     standing: usize,
-    saved: Mark,
+    saved: Option<usize>,
     text: &mut [u32],
 ) -> Turned
     requires { (place + count ≤ b.length) × Filled b.length text.old

@@ -13,7 +13,6 @@ ghost use Rattle.bench_open.specs.Opens.{in_room, bench_of, refused_with, opened
 use answer::Answer;
 use benches::{Bench, Benches, Edited};
 use codec::Kind;
-use editor::Mark;
 use ledger::Page;
 
 // What a reading into no room answers, in a room of so many cells.
@@ -57,7 +56,7 @@ fn no_bench(kind: Kind) -> Bench
         opening: 0,
         length: 0,
         standing: 0,
-        saved: Mark::None,
+        saved: None,
     }
 }
 

@@ -12,8 +12,8 @@ use lib.Seq.{take_at, drop_at}
 use lib.Dec.{leb}
 use borrow.Author.Tests.{le-leb, leb-false, eq-eqb, le-ltb}
 use Rattle.answer.specs.Answer.{limit}
-use Rattle.editor.specs.declared.Mark.{Mark}
-use Rattle.editor.specs.declared.Mark.TheVariants.{None, At}
+use Rattle.std.specs.Prelude.{None, Some}
+use Rattle.editor.specs.Marks.{Mark}
 use Rattle.editor.specs.Ledger.{Step, weight_of}
 use Rattle.editor.specs.Records.{Entry, step_of, mark_fits}
 use Rattle.editor.specs.Editor.{Editor, with_text, with_mark, words_in, over}
@@ -41,7 +41,7 @@ weight-steps (x ∷ rest) = omega (arith, weight-steps rest)
 mark-within :
     (m : Mark) (es : List Entry) → mark_fits in_steps m (map step_of es) ≡ true → mark_within (length es) m ≡ true
 mark-within None es h = refl
-mark-within (At n) es h =
+mark-within (Some n) es h =
     by-test (leb n (length es)) (λ t. t)
     (λ t.
     let far : weight_of in_steps (map step_of es) < n =

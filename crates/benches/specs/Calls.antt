@@ -1,9 +1,8 @@
 -- Document 02, order 13: the calls of two benches, each refusal in the fixed order, and everything they leave.
-use Rattle.std.specs.Prelude.{ℕ, ◌+◌, false, cond, ◌||◌, List, []}
+use Rattle.std.specs.Prelude.{ℕ, ◌+◌, false, cond, ◌||◌, List, [], None}
 use Rattle.std.proofs.Math.Option.{Option, none, some}
 use Rattle.answer.specs.Answer.{numbered, too_long}
 use Rattle.codec.specs.declared.Kind.{Kind}
-use Rattle.editor.specs.declared.Mark.TheVariants.{None}
 use Rattle.editor.specs.Ledger as editor
 use Rattle.editor.specs.Editor.{overlong, output_of}
 use Rattle.editor.specs.Layout.{refusing, taken, Reply}

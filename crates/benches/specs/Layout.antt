@@ -1,7 +1,7 @@
 -- Document 02, order 13: each bench as a layout of one text being edited.
 use Rattle.std.specs.Prelude.{ℕ, ◌+◌, ◌-◌, Bool, ◌||◌, List, [], ◌∷◌, ◌++◌, reverse, length, take, drop}
 use Rattle.std.proofs.Math.Option.{Option, none, some}
-use Rattle.editor.specs.declared.Mark.{Mark}
+use Rattle.editor.specs.Marks.{Mark}
 use Rattle.editor.specs.Records.{Entry}
 use Rattle.editor.specs.Editor.{Editor, Space, over}
 use Rattle.editor.specs.Layout.{Layout}

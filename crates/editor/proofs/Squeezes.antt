@@ -6,8 +6,7 @@ use native.Mathlib.Nat.{zero-add}
 use native.Mathlib.Omega.{arith}
 use lib.ListN.{length, take, drop, length-append, length-drop, length-reverse, take-append-drop}
 use lib.Seq.{take_at, drop_at, take-length, drop-length}
-use Rattle.editor.specs.declared.Mark.{Mark}
-use Rattle.editor.specs.Marks.{folded_mark}
+use Rattle.editor.specs.Marks.{Mark, folded_mark}
 use Rattle.editor.specs.Ledger.{Step, Ledger, squeeze, accepted_call, weight_of, folded}
 use Rattle.editor.specs.Records.{Entry, step_of, text_before}
 use Rattle.editor.specs.Editor.{Editor, Space, oldest, later, folded_to, folding}

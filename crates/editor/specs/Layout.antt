@@ -2,8 +2,7 @@
 use Rattle.std.specs.Prelude.{ℕ, Bool, false, cond, ◌||◌, List, [], ◌∷◌, eqb}
 use Rattle.std.proofs.Math.Option.{Option, none, some}
 use Rattle.answer.specs.Answer.{Verdict, numbered, too_long}
-use Rattle.editor.specs.declared.Mark.{Mark}
-use Rattle.editor.specs.Marks.{unchanged_at}
+use Rattle.editor.specs.Marks.{Mark, unchanged_at}
 use Rattle.editor.specs.Ledger.{Step, Ledger, Call, fed}
 use Rattle.editor.specs.Records.{Entry}
 use Rattle.editor.specs.Editor.{Editor, Space, Change, stays, marks, moves, records, folds, Turn}

@@ -10,10 +10,10 @@ use lib.ListN.{length, length-append, length-map}
 use lib.Dec.{ltb, eqb}
 use borrow.Author.Tests.{ltb-false, ne_eqb}
 use Rattle.answer.specs.Answer.{Verdict, limit}
+use Rattle.std.specs.Prelude.{None, Some}
 use Rattle.answer.proofs.Below.{cond-case}
 use Rattle.codec.specs.declared.Kind.{Kind}
-use Rattle.editor.specs.declared.Mark.{Mark}
-use Rattle.editor.specs.declared.Mark.TheVariants.{None, At}
+use Rattle.editor.specs.Marks.{Mark}
 use Rattle.editor.specs.Ledger.{Ledger, opened, weight_of}
 use Rattle.editor.specs.Records.{Entry, step_of, mark_fits}
 use Rattle.editor.specs.Editor.{Editor, output_of}
@@ -60,7 +60,7 @@ mark-there :
     mark_in (mark_number m) ≡ m
 unfolding mark_in mark_number limit
 mark-there None es h few = refl
-mark-there (At n) es h few =
+mark-there (Some n) es h few =
     rw (ne_eqb n never
     (λ (e : n ≡ never).
     let far : weight_of in_steps (map step_of es) < n =

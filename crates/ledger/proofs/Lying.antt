@@ -11,7 +11,7 @@ use lib.ListN.{length, take, drop, length-append}
 use lib.Seq.{take_at, drop_at}
 use borrow.Author.Tests.{le-leb, le-ltb}
 use Rattle.answer.specs.Answer.{limit}
-use Rattle.editor.specs.declared.Mark.{Mark}
+use Rattle.editor.specs.Marks.{Mark}
 use Rattle.editor.specs.Ledger.{weight_of}
 use Rattle.editor.specs.Records.{step_of}
 use Rattle.editor.specs.Editor.{Editor, with_text, with_mark, words_in, over}

@@ -10,7 +10,7 @@ use lib.Seq.{take_at, drop_at, take-add, length-take-le}
 use lib.Dec.{leb, eqb}
 use borrow.Author.Tests.{le-leb, leb-true, eq-eqb, eqb-true}
 use Rattle.answer.proofs.Below.{both, cond-case}
-use Rattle.editor.specs.declared.Mark.{Mark}
+use Rattle.editor.specs.Marks.{Mark}
 use Rattle.editor.specs.Records.{step_of, mark_fits}
 use Rattle.ledger.specs.Words.{Entry, Parted, in_words, sizes, records_in, lengths_fit, reached, zeros}
 use Rattle.ledger.specs.Page.{State, framed, records}

@@ -1,7 +1,7 @@
 -- Document 01, "The page": a page with its buffers as a layout of one text being edited.
 use Rattle.std.specs.Prelude.{ℕ, ◌+◌, ◌-◌, ◌||◌, List, ◌++◌, length, take, drop}
 use Rattle.std.proofs.Math.Option.{Option, none, some}
-use Rattle.editor.specs.declared.Mark.{Mark}
+use Rattle.editor.specs.Marks.{Mark}
 use Rattle.editor.specs.Editor.{Editor, Space, over}
 use Rattle.editor.specs.Layout.{Layout}
 use Rattle.ledger.specs.Words.{Entry, Parted, words_of, in_words, size_of, sizes, pad}

@@ -1,9 +1,9 @@
 -- Soundness in two parts, the records before done and those after it, and a mark that may cut either: what the code
 -- computes. proofs/Parts.antt: it is the documents'.
 use Rattle.std.specs.Prelude.{ℕ, ◌-◌, Bool, true, cond, ◌&&◌, List, map, reverse, length, take, drop, leb, ltb, eqb}
+use Rattle.std.specs.Prelude.{None, Some}
 use Rattle.std.proofs.Math.Option.{Option, none, some}
-use Rattle.editor.specs.declared.Mark.{Mark}
-use Rattle.editor.specs.declared.Mark.TheVariants.{None, At}
+use Rattle.editor.specs.Marks.{Mark}
 use Rattle.editor.specs.Records.{step_of, ends_at}
 use Rattle.ledger.specs.Words.{Entry, Parted, in_words, records_in, reached, lengths_fit}
 use Rattle.ledger.specs.Page.{State, framed}
@@ -23,12 +23,12 @@ joined s (some es) (some fs) =
 -- the mark is of the words used
 abbrev pub mark_within : ℕ → Mark → Bool
 mark_within used None = true
-mark_within used (At n) = leb n used
+mark_within used (Some n) = leb n used
 
 -- the word at which a mark cuts those from one to another: its own if it is among them, else the first, which cuts none
 abbrev pub cut_in : Mark → ℕ → ℕ → ℕ
 cut_in None from to = from
-cut_in (At n) from to = cond (ltb n from) from (cond (ltb to n) from n)
+cut_in (Some n) from to = cond (ltb n from) from (cond (ltb to n) from n)
 
 -- records of which so many words are an end
 abbrev pub ends : List Entry → ℕ → Bool

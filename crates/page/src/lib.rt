@@ -3,14 +3,13 @@
 
 mod output;
 
-ghost use Rattle.std.specs.Prelude.{◌≡◌, ◌+◌, ◌-◌, ◌≤◌, ◌<◌, ◌^◌, [], ◌++◌, length, take, replicate};
+ghost use Rattle.std.specs.Prelude.{◌≡◌, ◌+◌, ◌-◌, ◌≤◌, ◌<◌, ◌^◌, [], ◌++◌, length, take, replicate, Some};
 ghost use Rattle.answer.specs.Answer.{limit, numbered};
 ghost use Rattle.answer.specs.declared.Answer.TheVariants.{Accepted};
 ghost use Rattle.answer.specs.Output as output;
 ghost use Rattle.records.specs.declared.Judged.TheVariants.{Sound};
 ghost use Rattle.records.specs.Walking.{judge_of};
 ghost use Rattle.ledger.specs.Words.{words_of, pad};
-ghost use Rattle.editor.specs.declared.Mark.TheVariants.{At};
 ghost use Rattle.editor.specs.Marks.{replaced_mark, unchanged_at};
 ghost use Rattle.ledger.specs.Page.{state_of, leaves, keeps, replies};
 ghost use Rattle.ledger.specs.Calls.{undo_of, redo_of, entry_at, replace_of, open_of, save_of, unchanged_of};
@@ -20,7 +19,6 @@ ghost use Rattle.page.specs.Outcomes.{edited_as, replace_fitting, replace_sound,
 
 use answer::{Answer, Refusal};
 use codec::Kind;
-use editor::Mark;
 use ledger::{Asked, Edited, Page};
 use records::Judged;
 
@@ -56,7 +54,7 @@ fn accept(
     cells: &[u32],
     used: usize,
     done: usize,
-    saved: Mark,
+    saved: Option<usize>,
     text: &mut [u32],
 ) -> Edited
     requires { (place + count ≤ page.length) × Filled page.length text.old × (page.length - count + length cells.now ≤ length text.old) }
@@ -217,16 +215,16 @@ fn put_record(
 }
 
 // The mark after a replace made while so many words were done.
-pub fn mark_left(mark: Mark, done: usize) -> Mark
+pub fn mark_left(mark: Option<usize>, done: usize) -> Option<usize>
     ensures { result ≡ replaced_mark done mark }
 {
-    let Mark::At(n) = mark else {
-        return Mark::None;
+    let Some(n) = mark else {
+        return None;
     };
     if done < n {
-        return Mark::None;
+        return None;
     }
-    Mark::At(n)
+    Some(n)
 }
 
 // 9, then 12; else the step is recorded and done.
@@ -319,7 +317,7 @@ pub fn replace(
 }
 
 // A page on which nothing was done.
-fn fresh(kind: Kind, size: usize, saved: Mark) -> Page
+fn fresh(kind: Kind, size: usize, saved: Option<usize>) -> Page
     ensures { result ≡ fresh_page kind size saved }
 {
     Page {
@@ -337,7 +335,7 @@ fn opened(kind: Kind, count: usize, text: &mut [u32], history: &mut [u32]) -> Ed
     ensures { leaves result text.new history.new
         ≡ record {
           verdict = numbered 0 count;
-          state = state_of (fresh_page kind count (At 0))
+          state = state_of (fresh_page kind count (Some 0))
               (pad (length text.old) (take count text.old)) (replicate (length history.old) 0);
           output = [];
         } }
@@ -346,7 +344,7 @@ fn opened(kind: Kind, count: usize, text: &mut [u32], history: &mut [u32]) -> Ed
     splice::clear_from(&mut *history, 0);
     Edited {
         answer: Answer::Accepted(count),
-        page: fresh(kind, count, Mark::At(0)),
+        page: fresh(kind, count, Some(0)),
     }
 }
 
@@ -355,7 +353,7 @@ pub fn open(kind: Kind, arrived: &[u8], text: &mut [u32], history: &mut [u32]) -
     ensures { leaves result text.new history.new
         ≡ open_of kind arrived.now text.old history.old }
 {
-    let none = fresh(kind, 0, Mark::None);
+    let none = fresh(kind, 0, None);
     if answer::over_limit(arrived.len()) {
         return refused(none, answer::too_long());
     }
@@ -402,7 +400,7 @@ fn set_mark(page: Page, answer: Answer) -> Edited
             length: page.length,
             used: page.used,
             done: page.done,
-            saved: Mark::At(page.done),
+            saved: Some(page.done),
         },
     }
 }
@@ -433,10 +431,10 @@ pub fn save(page: Page, text: &[u32], history: &[u32], arrived: &[u8], out: &mut
 }
 
 // Whether the mark is at the words done.
-fn is_marked(mark: Mark, done: usize) -> bool
+fn is_marked(mark: Option<usize>, done: usize) -> bool
     ensures { result ≡ unchanged_at done mark }
 {
-    let Mark::At(n) = mark else {
+    let Some(n) = mark else {
         return false;
     };
     n == done

@@ -11,11 +11,11 @@ use lib.Seq.{length-take-le, take-append_seam}
 use lib.Dec.{ltb, leb, eqb}
 use borrow.Author.Tests.{leb-true, ltb-false, eqb-true, le-ltb}
 use Rattle.answer.specs.Answer.{numbered, limit}
+use Rattle.std.specs.Prelude.{None, Some}
 use Rattle.answer.specs.Output as output
 use Rattle.answer.specs.Output.{deliver}
 use Rattle.answer.proofs.Below.{both, cond-case, each_take}
-use Rattle.editor.specs.declared.Mark.{Mark}
-use Rattle.editor.specs.declared.Mark.TheVariants.{None, At}
+use Rattle.editor.specs.Marks.{Mark}
 use Rattle.editor.specs.Ledger.{Step, weight_of}
 use Rattle.editor.specs.Records.{Entry, step_of, ends_at, mark_fits}
 use Rattle.ledger.specs.Words.{Parted, in_words, sizes, zeros, pad}
@@ -51,7 +51,7 @@ pub mark-within :
     (m : Mark) (es : List Entry) → mark_fits in_words m (map step_of es) ≡ true → sizes es ≤ limit →
     mark_within wide m
 mark-within None es h k = tt
-mark-within (At n) es h k = omega (arith, ends-below in_words (map step_of es) n h, weight-sizes es)
+mark-within (Some n) es h k = omega (arith, ends-below in_words (map step_of es) n h, weight-sizes es)
 
 -- the parts of a page's frame
 pub record Framed (s : State) : Type 0 where

@@ -5,7 +5,6 @@
 ghost use Rattle.std.specs.Prelude.{◌≡◌, max, ltb};
 ghost use Rattle.page_file.specs.File.{mark_number, greatest};
 
-use editor::Mark;
 use ledger::Page;
 
 pub fn greater(a: usize, b: usize) -> usize
@@ -17,10 +16,10 @@ pub fn greater(a: usize, b: usize) -> usize
     a
 }
 
-fn mark_number(mark: Mark) -> usize
+fn mark_number(mark: Option<usize>) -> usize
     ensures { result ≡ mark_number mark }
 {
-    let Mark::At(n) = mark else {
+    let Some(n) = mark else {
         return 0;
     };
     n

@@ -13,14 +13,14 @@ use lib.Seq.{sets, sets-eq, length-take-le}
 use lib.Dec.{lit≤}
 use borrow.Author.Tests.{lt-ltb, le-ltb}
 use Rattle.answer.specs.Answer.{numbered, in_numbers, too_long}
+use Rattle.std.specs.Prelude.{None, Some}
 use Rattle.answer.specs.declared.Answer.{Answer}
 use Rattle.answer.specs.declared.Answer.TheVariants.{Accepted, Refused}
 use Rattle.answer.specs.declared.Refusal.TheVariants.{NoRoom}
 use Rattle.answer.specs.Bytes.{bytes}
 use Rattle.answer.specs.Output.{Outcome, leaves, refusing, filled, deliver}
 use Rattle.codec.specs.declared.Kind.{Kind}
-use Rattle.editor.specs.declared.Mark.{Mark}
-use Rattle.editor.specs.declared.Mark.TheVariants.{None, At}
+use Rattle.editor.specs.Marks.{Mark}
 use Rattle.ledger.specs.declared.Page.{Page}
 use Rattle.ledger.specs.Words.{Parted}
 use Rattle.ledger.specs.Page.{State, text_in, records}

@@ -10,11 +10,11 @@ use lib.Seq.{drop-cons}
 use lib.Dec.{eqb, leb}
 use borrow.Author.Tests.{le-leb, lt-leb}
 use Rattle.answer.proofs.Below.{cond-case}
+use Rattle.std.specs.Prelude.{None, Some}
 use Rattle.answer.specs.Bytes.{bytes}
 use Rattle.codec.specs.declared.Kind.{Kind}
 use Rattle.codec.specs.declared.Kind.TheVariants.{Utf7Header, Utf7Body, Jp2}
-use Rattle.editor.specs.declared.Mark.{Mark}
-use Rattle.editor.specs.declared.Mark.TheVariants.{None, At}
+use Rattle.editor.specs.Marks.{Mark}
 use Rattle.parsing.specs.Parsing.{Parsed, found, failed, Parser, on_parsed, done, either, literal, whole, broken}
 use Rattle.parsing.specs.Parsing.{wholly}
 use Rattle.parsing.specs.Digits.{number, list, LF}

@@ -17,7 +17,7 @@ use Rattle.page_read.specs.declared.lines.Head.{Head}
 use Rattle.page_read.specs.declared.lines.Listed.{Listed}
 use Rattle.page_read.specs.declared.lines.FoundMark.{FoundMark}
 use Rattle.page_read.specs.declared.lines.Plan.{Plan}
-use Rattle.editor.specs.declared.Mark.{Mark}
+use Rattle.editor.specs.Marks.{Mark}
 
 -- kinds by number
 abbrev pub kind_of : ℕ → Kind

@@ -10,7 +10,6 @@ ghost use Rattle.scan.specs.Inner.{hexes_at};
 ghost use Rattle.page_read.specs.Inner.{is_some, Frames};
 
 use crate::hex;
-use editor::Mark;
 use ledger::Page;
 use records::Walk;
 
@@ -75,7 +74,7 @@ fn walk_marked(
     to: usize,
     start: usize,
     room: usize,
-    mark: Mark,
+    mark: Option<usize>,
 ) -> Walk
     requires { (from ≤ to) × (to ≤ n) × (n ≤ limit) × (base + n * 8 ≤ length file.now) × (start ≤ room)
         × (room ≤ limit) }

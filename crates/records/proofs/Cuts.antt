@@ -12,8 +12,8 @@ use lib.Seq.{slice, take_at, drop_at, take-take, drop-drop, length-take-le}
 use lib.Dec.{leb, ltb, eqb}
 use borrow.Author.Tests.{leb-true, eqb-true, ltb-false}
 use Rattle.answer.proofs.Below.{both, cond-case}
-use Rattle.editor.specs.declared.Mark.{Mark}
-use Rattle.editor.specs.declared.Mark.TheVariants.{None, At}
+use Rattle.std.specs.Prelude.{None, Some}
+use Rattle.editor.specs.Marks.{Mark}
 use Rattle.editor.specs.Ledger.{weight_of}
 use Rattle.editor.specs.Records.{step_of, ends_at}
 use Rattle.editor.proofs.Marks.{ends-zero, ends-beyond}
@@ -188,7 +188,7 @@ walk-fits room at len last n l ws h e = led-fits room at len last n l (records_i
 -- a mark cuts words between the first and the last of them
 pub cut-between : (m : Mark) (from to : ℕ) → from ≤ to → (from ≤ cut_in m from to) × (cut_in m from to ≤ to)
 cut-between None from to h = (omega arith, h)
-cut-between (At n) from to h =
+cut-between (Some n) from to h =
     cond-case (λ (k : ℕ). (from ≤ k) × (k ≤ to)) (ltb n from) (λ _. (omega arith, h))
     (λ q. cond-case (λ (k : ℕ). (from ≤ k) × (k ≤ to)) (ltb to n) (λ _. (omega arith, h))
     (λ r. (ltb-false n from q, ltb-false to n r)))

@@ -10,7 +10,6 @@ ghost use Rattle.ledger.specs.Parts.{mark_within, cut_in, bounded};
 ghost use Rattle.records.specs.Walking.{walk_in, walk_cut, walk_from, unsound, judged_as, judge_of};
 
 use answer::{Answer, Refusal};
-use editor::Mark;
 use ledger::Page;
 
 // Where records one after another lead: the length reached, and the word where the last of them begins. Or they do not fit.
@@ -174,10 +173,10 @@ fn walk_records(
 }
 
 // The word at which the mark cuts those from one to another: its own if it is among them, else the first.
-pub fn cut_in(mark: Mark, from: usize, to: usize) -> usize
+pub fn cut_in(mark: Option<usize>, from: usize, to: usize) -> usize
     ensures { result ≡ cut_in mark from to }
 {
-    let Mark::At(n) = mark else {
+    let Some(n) = mark else {
         return from;
     };
     if n < from {
@@ -196,7 +195,7 @@ fn walk_marked(
     to: usize,
     start: usize,
     room: usize,
-    mark: Mark,
+    mark: Option<usize>,
 ) -> Walk
     requires { (from ≤ to) × (to ≤ length history.now) × (length history.now ≤ limit) × (start ≤ room) × (room ≤ limit) }
     ensures { result ≡ walk_cut room from start from (cut_in mark from to - from) (slice from to history.now) }
@@ -210,10 +209,10 @@ fn walk_marked(
 }
 
 // Whether the mark is of the words used.
-pub fn mark_within(mark: Mark, used: usize) -> bool
+pub fn mark_within(mark: Option<usize>, used: usize) -> bool
     ensures { result ≡ mark_within used mark }
 {
-    let Mark::At(n) = mark else {
+    let Some(n) = mark else {
         return true;
     };
     n <= used

@@ -18,7 +18,6 @@ ghost use Rattle.squeeze.specs.Tracing.{cells_in, Follows};
 ghost use Rattle.squeeze.specs.Folding.{fold_from, fold_of, Foldable, folded_to, squeezed_page};
 
 use answer::{Answer, Refusal};
-use editor::Mark;
 use ledger::{Edited, Page};
 use records::Judged;
 
@@ -275,20 +274,20 @@ fn write_record(
 }
 
 // The mark, where so many words are folded into so many.
-fn mark_left(mark: Mark, old: usize, new: usize) -> Mark
+fn mark_left(mark: Option<usize>, old: usize, new: usize) -> Option<usize>
     requires { new ≤ old }
     ensures { result ≡ folded_mark old new mark }
 {
-    let Mark::At(n) = mark else {
-        return Mark::None;
+    let Some(n) = mark else {
+        return None;
     };
     if n == 0 {
-        return Mark::At(0);
+        return Some(0);
     }
     if n < old {
-        return Mark::None;
+        return None;
     }
-    Mark::At(n - old + new)
+    Some(n - old + new)
 }
 
 // What is given back where so many words are folded into so many.

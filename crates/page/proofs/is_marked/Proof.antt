@@ -12,7 +12,7 @@ returns : tie.Need-returns-in_default
 returns c = search rules
 
 returns-2 : tie.Need-returns
-returns-2 c = rw c.in-At.is
+returns-2 c = rw c.in-Some.is
 
 pub is_marked_spec : {M : Type 1} → statement M
 is_marked_spec = tie.close (tie.spec enum-known-mark enum_told returns returns-2)

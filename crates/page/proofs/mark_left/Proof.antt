@@ -16,12 +16,12 @@ returns c = search rules
 returns-2 : tie.Need-returns-then-done-n
 returns-2 c =
     let a = c.args in
-    rw (c.in-At.is, lt-ltb a.done c.in-At.n (omega arith))
+    rw (c.in-Some.is, lt-ltb a.done c.in-Some.n (omega arith))
 
 returns-3 : tie.Need-returns
 returns-3 c =
     let a = c.args in
-    rw (c.in-At.is, le-ltb a.done c.in-At.n (omega arith))
+    rw (c.in-Some.is, le-ltb a.done c.in-Some.n (omega arith))
 
 pub mark_left_spec : {M : Type 1} → statement M
 mark_left_spec = tie.close (tie.spec enum-known-mark enum_told returns returns-2 returns-3)

@@ -19,7 +19,7 @@ returns-2 c = search rules
 returns-3 : tie.Need-returns-then-n-old
 returns-3 c =
     let a = c.args in
-    rw (c.in-At.is, ne_eqb c.in-At.n 0 c.if-n-eq0.false, lt-ltb c.in-At.n a.old (omega arith))
+    rw (c.in-Some.is, ne_eqb c.in-Some.n 0 c.if-n-eq0.false, lt-ltb c.in-Some.n a.old (omega arith))
 
 add-t7 : tie.Need-overflow_add-result
 add-t7 c = search rules
@@ -27,7 +27,7 @@ add-t7 c = search rules
 returns-4 : tie.Need-returns
 returns-4 c =
     let a = c.args in
-    rw (c.in-At.is, ne_eqb c.in-At.n 0 c.if-n-eq0.false, le-ltb c.in-At.n a.old (omega arith))
+    rw (c.in-Some.is, ne_eqb c.in-Some.n 0 c.if-n-eq0.false, le-ltb c.in-Some.n a.old (omega arith))
 
 pub mark_left_spec : {M : Type 1} → statement M
 mark_left_spec =
