@@ -3,7 +3,7 @@ use Prim.Native.Nat.{ℕ, zero, suc, ◌≤◌, ◌<◌}
 use mathlib.Core.Path.{◌≡◌, refl, sym, ap, ◌∙◌, subst}
 use mathlib.Core.Bool.{Bool, true, false, cond, ◌&&◌}
 use mathlib.Core.List.{List}
-use mathlib.Core.Option.{Option, none, some}
+use Rattle.std.specs.Prelude.{Option, None, Some}
 use native.Mathlib.Omega.{arith}
 use lib.ListN.{length, take, drop}
 use lib.Seq.{length-take-le}
@@ -48,7 +48,7 @@ module _ (b : Bench) where
       by false e = unfit e
 
   module _ (text : List ℕ) (used mine : ℕ) (words : List ℕ) (all : length words ≡ used) where
-    pub fitted_none : records_in used words ≡ none → fitted_of b text used mine words ≡ Broken
+    pub fitted_none : records_in used words ≡ None → fitted_of b text used mine words ≡ Broken
     unfolding fitted_of
     fitted_none e = rw (all, e) (broken (text_fits b text))
       where
@@ -57,7 +57,7 @@ module _ (b : Bench) where
         broken false = refl
 
     pub fitted-some :
-        (rs : List Record) → records_in used words ≡ some rs →
+        (rs : List Record) → records_in used words ≡ Some rs →
         Fitted (bench_sound b text (own (side_at mine) rs))
         (passed (length text) b.standing (side_at mine) 0 (begun b.opening used) rs)
         (fitted_of b text used mine words)
@@ -110,11 +110,11 @@ module _ (t : State) (mine : ℕ) where
       all : length words ≡ t.used
       all = length-take-le t.used t.history uses
 
-      first-is : (rs : List Record) → records_in t.used words ≡ some rs →
+      first-is : (rs : List Record) → records_in t.used words ≡ Some rs →
           Fitted (sound_at t rs first) (pass_at t rs first) (fitted first 0)
       first-is rs e = fitted-some t.benches.bench0 t.texts.bench0 t.used 0 words all rs e
 
-      second_is : (rs : List Record) → records_in t.used words ≡ some rs →
+      second_is : (rs : List Record) → records_in t.used words ≡ Some rs →
           Fitted (sound_at t rs second) (pass_at t rs second) (fitted second 1)
       second_is rs e = fitted-some t.benches.bench1 t.texts.bench1 t.used 1 words all rs e
 
@@ -123,31 +123,31 @@ module _ (t : State) (mine : ℕ) where
       first_off q = judged-is ∙ by (records_in t.used words) refl
         where
           by : (x : Option (List Record)) → records_in t.used words ≡ x → judged_at t mine (judged t x) ≡ Broken
-          by none e = refl
-          by (some rs) e = rw (unfit-is (first-is rs e) q)
+          by None e = refl
+          by (Some rs) e = rw (unfit-is (first-is rs e) q)
 
       pub second-off : fitted second 1 ≡ Broken → is ≡ Broken
       unfolding judged
       second-off q = judged-is ∙ by (records_in t.used words) refl
         where
           by : (x : Option (List Record)) → records_in t.used words ≡ x → judged_at t mine (judged t x) ≡ Broken
-          by none e = refl
-          by (some rs) e = rw (unfit-is (second_is rs e) q, and-false (sound_at t rs first))
+          by None e = refl
+          by (Some rs) e = rw (unfit-is (second_is rs e) q, and-false (sound_at t rs first))
 
       module _ (p q : Pass) (f : fitted first 0 ≡ Through p) (g : fitted second 1 ≡ Through q) where
         both-fit : (s : Side) (r : Pass) → side_at mine ≡ s →
-            ((rs : List Record) → records_in t.used words ≡ some rs → pass_at t rs s ≡ Through r) → is ≡ Through r
+            ((rs : List Record) → records_in t.used words ≡ Some rs → pass_at t rs s ≡ Through r) → is ≡ Through r
         unfolding judged
         both-fit s r n h = judged-is ∙ by (records_in t.used words) refl
           where
             by : (x : Option (List Record)) → records_in t.used words ≡ x →
                 judged_at t mine (judged t x) ≡ Through r
-            by none e =
+            by None e =
                 let o : fitted first 0 ≡ Broken =
                 fitted_none t.benches.bench0 t.texts.bench0 t.used 0 words all e in
                 let z : ◌≡◌ {A = ℕ} 0 1 = cc in
                 absurd (omega arith)
-            by (some rs) e =
+            by (Some rs) e =
                 rw ((fit_is (first-is rs e) p f).0, (fit_is (second_is rs e) q g).0)
                 (subst (λ (s : Side). pass_at t rs s ≡ Through r) (sym n) (h rs e))
 

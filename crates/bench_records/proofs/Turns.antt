@@ -3,7 +3,7 @@ use Prim.Native.Nat.{ℕ, zero, suc, ◌+◌, ◌-◌, ◌≤◌, ◌<◌}
 use mathlib.Core.Path.{◌≡◌, refl, sym, ap, ◌∙◌, subst}
 use mathlib.Core.Bool.{Bool, true, false, cond, ◌&&◌}
 use mathlib.Core.List.{List, [], ◌∷◌}
-use mathlib.Core.Option.{Option, none, some}
+use Rattle.std.specs.Prelude.{Option, None, Some}
 use native.Mathlib.Omega.{arith}
 use native.Mathlib.Numerals.{add-one}
 use lib.ListN.{length, get_or, take, drop, length-drop, drop_of_length-le}
@@ -87,12 +87,12 @@ module _ (room standing mine at : ℕ) (p : Pass) (h : Head) (b : Bounded room a
       (λ _. record { fits = b.fits; few = omega (arith, b.few); small = omega (arith, b.small) }))
 
 -- the side of a number that is 0 or 1
-side-at : (b : ℕ) → b ≤ 1 → side_of b ≡ some (side_at b)
+side-at : (b : ℕ) → b ≤ 1 → side_of b ≡ Some (side_at b)
 side-at zero q = refl
 side-at (suc zero) q = refl
 side-at (suc (suc b)) q = absurd (omega arith)
 
-side-none : (b : ℕ) → 1 < b → side_of b ≡ none
+side-none : (b : ℕ) → 1 < b → side_of b ≡ None
 side-none zero q = absurd (omega arith)
 side-none (suc zero) q = absurd (omega arith)
 side-none (suc (suc b)) q = refl
@@ -131,15 +131,15 @@ module _ (room standing : ℕ) where
   -- a record more at the front
   onto-pass :
       (s q : Side) (at : ℕ) (p : Pass) (e : Entry) (x : Option (List Record)) →
-      pass_of room standing s at p (onto (some q) e x)
+      pass_of room standing s at p (onto (Some q) e x)
       ≡ cond (same s q)
       (cond (leb (e.place + length e.removed) p.len && leb (length_after p.len e) room)
       (pass_of room standing s (at + size_of e) (onward standing at p (length_after p.len e) (size_of e)) x) Broken)
       (pass_of room standing s (at + size_of e) p x)
   unfolding passed
-  onto-pass s q at p e none =
+  onto-pass s q at p e None =
       broken-both (same s q) (leb (e.place + length e.removed) p.len && leb (length_after p.len e) room)
-  onto-pass s q at p e (some rs) = refl
+  onto-pass s q at p e (Some rs) = refl
 
   module _ (mine at : ℕ) (q : Pass) where
     words-cut : (ws : List ℕ) → 0 < length ws → length ws < 4 → pass_in room standing mine at q ws ≡ Broken

@@ -1,6 +1,5 @@
 -- What the code finds of a bench, over its words.
-use Rattle.std.specs.Prelude.{ℕ, Bool, cond, ◌&&◌, List, length, drop, leb, eqb}
-use Rattle.std.proofs.Math.Option.{Option, none, some}
+use Rattle.std.specs.Prelude.{ℕ, Bool, cond, ◌&&◌, List, length, drop, leb, eqb, Option, None, Some}
 use Rattle.answer.specs.Answer.{limit}
 use Rattle.answer.specs.declared.Answer.TheVariants.{Refused}
 use Rattle.answer.specs.declared.Refusal.TheVariants.{Unsound, OverLimit, NoSuchBench}
@@ -43,8 +42,8 @@ pass_at t rs s =
     (begun (at t.benches s).opening t.used) rs
 
 abbrev pub judged_at : State → ℕ → Option (List Record) → Passed
-judged_at t mine none = Broken
-judged_at t mine (some rs) = pass_at t rs (side_at mine)
+judged_at t mine None = Broken
+judged_at t mine (Some rs) = pass_at t rs (side_at mine)
 
 -- 14, or where the pass stands
 abbrev pub sound_by : Passed → Judged
@@ -53,8 +52,8 @@ sound_by (Through p) = Sound p
 
 -- 20, then 14
 abbrev pub named_by : State → Option Side → Judged
-named_by t none = Unfit (Refused NoSuchBench 0)
-named_by t (some s) = sound_by (judged_at t (number_of s) (records t))
+named_by t None = Unfit (Refused NoSuchBench 0)
+named_by t (Some s) = sound_by (judged_at t (number_of s) (records t))
 
 -- 16 comes first
 unfoldable pub judge_of : State → ℕ → Judged

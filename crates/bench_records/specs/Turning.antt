@@ -1,6 +1,5 @@
 -- The pass over words, a record at a time: what a turn of its loop computes.
-use Rattle.std.specs.Prelude.{ℕ, zero, suc, ◌+◌, ◌-◌, ◌≤◌, cond, List, length, get_or, ltb, eqb}
-use Rattle.std.proofs.Math.Option.{Option, none, some}
+use Rattle.std.specs.Prelude.{ℕ, zero, suc, ◌+◌, ◌-◌, ◌≤◌, cond, List, length, get_or, ltb, eqb, Option, None, Some}
 use Rattle.std.proofs.Math.Seq.{slice}
 use Rattle.benches.specs.Words.{Side, first, second, Record, records_in}
 use Rattle.bench_records.specs.declared.Head.{Head}
@@ -43,8 +42,8 @@ turned room standing mine at p h =
     (cond (ltb 1 h.bench) Broken (Through p))
 
 abbrev pub pass_of : ℕ → ℕ → Side → ℕ → Pass → Option (List Record) → Passed
-pass_of room standing s at p none = Broken
-pass_of room standing s at p (some rs) = passed room standing s at p rs
+pass_of room standing s at p None = Broken
+pass_of room standing s at p (Some rs) = passed room standing s at p rs
 
 -- the records that tile words, the first of them at a word
 abbrev pub pass_in : ℕ → ℕ → ℕ → ℕ → Pass → List ℕ → Passed

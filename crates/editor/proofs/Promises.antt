@@ -3,7 +3,6 @@ use Prim.Native.Nat.{ℕ, ◌≤◌, ◌<◌}
 use mathlib.Core.Path.{◌≡◌, refl, sym, ap, ◌∙◌, subst, subst₂}
 use mathlib.Core.Bool.{Bool, true, false, cond, ◌||◌, false≢true}
 use mathlib.Core.List.{List, [], ◌∷◌, ◌++◌, reverse_aux, reverse, map, cons≢nil}
-use mathlib.Core.Option.{some}
 use mathlib.Core.Logic.{◌↔◌}
 use native.Mathlib.Omega.{arith}
 use lib.ListN.{length, replicate, length-reverse}
@@ -33,7 +32,7 @@ use Rattle.editor.proofs.Calls.{accepts, undo-some, redo-some, save-fills, held-
 -- an editor lies in a state of a layout: it is found there, and what a call makes of it lies in what the call leaves
 pub record Lays {S : Type 0} (layout : Layout S) (Lies : ℕ → S → Editor → Type 0) : Type 0 where
   pub short : {n : ℕ} {s : S} {e : Editor} → Lies n s e → layout.long s ≡ false
-  pub sees : {n : ℕ} {s : S} {e : Editor} → Lies n s e → layout.editor_in s ≡ some e
+  pub sees : {n : ℕ} {s : S} {e : Editor} → Lies n s e → layout.editor_in s ≡ Some e
   pub shows : {n : ℕ} {s : S} {e : Editor} → Lies n s e → layout.text_in s ≡ e.text
   pub done :
       {n : ℕ} {s : S} {e : Editor} → Lies n s e →

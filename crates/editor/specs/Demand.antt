@@ -1,6 +1,6 @@
 -- Demand 3, for any layout: what holds of a state and of the ledger that heard the calls that led to it.
 use Rattle.std.specs.Prelude.{ℕ, ◌≤◌, ◌≡◌, ◌↔◌, true, false, List, [], ◌∷◌, map, reverse, length, replicate, Some}
-use Rattle.std.proofs.Math.Option.{Option, some}
+use Rattle.std.specs.Prelude.{Option}
 use Rattle.answer.specs.Answer.{numbered}
 use Rattle.answer.specs.Output.{filled}
 use Rattle.codec.specs.Kinds.{writing_in}
@@ -12,7 +12,7 @@ use Rattle.editor.specs.Layout.{Outcome, taken, Layout, outcome_of, reply_of, af
 -- "the records are proved to agree with it, step for step, in place, count removed and cells added"; the state is sound
 pub record Agrees (found : Option Editor) (l : Ledger) : Type 0 where
   pub editor : Editor
-  pub sound : found ≡ some editor
+  pub sound : found ≡ Some editor
   pub kind : editor.kind ≡ l.kind
   pub standing : map step_of (reverse editor.standing) ≡ l.standing
   pub undone : map step_of editor.undone ≡ l.undone

@@ -4,13 +4,12 @@ use Prim.Native.Nat.{ℕ, ◌+◌, ◌≤◌, ◌<◌}
 use mathlib.Core.Path.{◌≡◌, refl, sym, ap, ◌∙◌}
 use mathlib.Core.Bool.{Bool, true, false, cond, ◌||◌, false≢true}
 use mathlib.Core.List.{List, [], ◌∷◌, ◌++◌, map}
-use mathlib.Core.Option.{Option, none, some}
 use native.Mathlib.Omega.{arith}
 use lib.ListN.{length, length-append, length-map}
 use lib.Dec.{ltb, eqb}
 use borrow.Author.Tests.{ltb-false, ne_eqb}
 use Rattle.answer.specs.Answer.{Verdict, limit}
-use Rattle.std.specs.Prelude.{None, Some}
+use Rattle.std.specs.Prelude.{None, Some, Option}
 use Rattle.answer.proofs.Below.{cond-case}
 use Rattle.codec.specs.declared.Kind.{Kind}
 use Rattle.editor.specs.Marks.{Mark}
@@ -157,19 +156,19 @@ module _ (start : State) (marks : (orders : List Order) → Own (after start ord
 
 -- the mark of a bench is that of the editor seen there
 saved_in : Option Editor → Mark
-saved_in none = None
-saved_in (some e) = e.saved
+saved_in None = None
+saved_in (Some e) = e.saved
 
 present : Option Editor → Bool
-present none = false
-present (some e) = true
+present None = false
+present (Some e) = true
 
 seen-mark :
-    (t : State) (s : Side) (rs : Option (List Record)) (e : Editor) → editor_for t s rs ≡ some e →
+    (t : State) (s : Side) (rs : Option (List Record)) (e : Editor) → editor_for t s rs ≡ Some e →
     (at t.benches s).saved ≡ e.saved
 unfolding present saved_in
-seen-mark t s none e h = absurd (false≢true (ap present h))
-seen-mark t s (some rs) e h = ap saved_in h
+seen-mark t s None e h = absurd (false≢true (ap present h))
+seen-mark t s (Some rs) e h = ap saved_in h
 
 mark-at : (t : State) (marks : Own t) (s : Side) → mark_in (bench_at (host_state t) s).saved ≡ (at t.benches s).saved
 mark-at t marks first = marks first

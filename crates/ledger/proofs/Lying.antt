@@ -5,7 +5,7 @@ use mathlib.Core.Path.{◌≡◌, refl, sym, ap, ◌∙◌, subst}
 use mathlib.Core.Bool.{true, false}
 use mathlib.Core.List.{List, [], ◌∷◌, ◌++◌, map, reverse_aux, reverse, reverse-cons, append-nil, append_assoc}
 use mathlib.Core.List.{reverse_aux-eq, reverse_aux-append}
-use mathlib.Core.Option.{some}
+use Rattle.std.specs.Prelude.{Some}
 use native.Mathlib.Omega.{arith}
 use lib.ListN.{length, take, drop, length-append}
 use lib.Seq.{take_at, drop_at}
@@ -79,10 +79,10 @@ module _ (opening space : ℕ) (e : Editor) (legal : Legal in_words opening e) (
         mark = legal.marked;
       }
 
-  found_here : page.editor_in here ≡ some e
+  found_here : page.editor_in here ≡ Some e
   found_here =
       rw (sound-records here (record { standing = e.standing; undone = e.undone }) sound-here)
-      (λ i. some
+      (λ i. Some
       (record {
         kind = e.kind;
         room = length-text i;

@@ -3,7 +3,7 @@ use Prim.Native.Nat.{ℕ, ◌+◌, ◌-◌, ◌*◌, ◌≤◌, ◌<◌}
 use mathlib.Core.Path.{◌≡◌, refl, sym, ap, ◌∙◌}
 use mathlib.Core.Bool.{Bool, true, false, cond, ◌||◌}
 use mathlib.Core.List.{List, [], ◌∷◌, ◌++◌}
-use mathlib.Core.Option.{Option, none, some}
+use Rattle.std.specs.Prelude.{Option, None, Some}
 use native.Mathlib.Omega.{arith}
 use lib.ListN.{length, take, drop, replicate, length-append, length-drop}
 use lib.Seq.{take_at, length_front}
@@ -56,8 +56,8 @@ module _ (arrived text history : List ℕ) (c : Content) where
   parted-by : (x : Option Parted) → is_some x ≡ false → read_parted arrived text history c x ≡ unread arrived text
       history (numbered 14 0)
   unfolding read_parted
-  parted-by none e = refl
-  parted-by (some v) e = let z : ◌≡◌ {A = ℕ} 0 1 = cc in absurd (omega arith)
+  parted-by None e = refl
+  parted-by (Some v) e = let z : ◌≡◌ {A = ℕ} 0 1 = cc in absurd (omega arith)
 
   pub is-unsound : false ≡ is_some (records (state_from arrived text history c)) → read_parted arrived text history c
       (records (state_from arrived text history c)) ≡ unread arrived text history (numbered 14 0)
@@ -70,8 +70,8 @@ module _ (arrived text history : List ℕ) (c : Content) where
       ≡ cond (belongs_by c.page c.text c.arrived) (given arrived text history c)
       (unread arrived text history (numbered 15 0))
   unfolding read_parted
-  sound-by none e w h = let z : ◌≡◌ {A = ℕ} 0 1 = cc in absurd (omega arith)
-  sound-by (some v) e w h =
+  sound-by None e w h = let z : ◌≡◌ {A = ℕ} 0 1 = cc in absurd (omega arith)
+  sound-by (Some v) e w h =
       ap (λ (t : Bool). cond t (given arrived text history c) (unread arrived text history (numbered 15 0)))
       (belongs-by c v.standing w.end w.reach h)
 

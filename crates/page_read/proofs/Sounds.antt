@@ -4,7 +4,7 @@ use Prim.Native.Nat.{ℕ, zero, suc, ◌+◌, ◌-◌, ◌≤◌, ◌<◌}
 use mathlib.Core.Path.{◌≡◌, refl, sym, ap, ◌∙◌}
 use mathlib.Core.Bool.{Bool, true, false, ◌&&◌}
 use mathlib.Core.List.{List, [], ◌∷◌, ◌++◌}
-use mathlib.Core.Option.{Option, none, some}
+use Rattle.std.specs.Prelude.{Option, None, Some}
 use native.Mathlib.Omega.{arith}
 use lib.ListN.{length, take, drop, replicate, length-append, length-replicate}
 use lib.Seq.{slice, take-take, take_at, drop_at}
@@ -20,12 +20,12 @@ use Rattle.page_read.specs.Inner.{is_some, Frames}
 
 -- what a judgement tells
 pub none-judged : (done : ℕ) (x : Option Parted) → judged_as done x ≡ unsound → false ≡ is_some x
-none-judged done none e = refl
-none-judged done (some v) e = let z : ◌≡◌ {A = ℕ} 0 1 = cc in absurd (omega arith)
+none-judged done None e = refl
+none-judged done (Some v) e = let z : ◌≡◌ {A = ℕ} 0 1 = cc in absurd (omega arith)
 
 pub some-judged : (done : ℕ) (x : Option Parted) (l : ℕ) → judged_as done x ≡ Sound l → true ≡ is_some x
-some-judged done none l e = let z : ◌≡◌ {A = ℕ} 0 1 = cc in absurd (omega arith)
-some-judged done (some v) l e = refl
+some-judged done None l e = let z : ◌≡◌ {A = ℕ} 0 1 = cc in absurd (omega arith)
+some-judged done (Some v) l e = refl
 
 module _ {p : Page} {room : ℕ} {words t h : List ℕ} (f : Frames p room words t h) where
   words_same : (from to : ℕ) → to ≤ p.used → slice from to words ≡ slice from to h

@@ -4,7 +4,6 @@ use Prim.Native.Nat.{ℕ, ◌+◌, ◌-◌, ◌≤◌}
 use mathlib.Core.Path.{◌≡◌, refl, sym, ap, ◌∙◌}
 use mathlib.Core.Bool.{Bool, true, false, cond, ◌&&◌, ◌||◌}
 use mathlib.Core.List.{List, [], ◌∷◌, ◌++◌, map, map-append}
-use mathlib.Core.Option.{Option, none, some}
 use native.Mathlib.Omega.{arith}
 use native.Mathlib.Nat.{add-zero}
 use lib.ListN.{length, take, drop, length-take, length-drop, take-append-drop}
@@ -12,7 +11,7 @@ use lib.Seq.{slice, take_at, drop_at, take-take, drop-drop, length-take-le}
 use lib.Dec.{leb, ltb, eqb}
 use borrow.Author.Tests.{leb-true, eqb-true, ltb-false}
 use Rattle.answer.proofs.Below.{both, cond-case}
-use Rattle.std.specs.Prelude.{None, Some}
+use Rattle.std.specs.Prelude.{None, Some, Option}
 use Rattle.editor.specs.Marks.{Mark}
 use Rattle.editor.specs.Ledger.{weight_of}
 use Rattle.editor.specs.Records.{step_of, ends_at}
@@ -39,9 +38,9 @@ broken false a b e = refl
 
 -- records in two parts
 abbrev both_of : Option (List Entry) → Option (List Entry) → Option (List Entry)
-both_of none fs = none
-both_of (some es) none = none
-both_of (some es) (some fs) = some (es ++ fs)
+both_of None fs = None
+both_of (Some es) None = None
+both_of (Some es) (Some fs) = Some (es ++ fs)
 
 -- records cut at an end of theirs
 record Cut (es : List Entry) (k : ℕ) : Type 0 where
@@ -95,17 +94,17 @@ module _ (k : ℕ) (ws : List ℕ) (h : k ≤ length ws) where
   both-ending :
       (x y : Option (List Entry)) → Whole (λ es. words es ≡ take k ws) x → Whole (λ fs. words fs ≡ drop k ws) y →
       Whole Ending (both_of x y)
-  both-ending none y p q = tt
-  both-ending (some es) none p q = tt
-  both-ending (some es) (some fs) p q =
+  both-ending None y p q = tt
+  both-ending (Some es) None p q = tt
+  both-ending (Some es) (Some fs) p q =
       let n : sizes es ≡ k = omega (arith, length-words es, ap length p, length-take-le k ws h) in
       (words_append es fs ∙ rw (p, q) (take-append-drop k ws), rw n at (ends-append es fs))
 
   only_ending : (x : Option (List Entry)) → Whole (λ es. words es ≡ ws) x → Whole Ending (ending_at k x)
-  only_ending none p = tt
-  only_ending (some es) p = cond-case (Whole Ending) (ends es k) (λ t. (p, t)) (λ _. tt)
+  only_ending None p = tt
+  only_ending (Some es) p = cond-case (Whole Ending) (ends es k) (λ t. (p, t)) (λ _. tt)
 
-  ending-cut : (es : List Entry) → Ending es → both_of front back ≡ some es
+  ending-cut : (es : List Entry) → Ending es → both_of front back ≡ Some es
   ending-cut es e =
       let c = cut-ends es k e.1 in
       let all : words c.first ++ words c.rest ≡ ws =
@@ -117,11 +116,11 @@ module _ (k : ℕ) (ws : List ℕ) (h : k ≤ length ws) where
       ap (drop k) (sym all) ∙ drop_at (words c.first) (words c.rest) k n in
       let m : length (words c.rest) ≤ length ws - k = omega (arith, ap length (sym tail), length-drop k ws) in
       rw (first, tail, records-words k c.first (omega arith), records-words (length ws - k) c.rest m)
-      (ap some c.is)
+      (ap Some c.is)
 
-  ending-only : (es : List Entry) → Ending es → ending_at k (records_in (length ws) ws) ≡ some es
+  ending-only : (es : List Entry) → Ending es → ending_at k (records_in (length ws) ws) ≡ Some es
   ending-only es e =
-      let found : records_in (length ws) ws ≡ some es =
+      let found : records_in (length ws) ws ≡ Some es =
       rw e.0 at (records-words (length ws) es (omega (arith, ap length e.0))) in
       rw (found, e.1)
 
@@ -138,22 +137,22 @@ module _ (k : ℕ) (ws : List ℕ) (h : k ≤ length ws) where
     walk x = walk_of room at len last x
 
     both-broken : (x y : Option (List Entry)) → walk x ≡ Broken → walk (both_of x y) ≡ Broken
-    both-broken none y b = refl
-    both-broken (some es) none b = refl
-    both-broken (some es) (some fs) b = rw (lengths-append, broken (lengths_fit room len es) _ _ b)
+    both-broken None y b = refl
+    both-broken (Some es) None b = refl
+    both-broken (Some es) (Some fs) b = rw (lengths-append, broken (lengths_fit room len es) _ _ b)
 
     both-led :
         (x y : Option (List Entry)) (n l : ℕ) → Whole (λ es. sizes es ≡ k) x → walk x ≡ Led n l →
         walk (both_of x y) ≡ walk_of room (at + k) n l y
-    both-led none y n l w e = let z : ◌≡◌ {A = ℕ} 0 1 = cc in absurd (omega arith)
-    both-led (some es) none n l w e = refl
-    both-led (some es) (some fs) n l w e =
+    both-led None y n l w e = let z : ◌≡◌ {A = ℕ} 0 1 = cc in absurd (omega arith)
+    both-led (Some es) None n l w e = refl
+    both-led (Some es) (Some fs) n l w e =
         let p = led (lengths_fit room len es) _ _ n l e in
         rw (lengths-append, p.0, reached-append, last-append, p.1, p.2, w)
 
     front-sizes : (x : Option (List Entry)) → Whole (λ es. words es ≡ take k ws) x → Whole (λ es. sizes es ≡ k) x
-    front-sizes none w = tt
-    front-sizes (some es) w = omega (arith, length-words es, ap length w, length-take-le k ws h)
+    front-sizes None w = tt
+    front-sizes (Some es) w = omega (arith, length-words es, ap length w, length-take-le k ws h)
 
     is_front : walk_in room at len last (take k ws) ≡ walk front
     is_front =
@@ -176,8 +175,8 @@ module _ (k : ℕ) (ws : List ℕ) (h : k ≤ length ws) where
 -- a walk leads to no length over the room
 led-fits :
     (room at len last n l : ℕ) (x : Option (List Entry)) → len ≤ room → walk_of room at len last x ≡ Led n l → n ≤ room
-led-fits room at len last n l none h e = let z : ◌≡◌ {A = ℕ} 0 1 = cc in absurd (omega arith)
-led-fits room at len last n l (some es) h e =
+led-fits room at len last n l None h e = let z : ◌≡◌ {A = ℕ} 0 1 = cc in absurd (omega arith)
+led-fits room at len last n l (Some es) h e =
     let p = led (lengths_fit room len es) _ _ n l e in
     omega (arith, p.1, reached-fits room len es h p.0)
 

@@ -3,7 +3,7 @@ use Prim.Native.Nat.{ℕ, ◌+◌, ◌-◌, ◌≤◌}
 use mathlib.Core.Path.{◌≡◌, refl, sym, ap, ◌∙◌}
 use mathlib.Core.Bool.{Bool, true, false, cond, ◌&&◌}
 use mathlib.Core.List.{List, [], ◌∷◌, reverse_aux, reverse}
-use mathlib.Core.Option.{Option, none, some}
+use Rattle.std.specs.Prelude.{Option, None, Some}
 use native.Mathlib.Omega.{arith}
 use native.Mathlib.Nat.{add-zero, zero-add, sub-zero}
 use lib.ListN.{length, take, drop, length-take}
@@ -59,23 +59,23 @@ module _ (s : State) where
 
   no-first : (x y : Option (List Entry)) → first x ≡ Broken → answer x y ≡ unsound
   unfolding joined
-  no-first none y b = refl
-  no-first (some es) none b = refl
-  no-first (some es) (some fs) b = rw (broken (lengths_fit room s.page.opening es) _ _ b)
+  no-first None y b = refl
+  no-first (Some es) None b = refl
+  no-first (Some es) (Some fs) b = rw (broken (lengths_fit room s.page.opening es) _ _ b)
 
   no_length : (x y : Option (List Entry)) (n l : ℕ) → first x ≡ Led n l → (n ≡ s.page.length → ⊥) → answer x y ≡ unsound
   unfolding joined
-  no_length none y n l e q = refl
-  no_length (some es) none n l e q = refl
-  no_length (some es) (some fs) n l e q =
+  no_length None y n l e q = refl
+  no_length (Some es) None n l e q = refl
+  no_length (Some es) (Some fs) n l e q =
       let p = led (lengths_fit room s.page.opening es) _ _ n l e in
       rw (p.0, ne_eqb (reached s.page.opening es) s.page.length (λ r. q (sym p.1 ∙ r)))
 
   no_second : (x y : Option (List Entry)) → second y ≡ Broken → answer x y ≡ unsound
   unfolding joined
-  no_second none y b = refl
-  no_second (some es) none b = refl
-  no_second (some es) (some fs) b =
+  no_second None y b = refl
+  no_second (Some es) None b = refl
+  no_second (Some es) (Some fs) b =
       rw (and-false (lengths_fit room s.page.opening es && eqb (reached s.page.opening es) s.page.length) (lengths_fit room s.page.length fs)
       (broken (lengths_fit room s.page.length fs) _ _ b))
 
@@ -83,9 +83,9 @@ module _ (s : State) where
       (x y : Option (List Entry)) (n l m k : ℕ) → Whole (λ es. sizes es ≡ s.page.done) x → first x ≡ Led n l → n ≡ s.page.length → second y ≡ Led m k →
       answer x y ≡ Sound l
   unfolding joined
-  led-twice none y n l m k w e q f = let z : ◌≡◌ {A = ℕ} 0 1 = cc in absurd (omega arith)
-  led-twice (some es) none n l m k w e q f = let z : ◌≡◌ {A = ℕ} 0 1 = cc in absurd (omega arith)
-  led-twice (some es) (some fs) n l m k w e q f =
+  led-twice None y n l m k w e q f = let z : ◌≡◌ {A = ℕ} 0 1 = cc in absurd (omega arith)
+  led-twice (Some es) None n l m k w e q f = let z : ◌≡◌ {A = ℕ} 0 1 = cc in absurd (omega arith)
+  led-twice (Some es) (Some fs) n l m k w e q f =
       let p = led (lengths_fit room s.page.opening es) _ _ n l e in
       let r = led (lengths_fit room s.page.length fs) _ _ m k f in
       let last : last_begin s.page.done (reverse es) ≡ l = rw (← w, ← zero-add (sizes es)) (sym (last-begin es [] 0) ∙ p.2) in
@@ -154,8 +154,8 @@ module _ (p : Page) (t h : List ℕ) where
     sizes-standing :
         (n : ℕ) (x : Option (List Entry)) → Whole (λ es. words es ≡ take p.done h) x →
         Whole (λ es. sizes es ≡ p.done) (ending_at n x)
-    sizes-standing n none w = tt
-    sizes-standing n (some es) w =
+    sizes-standing n None w = tt
+    sizes-standing n (Some es) w =
         let f = frame ok in
         cond-case (Whole (λ es. sizes es ≡ p.done)) (ends es n)
         (λ _. omega (arith, length-words es, ap length w, length-take-le p.done h (omega arith))) (λ _. tt)

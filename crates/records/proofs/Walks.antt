@@ -3,7 +3,7 @@ use Prim.Native.Nat.{ℕ, zero, suc, ◌+◌, ◌-◌, ◌≤◌, ◌<◌}
 use mathlib.Core.Path.{◌≡◌, refl, sym, ap, ◌∙◌}
 use mathlib.Core.Bool.{Bool, true, false, cond, ◌&&◌}
 use mathlib.Core.List.{List, [], ◌∷◌}
-use mathlib.Core.Option.{Option, none, some}
+use Rattle.std.specs.Prelude.{Option, None, Some}
 use native.Mathlib.Omega.{arith}
 use native.Mathlib.Numerals.{add-one}
 use lib.ListN.{length, get_or, take, drop, length-drop, drop_of_length-le}
@@ -71,8 +71,8 @@ onto-walk :
     walk_of room at len last (onto e x)
     ≡ cond (leb (e.place + length e.removed) len && leb (length_after len e) room) (walk_of room (at + size_of e) (length_after len e) at x) Broken
 unfolding lengths_fit reached
-onto-walk room at len last e none = sym (broken-both (leb (e.place + length e.removed) len && leb (length_after len e) room))
-onto-walk room at len last e (some es) =
+onto-walk room at len last e None = sym (broken-both (leb (e.place + length e.removed) len && leb (length_after len e) room))
+onto-walk room at len last e (Some es) =
     cond-and (leb (e.place + length e.removed) len && leb (length_after len e) room) (lengths_fit room (length_after len e) es) _ _
 
 -- fewer words than a record's first three

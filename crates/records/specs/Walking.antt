@@ -1,6 +1,5 @@
 -- What the code finds of a page's records, over their definition in the crate ledger.
-use Rattle.std.specs.Prelude.{ℕ, ◌+◌, ◌-◌, cond, ◌||◌, List, [], ◌∷◌, length}
-use Rattle.std.proofs.Math.Option.{Option, none, some}
+use Rattle.std.specs.Prelude.{ℕ, ◌+◌, ◌-◌, cond, ◌||◌, List, [], ◌∷◌, length, Option, None, Some}
 use Rattle.std.proofs.Math.Seq.{slice}
 use Rattle.answer.specs.Answer.{limit}
 use Rattle.answer.specs.declared.Refusal.TheVariants.{Unsound, OverLimit}
@@ -22,8 +21,8 @@ last_from at last (e ∷ es) = last_from (at + size_of e) at es
 
 -- a walk over records from a word, a length and a last record on
 abbrev pub walk_of : ℕ → ℕ → ℕ → ℕ → Option (List Entry) → Walk
-walk_of room at len last none = Broken
-walk_of room at len last (some es) = cond (lengths_fit room len es) (Led (reached len es) (last_from at last es)) Broken
+walk_of room at len last None = Broken
+walk_of room at len last (Some es) = cond (lengths_fit room len es) (Led (reached len es) (last_from at last es)) Broken
 
 abbrev pub walk_in : ℕ → ℕ → ℕ → ℕ → List ℕ → Walk
 walk_in room at len last words = walk_of room at len last (records_in (length words) words)
@@ -46,8 +45,8 @@ abbrev pub unsound : Judged
 unsound = Unfit (Refused Unsound 0)
 
 abbrev pub judged_as : ℕ → Option Parted → Judged
-judged_as done none = unsound
-judged_as done (some v) = Sound (last_begin done v.standing)
+judged_as done None = unsound
+judged_as done (Some v) = Sound (last_begin done v.standing)
 
 -- 16 comes first
 unfoldable pub judge_of : State → Judged

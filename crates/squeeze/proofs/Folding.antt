@@ -3,7 +3,7 @@ use Prim.Native.Nat.{ℕ, ◌+◌, ◌-◌, ◌≤◌, ◌<◌}
 use mathlib.Core.Path.{◌≡◌, refl, sym, ap, ◌∙◌, subst₂}
 use mathlib.Core.Bool.{Bool, true, false, cond, ◌||◌}
 use mathlib.Core.List.{List, [], ◌∷◌, ◌++◌, map, reverse_aux, reverse, reverse_aux-eq, reverse-append, append-nil}
-use mathlib.Core.Option.{some}
+use Rattle.std.specs.Prelude.{Some}
 use native.Mathlib.Omega.{arith}
 use native.Mathlib.Nat.{zero-add}
 use lib.ListN.{length, take, drop, length-append, length-reverse, length-drop, length-take, take-append-drop}
@@ -59,7 +59,7 @@ module _
     (small : room ≤ limit)
     (fits : lengths_fit room n es ≡ true)
     (reach : length text ≡ reached n es) where
-  found : records_in (length (slice from to history)) (slice from to history) ≡ some es
+  found : records_in (length (slice from to history)) (slice from to history) ≡ Some es
   found = rw (← tiles) (records-words (length (words es)) es (omega arith))
 
   pub entries-are : entries_in from to history ≡ es
@@ -268,7 +268,7 @@ module _
     (v : Parted)
     (h : Sound s v)
     (short : (over s.text || over s.history) ≡ false)
-    (found : records s ≡ some v)
+    (found : records s ≡ Some v)
     (small : length s.text ≤ limit)
     (k : ℕ)
     (work : List ℕ) where

@@ -3,7 +3,7 @@ use Prim.Native.Nat.{ℕ, suc, ◌+◌, ◌-◌, ◌≤◌, ◌<◌}
 use mathlib.Core.Path.{◌≡◌, refl, sym, ap, ◌∙◌, subst}
 use mathlib.Core.Bool.{Bool, true, false, ◌&&◌}
 use mathlib.Core.List.{List, [], ◌∷◌, ◌++◌, reverse, reverse-reverse, append_assoc}
-use mathlib.Core.Option.{Option, none, some}
+use Rattle.std.specs.Prelude.{Option, None, Some}
 use native.Mathlib.Omega.{arith}
 use native.Mathlib.Nat.{add-zero}
 use lib.ListN.{length, get_or, take, drop, length-append, length-take, length-drop, take-append-drop}
@@ -132,7 +132,7 @@ module _ (at to : ℕ) (history text : List ℕ) where
           ∙ ap (drop (size_of e)) words-here
           ∙ drop_at (words_of e) (words rest) (size_of e) (length-record e)
 
-      found-next : records_in (length (words rest)) (words rest) ≡ some rest
+      found-next : records_in (length (words rest)) (words rest) ≡ Some rest
       found-next = records-words (length (words rest)) rest (omega arith)
 
       entries_next : entries_in (at + size_of e) to history ≡ rest

@@ -1,7 +1,7 @@
 -- The text before some of a page's records, as its words and the present text have it: what the code follows, a stretch
 -- of cells at a time.
 use Rattle.std.specs.Prelude.{ℕ, ◌+◌, ◌-◌, ◌≤◌, ◌<◌, ◌≡◌, Bool, true, false, cond, ◌&&◌, List, [], reverse, length, get_or, take, drop, ltb, leb}
-use Rattle.std.proofs.Math.Option.{Option, none, some}
+use Rattle.std.specs.Prelude.{Option, None, Some}
 use Rattle.std.proofs.Math.Seq.{slice}
 use Rattle.answer.specs.Answer.{limit}
 use Rattle.reading.specs.Stepping.{least}
@@ -13,8 +13,8 @@ use Rattle.squeeze.specs.declared.Stretch.{Stretch}
 
 -- the records in the words from one to another
 abbrev pub held_by : Option (List Entry) → List Entry
-held_by none = []
-held_by (some es) = es
+held_by None = []
+held_by (Some es) = es
 
 abbrev pub entries_in : ℕ → ℕ → List ℕ → List Entry
 entries_in from to history = held_by (records_in (length (slice from to history)) (slice from to history))
@@ -29,7 +29,7 @@ pub record Leads (from to : ℕ) (history text : List ℕ) : Type 0 where
   pub small : room ≤ limit
   pub order : from ≤ to
   pub within : to ≤ length history
-  pub found : records_in (length (slice from to history)) (slice from to history) ≡ some (entries_in from to history)
+  pub found : records_in (length (slice from to history)) (slice from to history) ≡ Some (entries_in from to history)
   pub fits : lengths_fit room (length (text_since from to history text)) (entries_in from to history) ≡ true
   pub reach : reached (length (text_since from to history text)) (entries_in from to history) ≡ length text
 
@@ -47,7 +47,7 @@ head_in history at =
 -- before that one: as many cells from there on are the same
 pub record On (from to : ℕ) (history text : List ℕ) (start most at cell count : ℕ) : Type 0 where
   pub leads : Leads at to history text
-  pub some : 0 < count
+  pub Some : 0 < count
   pub few : count ≤ most
   pub part : cell + count ≤ length (text_since at to history text)
   pub same :
@@ -70,7 +70,7 @@ cells_in false history text = text
 
 -- a stretch is of cells of a text, from a place on, and of no more than so many
 pub record Follows (s : Stretch) (history text traced : List ℕ) (start most : ℕ) : Type 0 where
-  pub some : 0 < s.count
+  pub Some : 0 < s.count
   pub few : s.count ≤ most
   pub part : s.at + s.count ≤ length (cells_in s.kept history text)
   pub cells : take s.count (drop s.at (cells_in s.kept history text)) ≡ take s.count (drop start traced)
