@@ -47,7 +47,7 @@ head_in history at =
 -- before that one: as many cells from there on are the same
 pub record On (from to : ℕ) (history text : List ℕ) (start most at cell count : ℕ) : Type 0 where
   pub leads : Leads at to history text
-  pub Some : 0 < count
+  pub some : 0 < count
   pub few : count ≤ most
   pub part : cell + count ≤ length (text_since at to history text)
   pub same :
@@ -70,7 +70,7 @@ cells_in false history text = text
 
 -- a stretch is of cells of a text, from a place on, and of no more than so many
 pub record Follows (s : Stretch) (history text traced : List ℕ) (start most : ℕ) : Type 0 where
-  pub Some : 0 < s.count
+  pub some : 0 < s.count
   pub few : s.count ≤ most
   pub part : s.at + s.count ≤ length (cells_in s.kept history text)
   pub cells : take s.count (drop s.at (cells_in s.kept history text)) ≡ take s.count (drop start traced)
