@@ -13,17 +13,15 @@ use Rattle.ledger.specs.declared.Page.{Page}
 use Rattle.ledger.specs.Words.{Parted, zeros, pad}
 use Rattle.ledger.specs.Page.{state_of, framed, records}
 use Rattle.ledger.specs.Parts.{mark_within, cut_in, bounded}
-use Rattle.records.specs.declared.Walk.{Walk}
-use Rattle.records.specs.declared.Judged.TheVariants.{Sound}
-use Rattle.records.specs.Walking.{walk_cut, unsound, judged_as}
+use Rattle.records.specs.Walking.{Walk, walk_cut, last_of}
 use Rattle.page_read.specs.Inner.{is_some, Frames}
 
--- what a judgement tells
-pub none-judged : (done : ℕ) (x : Option Parted) → judged_as done x ≡ unsound → false ≡ is_some x
+-- what the survey of a page tells
+pub none-judged : (done : ℕ) (x : Option Parted) → last_of done x ≡ None → false ≡ is_some x
 none-judged done None e = refl
 none-judged done (Some v) e = let z : ◌≡◌ {A = ℕ} 0 1 = cc in absurd (omega arith)
 
-pub some-judged : (done : ℕ) (x : Option Parted) (l : ℕ) → judged_as done x ≡ Sound l → true ≡ is_some x
+pub some-judged : (done : ℕ) (x : Option Parted) (l : ℕ) → last_of done x ≡ Some l → true ≡ is_some x
 some-judged done None l e = let z : ◌≡◌ {A = ℕ} 0 1 = cc in absurd (omega arith)
 some-judged done (Some v) l e = refl
 

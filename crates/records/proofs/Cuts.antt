@@ -22,17 +22,17 @@ use Rattle.ledger.proofs.Words.{Whole, drop-take, words, length-words, words_app
 use Rattle.ledger.proofs.Words.{reached-append, reached-fits}
 use Rattle.ledger.proofs.Marks.{weight-sizes}
 use Rattle.ledger.proofs.Parts.{same-options}
-use Rattle.records.specs.declared.Walk.{Walk}
-use Rattle.records.specs.declared.Walk.TheVariants.{Broken, Led}
-use Rattle.records.specs.Walking.{last_from, walk_of, walk_in, walk_cut}
+use Rattle.records.specs.Walking.{Walk, last_from, walk_of, walk_in, walk_cut}
 use Rattle.records.proofs.Walks.{records-enough}
 
 -- what a walk tells of its test
-pub led : (t : Bool) (a b n l : ℕ) → cond t (Led a b) Broken ≡ Led n l → (t ≡ true) × (a ≡ n) × (b ≡ l)
-led true a b n l e = (refl, (cc), (cc))
+pub led : (t : Bool) (a b n l : ℕ) → cond {A = Walk} t (Some (a, b)) None ≡ Some (n, l) → (t ≡ true) × (a ≡ n) × (b ≡ l)
+led true a b n l e =
+    let p : ◌≡◌ {A = ℕ × ℕ} (a, b) (n, l) = cc in
+    (refl, ap (λ (q : ℕ × ℕ). q.0) p, ap (λ (q : ℕ × ℕ). q.1) p)
 led false a b n l e = let z : ◌≡◌ {A = ℕ} 0 1 = cc in absurd (omega arith)
 
-pub broken : (t : Bool) (a b : ℕ) → cond t (Led a b) Broken ≡ Broken → t ≡ false
+pub broken : (t : Bool) (a b : ℕ) → cond {A = Walk} t (Some (a, b)) None ≡ None → t ≡ false
 broken true a b e = let z : ◌≡◌ {A = ℕ} 0 1 = cc in absurd (omega arith)
 broken false a b e = refl
 
@@ -136,13 +136,13 @@ module _ (k : ℕ) (ws : List ℕ) (h : k ≤ length ws) where
     abbrev walk : Option (List Entry) → Walk
     walk x = walk_of room at len last x
 
-    both-broken : (x y : Option (List Entry)) → walk x ≡ Broken → walk (both_of x y) ≡ Broken
+    both-broken : (x y : Option (List Entry)) → walk x ≡ None → walk (both_of x y) ≡ None
     both-broken None y b = refl
     both-broken (Some es) None b = refl
     both-broken (Some es) (Some fs) b = rw (lengths-append, broken (lengths_fit room len es) _ _ b)
 
     both-led :
-        (x y : Option (List Entry)) (n l : ℕ) → Whole (λ es. sizes es ≡ k) x → walk x ≡ Led n l →
+        (x y : Option (List Entry)) (n l : ℕ) → Whole (λ es. sizes es ≡ k) x → walk x ≡ Some (n, l) →
         walk (both_of x y) ≡ walk_of room (at + k) n l y
     both-led None y n l w e = let z : ◌≡◌ {A = ℕ} 0 1 = cc in absurd (omega arith)
     both-led (Some es) None n l w e = refl
@@ -162,11 +162,11 @@ module _ (k : ℕ) (ws : List ℕ) (h : k ≤ length ws) where
     is-back n l =
         rw (records-enough (length (drop k ws)) (length ws - k) (drop k ws) (omega arith) (omega (arith, length-drop k ws)))
 
-    pub cut-broken : walk_in room at len last (take k ws) ≡ Broken → walk_cut room at len last k ws ≡ Broken
+    pub cut-broken : walk_in room at len last (take k ws) ≡ None → walk_cut room at len last k ws ≡ None
     cut-broken b = ap walk cut_at ∙ both-broken front back (sym is_front ∙ b)
 
     pub cut-led :
-        (n l : ℕ) → walk_in room at len last (take k ws) ≡ Led n l →
+        (n l : ℕ) → walk_in room at len last (take k ws) ≡ Some (n, l) →
         walk_cut room at len last k ws ≡ walk_in room (at + k) n l (drop k ws)
     cut-led n l e =
         ap walk cut_at ∙ both-led front back n l (front-sizes front (exact k (take k ws))) (sym is_front ∙ e)
@@ -174,14 +174,14 @@ module _ (k : ℕ) (ws : List ℕ) (h : k ≤ length ws) where
 
 -- a walk leads to no length over the room
 led-fits :
-    (room at len last n l : ℕ) (x : Option (List Entry)) → len ≤ room → walk_of room at len last x ≡ Led n l → n ≤ room
+    (room at len last n l : ℕ) (x : Option (List Entry)) → len ≤ room → walk_of room at len last x ≡ Some (n, l) → n ≤ room
 led-fits room at len last n l None h e = let z : ◌≡◌ {A = ℕ} 0 1 = cc in absurd (omega arith)
 led-fits room at len last n l (Some es) h e =
     let p = led (lengths_fit room len es) _ _ n l e in
     omega (arith, p.1, reached-fits room len es h p.0)
 
 pub walk-fits :
-    (room at len last n l : ℕ) (ws : List ℕ) → len ≤ room → walk_in room at len last ws ≡ Led n l → n ≤ room
+    (room at len last n l : ℕ) (ws : List ℕ) → len ≤ room → walk_in room at len last ws ≡ Some (n, l) → n ≤ room
 walk-fits room at len last n l ws h e = led-fits room at len last n l (records_in (length ws) ws) h e
 
 -- a mark cuts words between the first and the last of them
@@ -207,12 +207,12 @@ module _ (h : List ℕ) (from cut to : ℕ) (a : from ≤ cut) (b : cut ≤ to) 
   enough = rw (drop-take from to h) (simp (length-take, length-drop) (omega arith))
 
   pub marked-broken :
-      walk_in room from start last (slice from cut h) ≡ Broken →
-      walk_cut room from start last (cut - from) (slice from to h) ≡ Broken
+      walk_in room from start last (slice from cut h) ≡ None →
+      walk_cut room from start last (cut - from) (slice from to h) ≡ None
   marked-broken e = cut-broken (cut - from) (slice from to h) enough room from start last (rw first_part e)
 
   pub marked-led :
-      (n l : ℕ) → walk_in room from start last (slice from cut h) ≡ Led n l →
+      (n l : ℕ) → walk_in room from start last (slice from cut h) ≡ Some (n, l) →
       walk_cut room from start last (cut - from) (slice from to h) ≡ walk_in room cut n l (slice cut to h)
   marked-led n l e =
       let k : from + (cut - from) ≡ cut = omega arith in
