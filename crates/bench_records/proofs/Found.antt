@@ -27,11 +27,9 @@ use Rattle.benches.specs.Benches.{State, Outcome, sound_at, judged, records}
 use Rattle.benches.specs.Layout.{long, bench, editor_for}
 use Rattle.benches.specs.Calls.{outcome_at, reply_at}
 use Rattle.bench_records.specs.declared.Pass.{Pass}
-use Rattle.bench_records.specs.declared.Passed.{Passed}
-use Rattle.bench_records.specs.declared.Passed.TheVariants.{Broken, Through}
 use Rattle.bench_records.specs.declared.Judged.{Judged}
 use Rattle.bench_records.specs.declared.Judged.TheVariants.{Unfit, Sound}
-use Rattle.bench_records.specs.Passing.{leads, pass_sound}
+use Rattle.bench_records.specs.Passing.{Passed, leads, pass_sound}
 use Rattle.bench_records.specs.Turning.{side_at}
 use Rattle.bench_records.specs.Judging.{pass_at, judged_at, sound_by, named_by, judge_of}
 use Rattle.bench_records.proofs.Passes.{pass-sound}
@@ -109,7 +107,7 @@ module _ (t : State) where
       (λ _. tt)
 
   -- and each one's pass goes through
-  pass-through : (rs : List Record) (s : Side) → sound_at t rs s ≡ true → pass_at t rs s ≡ Broken → ⊥
+  pass-through : (rs : List Record) (s : Side) → sound_at t rs s ≡ true → pass_at t rs s ≡ None → ⊥
   unfolding pass_sound leads
   pass-through rs s e q =
       let b : Bench = at t.benches s in
@@ -131,7 +129,7 @@ pub record Fit (t : State) (s : Side) (p : Pass) : Type 0 where
   pub rs : List Record
   pub found : records t ≡ Some rs
   pub tiled : Tiled t rs
-  pub passes : pass_at t rs s ≡ Through p
+  pub passes : pass_at t rs s ≡ Some p
 
 module _ (t : State) where
   fit-cases :
@@ -153,9 +151,9 @@ module _ (t : State) where
         passes = through (pass_at t rs s) (rw (side-at s) at e);
       }
     where
-      through : (x : Passed) → sound_by x ≡ Sound p → x ≡ Through p
-      through Broken e = let z : ◌≡◌ {A = ℕ} 0 1 = cc in absurd (omega arith)
-      through (Through q) e = let z : q ≡ p = cc in ap Through z
+      through : (x : Passed) → sound_by x ≡ Sound p → x ≡ Some p
+      through None e = let z : ◌≡◌ {A = ℕ} 0 1 = cc in absurd (omega arith)
+      through (Some q) e = let z : q ≡ p = cc in ap Some z
 
   module _ {j : Judged} {p : Pass} (n : ℕ) (d : j ≡ judge_of t n) (e : j ≡ Sound p) where
     fit-side : (s : Side) → side_of n ≡ Some s → Fit t s p
@@ -208,8 +206,8 @@ module _ (t : State) where
     unfit-named s false (Some rs) w e = absurd (broken (pass_at t rs s) refl (rw (side-at s) at e))
       where
         broken : (x : Passed) → pass_at t rs s ≡ x → sound_by x ≡ Unfit a → ⊥
-        broken Broken q e = pass-through t rs s (w.sound s) q
-        broken (Through p) q e = let z : ◌≡◌ {A = ℕ} 0 1 = cc in omega arith
+        broken None q e = pass-through t rs s (w.sound s) q
+        broken (Some p) q e = let z : ◌≡◌ {A = ℕ} 0 1 = cc in omega arith
 
     unfit-nobody :
         (l : Bool) → cond l (Unfit (Refused OverLimit limit)) (Unfit (Refused NoSuchBench 0)) ≡ Unfit a →
