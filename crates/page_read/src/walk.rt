@@ -11,7 +11,6 @@ ghost use Rattle.page_read.specs.Inner.{is_some, Frames};
 
 use crate::hex;
 use ledger::Page;
-use records::Walk;
 
 // A word of the n words from a place on.
 fn word_of(file: &[u8], base: usize, n: usize, i: usize) -> usize
@@ -32,7 +31,7 @@ fn walk_records(
     start: usize,
     before: usize,
     room: usize,
-) -> Walk
+) -> Option<(usize, usize)>
     requires { (from ≤ to) × (to ≤ n) × (n ≤ limit) × (base + n * 8 ≤ length file.now) × (start ≤ room)
         × (room ≤ limit) }
     ensures { result ≡ walk_in room from start before (slice from to (hexes_at file.now base 8 n)) }
@@ -42,27 +41,27 @@ fn walk_records(
     let mut last = before;
     while at < to {
         if to - at < 3 {
-            return Walk::Broken;
+            return None;
         }
         let place = word_of(file, base, n, at);
         let removed = word_of(file, base, n, at + 1);
         let added = word_of(file, base, n, at + 2);
         let size = 3 + removed + added;
         if to - at < size {
-            return Walk::Broken;
+            return None;
         }
         if len < place + removed {
-            return Walk::Broken;
+            return None;
         }
         let after = len - removed + added;
         if room < after {
-            return Walk::Broken;
+            return None;
         }
         last = at;
         at += size;
         len = after;
     }
-    Walk::Led(len, last)
+    Some((len, last))
 }
 
 // The records from one word to another, where a mark among those words is the end of one of them.
@@ -75,17 +74,14 @@ fn walk_marked(
     start: usize,
     room: usize,
     mark: Option<usize>,
-) -> Walk
+) -> Option<(usize, usize)>
     requires { (from ≤ to) × (to ≤ n) × (n ≤ limit) × (base + n * 8 ≤ length file.now) × (start ≤ room)
         × (room ≤ limit) }
     ensures { result ≡ walk_cut room from start from (cut_in mark from to - from)
         (slice from to (hexes_at file.now base 8 n)) }
 {
     let cut = records::cut_in(mark, from, to);
-    let first = walk_records(file, base, n, from, cut, start, from, room);
-    let Walk::Led(len, last) = first else {
-        return Walk::Broken;
-    };
+    let (len, last) = walk_records(file, base, n, from, cut, start, from, room)?;
     walk_records(file, base, n, cut, to, len, last, room)
 }
 
@@ -96,44 +92,14 @@ pub fn is_sound(file: &[u8], base: usize, page: Page, room: usize) -> bool
     ensures { (t h : List ℕ) → Frames page room (hexes_at file.now base 8 page.used) t h →
         result ≡ is_some (records (state_of page t h)) }
 {
-    if room < page.opening {
-        return false;
-    }
-    if page.used < page.done {
-        return false;
-    }
+    let n = page.used;
     let saved = page.saved;
-    if !records::mark_within(saved, page.used) {
+    if room < page.opening || n < page.done || !records::mark_within(saved, n) {
         return false;
     }
-    let standing = walk_marked(
-        file,
-        base,
-        page.used,
-        0,
-        page.done,
-        page.opening,
-        room,
-        saved,
-    );
-    let Walk::Led(reached, _) = standing else {
+    let standing = walk_marked(file, base, n, 0, page.done, page.opening, room, saved);
+    let Some((reached, _)) = standing else {
         return false;
     };
-    if reached != page.length {
-        return false;
-    }
-    let undone = walk_marked(
-        file,
-        base,
-        page.used,
-        page.done,
-        page.used,
-        page.length,
-        room,
-        saved,
-    );
-    let Walk::Led(_, _) = undone else {
-        return false;
-    };
-    true
+    reached == page.length && walk_marked(file, base, n, page.done, n, reached, room, saved).is_some()
 }
