@@ -26,7 +26,7 @@ use Rattle.page_file.specs.Reading.{parse}
 use Rattle.page_file.specs.Calls.{unread, state_from, given, read_parted, read_fitting, read_parsed, read_of}
 use Rattle.page_file.specs.Inner.{belongs_by}
 use Rattle.page_file.proofs.Belonging.{belongs-by}
-use Rattle.page_read.specs.Inner.{is_some}
+use Rattle.std.specs.Option.{is_some}
 
 -- elements in front, and zeros behind them
 module _ (l out₀ out₁ : List ℕ) (n : ℕ) (e : length l ≡ n) (h : n ≤ length out₀) (f : out₁ ≡ filled l out₀) where
@@ -35,9 +35,6 @@ module _ (l out₀ out₁ : List ℕ) (n : ℕ) (e : length l ≡ n) (h : n ≤ 
 
   front : take n out₁ ≡ l
   front = ap (take n) f ∙ take_at l (drop (length l) out₀) n e
-
-  pub pads-bytes : {out : List ℕ} → out ≡ take n out₁ ++ replicate (length out₁ - n) 0 → out ≡ pad (length out₀) l
-  pads-bytes g = g ∙ rw (front, same_length, e)
 
   pub pads-words : {out : List ℕ} → out ≡ pad (length out₁) (take n out₁) → out ≡ pad (length out₀) l
   pads-words g = g ∙ rw (front, same_length)

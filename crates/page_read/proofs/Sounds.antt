@@ -4,7 +4,7 @@ use Prim.Native.Nat.{ℕ, zero, suc, ◌+◌, ◌-◌, ◌≤◌, ◌<◌}
 use mathlib.Core.Path.{◌≡◌, refl, sym, ap, ◌∙◌}
 use mathlib.Core.Bool.{Bool, true, false, ◌&&◌}
 use mathlib.Core.List.{List, [], ◌∷◌, ◌++◌}
-use Rattle.std.specs.Prelude.{Option, None, Some}
+use Rattle.std.specs.Prelude.{Option, None, Some, is_some}
 use native.Mathlib.Omega.{arith}
 use lib.ListN.{length, take, drop, replicate, length-append, length-replicate}
 use lib.Seq.{slice, take-take, take_at, drop_at}
@@ -14,16 +14,12 @@ use Rattle.ledger.specs.Words.{Parted, zeros, pad}
 use Rattle.ledger.specs.Page.{state_of, framed, records}
 use Rattle.ledger.specs.Parts.{mark_within, cut_in, bounded}
 use Rattle.records.specs.Walking.{Walk, walk_cut, last_of}
-use Rattle.page_read.specs.Inner.{is_some, Frames}
+use Rattle.page_read.specs.Inner.{Frames}
 
 -- what the survey of a page tells
-pub none-judged : (done : ℕ) (x : Option Parted) → last_of done x ≡ None → false ≡ is_some x
-none-judged done None e = refl
-none-judged done (Some v) e = let z : ◌≡◌ {A = ℕ} 0 1 = cc in absurd (omega arith)
-
-pub some-judged : (done : ℕ) (x : Option Parted) (l : ℕ) → last_of done x ≡ Some l → true ≡ is_some x
-some-judged done None l e = let z : ◌≡◌ {A = ℕ} 0 1 = cc in absurd (omega arith)
-some-judged done (Some v) l e = refl
+pub some_of_last : (done : ℕ) (x : Option Parted) → is_some (last_of done x) ≡ is_some x
+some_of_last done None = refl
+some_of_last done (Some v) = refl
 
 module _ {p : Page} {room : ℕ} {words t h : List ℕ} (f : Frames p room words t h) where
   words_same : (from to : ℕ) → to ≤ p.used → slice from to words ≡ slice from to h

@@ -1,6 +1,5 @@
 -- What the code finds on its way, over the definitions of the crate page_file.
 use Rattle.std.specs.Prelude.{ℕ, ◌+◌, ◌*◌, ◌≤◌, ◌≡◌, Bool, true, false, cond, List, length, take, drop, eqb}
-use Rattle.std.specs.Prelude.{Option, None, Some}
 use Rattle.codec.specs.declared.Kind.{Kind}
 use Rattle.codec.specs.declared.Kind.TheVariants.{Utf7Header, Utf7Body, Jp2}
 use Rattle.ledger.specs.declared.Page.{Page}
@@ -83,10 +82,6 @@ pub record Lists (s : List ℕ) (p : Plan) : Type 0 where
 
 abbrev pub Planned : List ℕ → Plan → Type 0
 Planned s p = p.ok ≡ true → Lists s p
-
-abbrev pub is_some : Option Parted → Bool
-is_some None = false
-is_some (Some v) = true
 
 -- buffers of a page whose history begins with these words, with zeros past the ends
 pub record Frames (page : Page) (room : ℕ) (words t h : List ℕ) : Type 0 where

@@ -45,7 +45,7 @@ fn fill_bytes(file: &[u8], from: usize, n: usize, out: &mut [u8])
     ensures { out.new ≡ pad (length out.old) (hexes_at file.now from 2 n) }
 {
     hex::read_bytes(file, from, n, &mut *out);
-    hex::clear_bytes(&mut *out, n);
+    out[n..].fill(0);
 }
 
 fn fill_words(file: &[u8], from: usize, n: usize, out: &mut [u32])

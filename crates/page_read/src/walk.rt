@@ -1,13 +1,13 @@
 // Whether a page's records are sound, walked over by their hex digits in a file: what the crate records does over
 // words.
-ghost use Rattle.std.specs.Prelude.{◌≡◌, List, ℕ, ◌+◌, ◌-◌, ◌*◌, ◌<◌, ◌≤◌, ◌^◌, length, get_or};
+ghost use Rattle.std.specs.Prelude.{◌≡◌, List, ℕ, ◌+◌, ◌-◌, ◌*◌, ◌<◌, ◌≤◌, ◌^◌, length, get_or, is_some};
 ghost use Rattle.std.proofs.Math.Seq.{slice};
 ghost use Rattle.answer.specs.Answer.{limit};
 ghost use Rattle.ledger.specs.Page.{state_of, records};
 ghost use Rattle.ledger.specs.Parts.{cut_in};
-ghost use Rattle.records.specs.Walking.{walk_in, walk_cut};
+ghost use Rattle.records.specs.Walking.{walk_in, walk_cut, last_of};
 ghost use Rattle.scan.specs.Inner.{hexes_at};
-ghost use Rattle.page_read.specs.Inner.{is_some, Frames};
+ghost use Rattle.page_read.specs.Inner.{Frames};
 
 use crate::hex;
 use ledger::Page;
@@ -85,21 +85,34 @@ fn walk_marked(
     walk_records(file, base, n, cut, to, len, last, room)
 }
 
-// The page is sound with any buffers that begin with its lists and hold zeros past them, the text's of this length.
+// Where the last standing record begins, in any buffers that begin with the page's lists and hold zeros past them, the
+// text's of this length. None where the page is not sound with them.
+fn survey(file: &[u8], base: usize, page: Page, room: usize) -> Option<usize>
+    requires { (page.length ≤ room) × (room ≤ limit) × (page.used ≤ limit)
+        × (base + page.used * 8 ≤ length file.now) }
+    ensures { (t h : List ℕ) → Frames page room (hexes_at file.now base 8 page.used) t h →
+        result ≡ last_of page.done (records (state_of page t h)) }
+{
+    let n = page.used;
+    let saved = page.saved;
+    if room < page.opening || n < page.done || !records::mark_within(saved, n) {
+        return None;
+    }
+    let (reached, last) = walk_marked(file, base, n, 0, page.done, page.opening, room, saved)?;
+    if reached != page.length {
+        return None;
+    }
+    walk_marked(file, base, n, page.done, n, page.length, room, saved)?;
+    Some(last)
+}
+
+// The page is sound with any such buffers.
+#[tactic(auto, using(crate::proofs::Sounds::some_of_last))]
 pub fn is_sound(file: &[u8], base: usize, page: Page, room: usize) -> bool
     requires { (page.length ≤ room) × (room ≤ limit) × (page.used ≤ limit)
         × (base + page.used * 8 ≤ length file.now) }
     ensures { (t h : List ℕ) → Frames page room (hexes_at file.now base 8 page.used) t h →
         result ≡ is_some (records (state_of page t h)) }
 {
-    let n = page.used;
-    let saved = page.saved;
-    if room < page.opening || n < page.done || !records::mark_within(saved, n) {
-        return false;
-    }
-    let standing = walk_marked(file, base, n, 0, page.done, page.opening, room, saved);
-    let Some((reached, _)) = standing else {
-        return false;
-    };
-    reached == page.length && walk_marked(file, base, n, page.done, n, reached, room, saved).is_some()
+    survey(file, base, page, room).is_some()
 }
