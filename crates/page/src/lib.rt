@@ -61,18 +61,15 @@ fn accept(
     ensures { (result ≡ edited_as page (spliced place count cells.now (take page.length text.old)) used done saved)
         × (text.new ≡ pad (length text.old) (spliced place count cells.now (take page.length text.old))) }
 {
-    let length = page.length;
-    let kind = page.kind;
-    let n = splice::splice_in(&mut *text, length, place, count, cells);
+    let length = splice::splice_in(&mut *text, page.length, place, count, cells);
     Edited {
-        answer: Answer::Accepted(n),
+        answer: Answer::Accepted(length),
         page: Page {
-            kind,
-            opening: page.opening,
-            length: n,
+            length,
             used,
             done,
             saved,
+            ..page
         },
     }
 }
@@ -109,10 +106,7 @@ fn no_change() -> Change
 pub fn change_at(history: &[u32], at: usize, forward: bool) -> Change
     ensures { result ≡ change_found forward history.now at }
 {
-    if history.len() < 3 {
-        return no_change();
-    }
-    if history.len() - 3 < at {
+    if history.len() < 3 || history.len() - 3 < at {
         return no_change();
     }
     let place = records::wide(history[at]);
@@ -152,17 +146,14 @@ fn move_over(page: Page, forward: bool, last: usize, text: &mut [u32], history: 
         return refused(page, Answer::Refused(Refusal::NothingLeft, 0));
     }
     let change = change_at(history, at, forward);
-    let from = change.from;
-    let to = change.to;
-    let saved = page.saved;
     accept(
         page,
         change.place,
         change.count,
-        &history[from..to],
+        &history[change.from..change.to],
         page.used,
         change.done,
-        saved,
+        page.saved,
         &mut *text,
     )
 }
@@ -218,13 +209,7 @@ fn put_record(
 pub fn mark_left(mark: Option<usize>, done: usize) -> Option<usize>
     ensures { result ≡ replaced_mark done mark }
 {
-    let Some(n) = mark else {
-        return None;
-    };
-    if done < n {
-        return None;
-    }
-    Some(n)
+    mark.filter(|n| *n <= done)
 }
 
 // 9, then 12; else the step is recorded and done.
@@ -260,8 +245,7 @@ fn replace_fitting(
         &text[place..end],
         cells,
     );
-    let old = page.saved;
-    let saved = mark_left(old, done);
+    let saved = mark_left(page.saved, done);
     accept(page, place, count, cells, used, used, saved, &mut *text)
 }
 
@@ -280,14 +264,10 @@ fn replace_sound(
         ≡ replace_sound (state_of page text.old history.old) place count cells.now }
 {
     let length = page.length;
-    if length < count {
+    if length < count || length - count < place {
         return refused(page, Answer::Refused(Refusal::BeyondLength, length));
     }
-    if length - count < place {
-        return refused(page, Answer::Refused(Refusal::BeyondLength, length));
-    }
-    let kind = page.kind;
-    let first = codec::first_unwritable(kind, cells);
+    let first = codec::first_unwritable(page.kind, cells);
     if first < cells.len() {
         return refused(page, Answer::Refused(Refusal::Unwritable, first));
     }
@@ -354,13 +334,10 @@ pub fn open(kind: Kind, arrived: &[u8], text: &mut [u32], history: &mut [u32]) -
         ≡ open_of kind arrived.now text.old history.old }
 {
     let none = fresh(kind, 0, None);
-    if answer::over_limit(arrived.len()) {
-        return refused(none, answer::too_long());
-    }
-    if answer::over_limit(text.len()) {
-        return refused(none, answer::too_long());
-    }
-    if answer::over_limit(history.len()) {
+    if answer::over_limit(arrived.len())
+        || answer::over_limit(text.len())
+        || answer::over_limit(history.len())
+    {
         return refused(none, answer::too_long());
     }
     let answer = codec::read(kind.format(), arrived, &mut *text);
@@ -374,11 +351,10 @@ pub fn open(kind: Kind, arrived: &[u8], text: &mut [u32], history: &mut [u32]) -
 fn save_text(page: Page, cells: &[u32], arrived: &[u8], out: &mut [u8]) -> Answer
     ensures { output.leaves result out.new ≡ saved_in page cells.now arrived.now out.old }
 {
-    let kind = page.kind;
     if page.done != 0 {
-        return codec::write(kind, cells, &mut *out);
+        return codec::write(page.kind, cells, &mut *out);
     }
-    if !codec::reads_as(kind.format(), arrived, cells) {
+    if !codec::reads_as(page.kind.format(), arrived, cells) {
         return Answer::Refused(Refusal::NotTheText, 0);
     }
     output::give(arrived, &mut *out)
@@ -388,20 +364,15 @@ fn save_text(page: Page, cells: &[u32], arrived: &[u8], out: &mut [u8]) -> Answe
 fn set_mark(page: Page, answer: Answer) -> Edited
     ensures { result ≡ record { answer = answer; page = saved_page page answer } }
 {
-    let Answer::Accepted(_) = answer else {
-        return refused(page, answer);
-    };
-    let kind = page.kind;
-    Edited {
-        answer,
-        page: Page {
-            kind,
-            opening: page.opening,
-            length: page.length,
-            used: page.used,
-            done: page.done,
-            saved: Some(page.done),
+    match answer {
+        Answer::Accepted(_) => Edited {
+            answer,
+            page: Page {
+                saved: Some(page.done),
+                ..page
+            },
         },
+        Answer::Refused(_, _) => refused(page, answer),
     }
 }
 
@@ -431,22 +402,12 @@ pub fn save(page: Page, text: &[u32], history: &[u32], arrived: &[u8], out: &mut
 }
 
 // Whether the mark is at the words done.
-fn is_marked(mark: Option<usize>, done: usize) -> bool
-    ensures { result ≡ unchanged_at done mark }
-{
-    let Some(n) = mark else {
-        return false;
-    };
-    n == done
-}
-
 pub fn told(page: Page) -> Asked
     ensures { result ≡ record { answer = Accepted 0; unchanged = unchanged_at page.done page.saved } }
 {
-    let saved = page.saved;
     Asked {
         answer: Answer::Accepted(0),
-        unchanged: is_marked(saved, page.done),
+        unchanged: page.saved == Some(page.done),
     }
 }
 
