@@ -34,7 +34,7 @@ use Rattle.page_file.specs.Calls.{content_of, count_is, counted, belongs, keep_p
 use Rattle.page_file.specs.Inner.{belongs_by, form_if}
 use Rattle.page_file.proofs.Belonging.{belongs-by}
 use Rattle.page_file.proofs.Forms.{form-if}
-use Rattle.page_keep.specs.Inner.{is_long, decimal, front, form_line, page_lines, head_of, lists_of}
+use Rattle.page_keep.specs.Inner.{is_long, decimal, form_line, page_lines, head_of, lists_of}
 use Rattle.page_keep.specs.Inner.{content_by}
 use Rattle.page_keep.proofs.Puts.{length_digits, length-groups}
 
@@ -137,29 +137,6 @@ file-size two page cells words arrived e =
     ap length (file-is two page cells words arrived e)
     ∙ length-append (head_of two page) (lists_of arrived cells words)
     ∙ omega (arith, head-size two page, lists-size arrived cells words)
-
--- a number is its first digits and its last five
-pub front-is : (two : Bool) (n : ℕ) → decimal two n ≡ front two n ++ digits 10 5 n
-unfolding digits
-front-is true n = refl
-front-is false n = refl
-
-pub front-size : (two : Bool) (n : ℕ) → length (front two n) + 5 ≡ (form_if two).width
-front-size true n = refl
-front-size false n = refl
-
-pub width-least : (two : Bool) → 5 ≤ (form_if two).width
-width-least true = lit≤ tt
-width-least false = lit≤ tt
-
-module _ (two : Bool) (n at : ℕ) (out : List ℕ) where
-  pub no_front : two ≡ false → (at + 5 ≡ at + (form_if two).width) × (out ≡ sets out at (front two n))
-  no_front e = rw e (refl, refl)
-
-  pub two-front :
-      two ≡ true → {a b : ℕ} → a ≡ digit (n / 1000000 % 10) → b ≡ digit (n / 100000 % 10) →
-      (at + 2 + 5 ≡ at + (form_if two).width) × (set (set out at a) (at + 1) b ≡ sets out at (front two n))
-  two-front e i j = rw (e, i, j, add-one at) (omega arith, refl)
 
 -- put whole, from the front
 pub put_whole : (out file : List ℕ) → length file ≤ length out → sets out 0 file ≡ filled file out

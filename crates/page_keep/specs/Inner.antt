@@ -14,10 +14,6 @@ is_long page arrived = ltb 65536 (max (greatest page) (length arrived))
 abbrev pub decimal : Bool → ℕ → List ℕ
 decimal two n = file.decimal (form_if two) n
 
--- the digits of a number before its last five
-abbrev pub front : Bool → ℕ → List ℕ
-front two n = cond two (digit (n / 1000000 % 10) ∷ digit (n / 100000 % 10) ∷ []) []
-
 -- the first lines of a file
 abbrev pub form_line : Bool → List ℕ
 form_line two = cond two (bytes "form=2␊") (bytes "form=1␊")
