@@ -14,7 +14,7 @@ use Rattle.codec.specs.Kinds.{first_unwritable}
 use Rattle.codec.proofs.ByKind.{write-form}
 use Rattle.codec.proofs.Worked.{letter, cells_read, cells_edited, cells_great, written, letter-reads-as}
 use Rattle.codec.proofs.Worked.{letter-reads-other, sign-writable, great-unwritable, edited-writable, edited-writes}
-use Rattle.editor.specs.Marks.{Mark, replaced_mark, unchanged_at}
+use Rattle.editor.specs.Marks.{replaced_mark, unchanged_at}
 use Rattle.editor.specs.Ledger.{Step, replace, undo, redo, save}
 use Rattle.editor.specs.Records.{Entry}
 use Rattle.editor.specs.Editor.{Editor, Space, moves, records, edited, saving, undo_last, redo_next, replace_fitting}

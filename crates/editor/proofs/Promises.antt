@@ -12,13 +12,13 @@ use Rattle.answer.specs.Answer.{Verdict, limit, numbered, too_long}
 use Rattle.std.specs.Prelude.{Some}
 use Rattle.answer.specs.Output as output
 use Rattle.answer.proofs.Below.{cond-case}
-use Rattle.editor.specs.Marks.{Mark, replaced_mark}
-use Rattle.editor.specs.Ledger.{Step, Ledger, Call, undo, redo, save, squeeze, fed, weight_of, done_by}
+use Rattle.editor.specs.Marks.{Mark}
+use Rattle.editor.specs.Ledger.{Step, Ledger, Call, undo, redo, save, squeeze, fed, weight_of}
 use Rattle.editor.specs.Ledger.{unchanged_by}
-use Rattle.editor.specs.Records.{Entry, step_of, mark_fits}
+use Rattle.editor.specs.Records.{Entry, step_of}
 use Rattle.editor.specs.Editor.{Editor, Turn, with_text, with_mark, saved_as, turn_of, overlong, output_of, undo_last}
 use Rattle.editor.specs.Editor.{Space, redo_next, save_standing, words_in, squeeze_oldest}
-use Rattle.editor.specs.Layout.{Outcome, refusing, taken, Reply, Layout, laid, call_on, outcome_of}
+use Rattle.editor.specs.Layout.{Outcome, refusing, taken, Layout, laid, call_on, outcome_of}
 use Rattle.editor.specs.Layout.{reply_of, after, heard}
 use Rattle.editor.specs.Demand.{bytes_for, saved_bytes, undone-by, Promised}
 use Rattle.editor.proofs.Steps.{text-standing}

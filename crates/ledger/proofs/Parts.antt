@@ -2,7 +2,7 @@
 use Prim.Native.Nat.{ℕ, ◌+◌, ◌-◌, ◌≤◌}
 use mathlib.Core.Path.{◌≡◌, refl, sym, ap, ◌∙◌}
 use mathlib.Core.Bool.{Bool, true, ◌&&◌}
-use mathlib.Core.List.{List, [], ◌++◌, map, reverse_aux, reverse, reverse_aux-eq, reverse-reverse}
+use mathlib.Core.List.{List, [], ◌++◌, reverse_aux, reverse, reverse_aux-eq, reverse-reverse}
 use Rattle.std.specs.Prelude.{Option, None, Some}
 use native.Mathlib.Omega.{arith}
 use lib.ListN.{length, take, drop, length-append, length-take}
@@ -10,9 +10,7 @@ use lib.Seq.{take_at, drop_at, take-add, length-take-le}
 use lib.Dec.{leb, eqb}
 use borrow.Author.Tests.{le-leb, leb-true, eq-eqb, eqb-true}
 use Rattle.answer.proofs.Below.{both, cond-case}
-use Rattle.editor.specs.Marks.{Mark}
-use Rattle.editor.specs.Records.{step_of, mark_fits}
-use Rattle.ledger.specs.Words.{Entry, Parted, in_words, sizes, records_in, lengths_fit, reached, zeros}
+use Rattle.ledger.specs.Words.{Entry, Parted, sizes, records_in, lengths_fit, reached, zeros}
 use Rattle.ledger.specs.Page.{State, framed, records}
 use Rattle.ledger.specs.Parts.{joined, mark_within, cut_in, ends, ending_at, bounded, standing_in, undone_in, records_twice}
 use Rattle.ledger.proofs.Words.{Whole, words, length-words, words_append, sizes-reverse, records-words, exact, lengths-append}

@@ -20,7 +20,7 @@ use Rattle.editor.specs.Records.{Entry, step_of, ends_at, mark_fits}
 use Rattle.ledger.specs.Words.{Parted, in_words, sizes, zeros, pad}
 use Rattle.ledger.specs.Page.{State, state_of, framed, records}
 use Rattle.ledger.specs.Calls.{over}
-use Rattle.ledger.proofs.Words.{Whole, words, length-words, sizes-reverse}
+use Rattle.ledger.proofs.Words.{Whole, length-words, sizes-reverse}
 use Rattle.ledger.proofs.Marks.{weight-sizes}
 use Rattle.ledger.proofs.Sound.{Sound, records-sound}
 use Rattle.editor.proofs.Steps.{or_parts}

@@ -29,7 +29,7 @@ use Rattle.page_file.specs.File.{Content, Form, form1, form2, name_of, line, mar
 use Rattle.page_file.specs.File.{mark_number, greatest, greatest_in, form_for, file_of, IsFile}
 use Rattle.page_file.specs.File as file
 use Rattle.page_file.specs.Reading.{keyed, line_of, list_of, named, kind_name, page_by, decimal, mark}
-use Rattle.page_file.specs.Reading.{least, content_lines, lines_of, parse}
+use Rattle.page_file.specs.Reading.{least, lines_of, parse}
 
 -- values that are in form, each spelled in one way
 abbrev Spelled : {A : Type 0} → (A → Type 0) → (A → List ℕ) → Language A

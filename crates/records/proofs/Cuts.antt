@@ -16,7 +16,7 @@ use Rattle.editor.specs.Marks.{Mark}
 use Rattle.editor.specs.Ledger.{weight_of}
 use Rattle.editor.specs.Records.{step_of, ends_at}
 use Rattle.editor.proofs.Marks.{ends-zero, ends-beyond}
-use Rattle.ledger.specs.Words.{Entry, in_words, size_of, sizes, records_in, lengths_fit, reached}
+use Rattle.ledger.specs.Words.{Entry, in_words, size_of, sizes, records_in, lengths_fit}
 use Rattle.ledger.specs.Parts.{cut_in, ends, ending_at}
 use Rattle.ledger.proofs.Words.{Whole, drop-take, words, length-words, words_append, records-words, exact, lengths-append}
 use Rattle.ledger.proofs.Words.{reached-append, reached-fits}

@@ -1,7 +1,7 @@
 -- Where the two walks over a page's records lead, and whether the page is sound. Assumes nothing.
 use Prim.Native.Nat.{ℕ, ◌+◌, ◌-◌, ◌≤◌}
 use mathlib.Core.Path.{◌≡◌, refl, sym, ap, ◌∙◌}
-use mathlib.Core.Bool.{Bool, true, false, cond, ◌&&◌}
+use mathlib.Core.Bool.{Bool, true, false, ◌&&◌}
 use mathlib.Core.List.{List, [], ◌∷◌, reverse_aux, reverse}
 use Rattle.std.specs.Prelude.{Option, None, Some}
 use native.Mathlib.Omega.{arith}
@@ -17,7 +17,7 @@ use Rattle.answer.specs.declared.Refusal.TheVariants.{OverLimit}
 use Rattle.answer.proofs.Below.{both, cond-case}
 use Rattle.answer.proofs.Once.{numbers-once}
 use Rattle.ledger.specs.declared.Page.{Page}
-use Rattle.ledger.specs.Words.{Entry, size_of, records_in, lengths_fit, reached, zeros}
+use Rattle.ledger.specs.Words.{Entry, size_of, records_in, lengths_fit, reached}
 use Rattle.ledger.specs.Page.{State, state_of, framed, records}
 use Rattle.ledger.specs.Parts.{joined, cut_in, mark_within, ends, ending_at, bounded, standing_in, undone_in, records_twice}
 use Rattle.ledger.specs.Calls.{over}

@@ -1,10 +1,9 @@
 -- The text before some of a page's records, as its words and the present text have it: what the code follows, a stretch
 -- of cells at a time.
-use Rattle.std.specs.Prelude.{ℕ, ◌+◌, ◌-◌, ◌≤◌, ◌<◌, ◌≡◌, Bool, true, false, cond, ◌&&◌, List, [], reverse, length, get_or, take, drop, ltb, leb}
+use Rattle.std.specs.Prelude.{ℕ, ◌+◌, ◌-◌, ◌≤◌, ◌<◌, ◌≡◌, Bool, true, false, cond, ◌&&◌, List, [], reverse, length, get_or, take, drop, ltb, leb, min}
 use Rattle.std.specs.Prelude.{Option, None, Some}
 use Rattle.std.proofs.Math.Seq.{slice}
 use Rattle.answer.specs.Answer.{limit}
-use Rattle.reading.specs.Stepping.{least}
 use Rattle.editor.specs.Records.{Entry, text_before}
 use Rattle.ledger.specs.Words.{records_in, lengths_fit, reached}
 use Rattle.squeeze.specs.declared.Head.{Head}
@@ -60,7 +59,7 @@ kept_in h cell = leb h.place cell && ltb (cell - h.place) h.removed
 -- the walk behind a record that did not
 abbrev pub passed : Head → ℕ → ℕ → Trail
 passed h cell count =
-    cond (ltb cell h.place) (record { at = h.end; cell = cell; count = least count (h.place - cell) })
+    cond (ltb cell h.place) (record { at = h.end; cell = cell; count = min count (h.place - cell) })
     (record { at = h.end; cell = cell - h.removed + h.added; count = count })
 
 -- where the cells of a stretch are

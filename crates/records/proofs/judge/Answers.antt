@@ -1,4 +1,4 @@
-use Rattle.std.proofs.Common.{◌≡◌, sym, ap, ◌∙◌}
+use Rattle.std.proofs.Common.{sym, ap, ◌∙◌}
 use Rattle.records.specs.Walking.{judged_of}
 use Rattle.records.proofs.Judging.{long-text, long-history, not-long}
 use Rattle.records.proofs.judge.Goals as goal

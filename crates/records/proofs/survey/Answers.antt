@@ -1,4 +1,4 @@
-use Rattle.std.proofs.Common.{◌≡◌, sym, ◌∙◌, arith}
+use Rattle.std.proofs.Common.{sym, ◌∙◌, arith}
 use Rattle.records.proofs.Judging.{frame, unframed, broken-standing, other_length, broken-undone, both-led}
 use Rattle.records.proofs.survey.Goals as goal
 
