@@ -22,7 +22,7 @@ use Rattle.editor.proofs.Steps.{or_parts}
 use Rattle.ledger.specs.Words.{zeros}
 use Rattle.ledger.proofs.Words.{Whole}
 use Rattle.benches.specs.declared.Bench.{Bench}
-use Rattle.benches.specs.Words.{Side, first, second, number_of, side_of, at, Record, words, onto, records_in, own}
+use Rattle.benches.specs.Words.{Side, first, second, number_of, side_of, at, Record, words, onto, records_in}
 use Rattle.benches.specs.Benches.{State, Outcome, sound_at, judged, records}
 use Rattle.benches.specs.Layout.{long, bench, editor_for}
 use Rattle.benches.specs.Calls.{outcome_at, reply_at}

@@ -1,13 +1,12 @@
 -- Laws of moving, copying and clearing part of a list, a turn of a loop at a time, and of the edit made of them. Assumes nothing.
-use Prim.Native.Nat.{ℕ, zero, suc, ◌+◌, ◌-◌, ◌≤◌, ◌<◌}
+use Prim.Native.Nat.{ℕ, zero, suc, ◌+◌, ◌-◌, ◌≤◌}
 use mathlib.Core.Path.{◌≡◌, refl, sym, ap, ◌∙◌}
 use mathlib.Core.Bool.{true, false, ◌&&◌}
-use mathlib.Core.List.{List, [], ◌∷◌, ◌++◌, append_assoc, append-nil}
-use native.Mathlib.Nat.{sub-zero, zero-sub, suc-sub-suc, add-zero, le_of_suc-le-suc}
-use native.Mathlib.Numerals.{add-one}
+use mathlib.Core.List.{List, ◌++◌, append_assoc, append-nil}
+use native.Mathlib.Nat.{sub-zero, zero-sub, suc-sub-suc, le_of_suc-le-suc}
 use native.Mathlib.Omega.{arith}
-use lib.ListN.{length, get_or, take, drop, set, replicate, length-take, length-drop, length-append, length-replicate, get_or-replicate, get_or-append, drop_of_length-le, take-append-drop}
-use lib.Seq.{take-take, take-add, drop-drop, take-length, take-append-le, take_at, drop_at, paste, paste-zero, paste-suc, drop-paste, get_or-drop, get_or-take, take-suc, drop-cons, set_at, length-take-le}
+use lib.ListN.{length, take, drop, replicate, length-take, length-drop, length-append, length-replicate, drop_of_length-le}
+use lib.Seq.{take-take, drop-drop, take-length, take-append-le, take_at, drop_at, paste, length-take-le}
 use lib.Dec.{leb}
 use borrow.Author.Tests.{le-leb, leb-true}
 use Rattle.std.proofs.lemmas.Slice.{put_mid-paste}

@@ -1,5 +1,5 @@
-use Rattle.std.proofs.Common.{◌≡◌, sym, ◌∙◌, take, arith}
-use Rattle.bench_records.proofs.Fitting.{opens-within, text-off, pass-broken, pass-off, pass_fits}
+use Rattle.std.proofs.Common.{sym, ◌∙◌, take}
+use Rattle.bench_records.proofs.Fitting.{text-off, pass-broken, pass-off, pass_fits}
 use Rattle.bench_records.proofs.bench_fitted.Goals as goal
 
 pub returns-then-not-text_fits : goal.returns-then-not-text_fits

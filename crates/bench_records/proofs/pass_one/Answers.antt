@@ -1,4 +1,4 @@
-use Rattle.std.proofs.Common.{◌≡◌, sym, ap, ◌∙◌, arith, Some}
+use Rattle.std.proofs.Common.{sym, ap, ◌∙◌, arith, Some}
 use Rattle.bench_records.proofs.Turns.{no-bench, not-mine, beyond, too_long, one_more}
 use Rattle.bench_records.proofs.pass_one.Goals as goal
 

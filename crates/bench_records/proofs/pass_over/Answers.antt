@@ -1,4 +1,4 @@
-use Rattle.std.proofs.Common.{◌≡◌, refl, sym, ◌∙◌, arith}
+use Rattle.std.proofs.Common.{refl, sym, ◌∙◌, arith}
 use Rattle.bench_records.proofs.Turns.{turn_end, turn-cut, turn-short, turn-broken, turn-through, turn-bounded}
 use Rattle.bench_records.proofs.pass_over.Goals as goal
 

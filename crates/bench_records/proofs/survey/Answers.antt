@@ -1,5 +1,5 @@
-use Rattle.std.proofs.Common.{◌≡◌, sym, ◌∙◌, arith}
-use Rattle.benches.specs.Benches.{State, state_of}
+use Rattle.std.proofs.Common.{sym, ◌∙◌, arith}
+use Rattle.benches.specs.Benches.{state_of}
 use Rattle.bench_records.proofs.Judging.{used-beyond, not-blank, first_off, second-off, fits-first, fits-second}
 use Rattle.bench_records.proofs.survey.Goals as goal
 
