@@ -1,4 +1,4 @@
-use Rattle.std.proofs.Common.{◌≡◌, sym, ◌∙◌}
+use Rattle.std.proofs.Common.{sym, ◌∙◌}
 use Rattle.page.proofs.Openings.{long-arrived, long-text, long-history, open-accepted, open-refused}
 use Rattle.page.proofs.open.Goals as goal
 use Rattle.page.proofs.open.Goals.{then-over_limit-via-then-over_limit, then-over_limit-via-else-over_limit+then-over_limit-2, then-over_limit-via-else-over_limit+else-over_limit-2+then-over_limit-3}
