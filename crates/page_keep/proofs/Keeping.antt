@@ -1,36 +1,30 @@
 -- A file is its first lines and its lists, and how many bytes; what keeping answers. Assumes nothing.
-use Prim.Native.Nat.{ℕ, ◌+◌, ◌*◌, ◌/◌, ◌%◌, ◌≤◌, ◌<◌}
+use Prim.Native.Nat.{ℕ, ◌+◌, ◌*◌, ◌≤◌, ◌<◌}
 use Prim.Native.String.{String}
 use mathlib.Core.Path.{◌≡◌, refl, sym, ap, ◌∙◌}
-use mathlib.Core.Bool.{Bool, true, false, cond, ◌||◌}
+use mathlib.Core.Bool.{Bool, true, false, cond}
 use mathlib.Core.List.{List, [], ◌∷◌, ◌++◌, append_assoc, append-nil}
 use native.Mathlib.Omega.{arith}
 use native.Mathlib.Nat.{zero-add}
-use native.Mathlib.Numerals.{add-one}
-use lib.ListN.{length, take, drop, set, length-append}
+use lib.ListN.{length, take, length-append}
 use lib.Seq.{sets, sets-eq, length-take-le}
-use lib.Dec.{lit≤}
 use borrow.Author.Tests.{lt-ltb, le-ltb}
 use Rattle.answer.specs.Answer.{numbered, in_numbers, too_long}
-use Rattle.std.specs.Prelude.{None, Some, Option}
 use Rattle.answer.specs.declared.Answer.{Answer}
 use Rattle.answer.specs.declared.Answer.TheVariants.{Accepted, Refused}
 use Rattle.answer.specs.declared.Refusal.TheVariants.{NoRoom}
 use Rattle.answer.specs.Bytes.{bytes}
-use Rattle.answer.specs.Output.{Outcome, leaves, refusing, filled, deliver}
-use Rattle.codec.specs.declared.Kind.{Kind}
-use Rattle.editor.specs.Marks.{Mark}
+use Rattle.answer.specs.Output.{leaves, refusing, filled, deliver}
 use Rattle.ledger.specs.declared.Page.{Page}
-use Rattle.ledger.specs.Words.{Parted}
-use Rattle.ledger.specs.Page.{State, text_in, records}
+use Rattle.ledger.specs.Page.{State, text_in}
 use Rattle.ledger.specs.Calls.{over}
 use Rattle.records.specs.declared.Judged.{Judged}
 use Rattle.records.specs.declared.Judged.TheVariants.{Unfit}
 use Rattle.records.specs.Walking.{judge_of}
 use Rattle.records.proofs.Found.{Fit, unfit}
-use Rattle.parsing.specs.Digits.{digit, digits, groups, LF}
-use Rattle.page_file.specs.File.{Content, Form, line, joined, name_of, mark_of, file_in, file_of}
-use Rattle.page_file.specs.Calls.{content_of, count_is, counted, belongs, keep_parted, keep_of}
+use Rattle.parsing.specs.Digits.{groups}
+use Rattle.page_file.specs.File.{Form, line, joined, name_of, mark_of, file_in, file_of}
+use Rattle.page_file.specs.Calls.{content_of, keep_parted, keep_of}
 use Rattle.page_file.specs.Inner.{belongs_by, form_if}
 use Rattle.page_file.proofs.Belonging.{belongs-by}
 use Rattle.page_file.proofs.Forms.{form-if}

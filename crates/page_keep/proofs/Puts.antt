@@ -1,19 +1,18 @@
 -- Elements put into an output one after another, digits and groups of them. Assumes nothing.
 use Prim.Native.Nat.{ℕ, zero, suc, ◌+◌, ◌-◌, ◌*◌, ◌/◌, ◌%◌, ◌^◌, ◌<◌, ◌≤◌}
 use mathlib.Core.Path.{◌≡◌, refl, sym, ap, ◌∙◌}
-use mathlib.Core.Bool.{Bool, true, false, cond}
 use mathlib.Core.List.{List, [], ◌∷◌, ◌++◌, append_assoc, append-nil}
 use native.Mathlib.Omega.{arith}
 use native.Mathlib.Numerals.{add-one}
-use native.Mathlib.Nat.{add-zero, suc-mul, zero-mul, pow-suc}
+use native.Mathlib.Nat.{suc-mul, zero-mul, pow-suc}
 use Rattle.std.proofs.Math.Nat.{div-div-eq-div-mul}
-use lib.ListN.{length, get_or, take, drop, set, length-append}
+use lib.ListN.{length, get_or, take, set, length-append}
 use lib.Seq.{sets, sets-eq, paste, take-suc, take-length, length-take-le}
-use lib.Dec.{ltb, leb, eqb}
+use lib.Dec.{eqb}
 use borrow.Author.Tests.{eqb-true}
 use Rattle.std.proofs.lemmas.List.{set_comm}
 use Rattle.answer.proofs.Below.{all_below, below}
-use Rattle.parsing.specs.Digits.{digit, digits, groups, LF}
+use Rattle.parsing.specs.Digits.{digit, digits, groups}
 
 -- one piece, and another behind it
 pub sets-on : (out p q : List ℕ) (at to : ℕ) → to ≡ at + length p → sets (sets out at p) to q ≡ sets out at (p ++ q)

@@ -1,11 +1,11 @@
 -- What the code computes on its way. proofs/Keeping.antt: it is what the crate page_file says.
-use Rattle.std.specs.Prelude.{ℕ, ◌/◌, ◌%◌, max, Bool, cond, List, [], ◌∷◌, ◌++◌, length, ltb}
+use Rattle.std.specs.Prelude.{ℕ, max, Bool, cond, List, ◌++◌, length, ltb}
 use Rattle.ledger.specs.declared.Page.{Page}
 use Rattle.page_file.specs.File.{Content, line, name_of, mark_of, greatest}
 use Rattle.page_file.specs.File as file
 use Rattle.page_file.specs.Inner.{form_if}
 use Rattle.answer.specs.Bytes.{bytes}
-use Rattle.parsing.specs.Digits.{digit, groups}
+use Rattle.parsing.specs.Digits.{groups}
 
 -- whether form 2 is due
 abbrev pub is_long : Page → List ℕ → Bool

@@ -1,22 +1,20 @@
 -- What reading a file answers, and what it leaves. Assumes nothing.
-use Prim.Native.Nat.{ℕ, ◌+◌, ◌-◌, ◌*◌, ◌≤◌, ◌<◌}
+use Prim.Native.Nat.{ℕ, ◌≤◌, ◌<◌}
 use mathlib.Core.Path.{◌≡◌, refl, sym, ap, ◌∙◌}
-use mathlib.Core.Bool.{Bool, true, false, cond, ◌||◌}
-use mathlib.Core.List.{List, [], ◌∷◌, ◌++◌}
+use mathlib.Core.Bool.{Bool, true, false, cond}
+use mathlib.Core.List.{List}
 use Rattle.std.specs.Prelude.{Option, None, Some}
 use native.Mathlib.Omega.{arith}
-use lib.ListN.{length, take, drop, replicate, length-append, length-drop}
-use lib.Seq.{take_at, length_front}
+use lib.ListN.{length, take, drop, length-append, length-drop}
+use lib.Seq.{take_at}
 use borrow.Author.Tests.{lt-ltb, le-ltb}
 use Rattle.answer.specs.Answer.{numbered, in_numbers, too_long}
 use Rattle.answer.specs.declared.Answer.{Answer}
-use Rattle.answer.specs.declared.Answer.TheVariants.{Accepted, Refused}
-use Rattle.answer.specs.declared.Refusal.TheVariants.{NoRoom, Unsound, NotTheText, BadPageFile}
 use Rattle.answer.specs.Output.{filled}
 use Rattle.codec.specs.declared.Kind.TheVariants.{Utf7Header}
 use Rattle.ledger.specs.declared.Edited.{Edited}
 use Rattle.ledger.specs.Words.{Parted, pad}
-use Rattle.ledger.specs.Page.{State, Outcome, state_of, records, keeps}
+use Rattle.ledger.specs.Page.{records, keeps}
 use Rattle.ledger.specs.Calls.{over, no_page}
 use Rattle.ledger.proofs.Words.{Whole}
 use Rattle.ledger.proofs.Sound as sound

@@ -1,9 +1,9 @@
 -- Buffers that begin with a page's lists and hold zeros past them, and whether the page is sound with them. Assumes
 -- nothing.
-use Prim.Native.Nat.{ℕ, zero, suc, ◌+◌, ◌-◌, ◌≤◌, ◌<◌}
+use Prim.Native.Nat.{ℕ, zero, suc, ◌-◌, ◌≤◌, ◌<◌}
 use mathlib.Core.Path.{◌≡◌, refl, sym, ap, ◌∙◌}
-use mathlib.Core.Bool.{Bool, true, false, ◌&&◌}
-use mathlib.Core.List.{List, [], ◌∷◌, ◌++◌}
+use mathlib.Core.Bool.{Bool, true, false}
+use mathlib.Core.List.{List}
 use Rattle.std.specs.Prelude.{Option, None, Some, is_some}
 use native.Mathlib.Omega.{arith}
 use lib.ListN.{length, take, drop, replicate, length-append, length-replicate}
@@ -11,7 +11,7 @@ use lib.Seq.{slice, take-take, take_at, drop_at}
 use borrow.Author.Tests.{le-leb, lt-leb}
 use Rattle.ledger.specs.declared.Page.{Page}
 use Rattle.ledger.specs.Words.{Parted, zeros, pad}
-use Rattle.ledger.specs.Page.{state_of, framed, records}
+use Rattle.ledger.specs.Page.{state_of, framed}
 use Rattle.ledger.specs.Parts.{mark_within, cut_in, bounded}
 use Rattle.records.specs.Walking.{Walk, walk_cut, last_of}
 use Rattle.page_read.specs.Inner.{Frames}

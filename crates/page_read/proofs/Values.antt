@@ -1,16 +1,15 @@
 -- Numbers by hex digits, one after another. Assumes nothing.
-use Prim.Native.Nat.{ℕ, zero, suc, ◌+◌, ◌-◌, ◌*◌, ◌/◌, ◌%◌, ◌^◌, ◌<◌, ◌≤◌}
-use mathlib.Core.Path.{◌≡◌, refl, sym, ap, ◌∙◌}
-use mathlib.Core.List.{List, [], ◌∷◌, ◌++◌, append_assoc, append-nil}
+use Prim.Native.Nat.{ℕ, zero, suc, ◌+◌, ◌*◌, ◌/◌, ◌%◌, ◌^◌, ◌<◌, ◌≤◌}
+use mathlib.Core.Path.{◌≡◌, refl, ap, ◌∙◌}
+use mathlib.Core.List.{List, ◌∷◌}
 use native.Mathlib.Omega.{arith}
 use native.Mathlib.Numerals.{add-one}
 use native.Mathlib.Nat.{add-zero, zero-mul, suc-mul, pow-suc, mod-lt}
-use lib.ListN.{length, get_or, take, drop, set, replicate, drop_of_length-le, length-set, length-append, length-replicate}
-use lib.ListN.{replicate-append-replicate}
-use lib.Seq.{drop-cons, take_all, take-suc-set}
+use lib.ListN.{length, get_or, drop, set, drop_of_length-le}
+use lib.Seq.{drop-cons}
 use lib.Dec.{lit<}
 use Rattle.answer.specs.Output.{filled}
-use Rattle.answer.proofs.Put.{Put, put-start, put_as, put_next, put-lt, put-done}
+use Rattle.answer.proofs.Put.{Put, put-start, put_as, put_next, put-done}
 use Rattle.reading.specs.Reading.{Rule, Does}
 use Rattle.scan.specs.Inner.{nibble, hex_at, hexes_at}
 

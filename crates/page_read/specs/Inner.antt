@@ -1,11 +1,11 @@
 -- What the code finds on its way, over the definitions of the crate page_file.
-use Rattle.std.specs.Prelude.{ℕ, ◌+◌, ◌*◌, ◌≤◌, ◌≡◌, Bool, true, false, cond, List, length, take, drop, eqb}
+use Rattle.std.specs.Prelude.{ℕ, ◌+◌, ◌*◌, ◌≤◌, ◌≡◌, Bool, true, cond, List, length, take, drop, eqb}
 use Rattle.codec.specs.declared.Kind.{Kind}
 use Rattle.codec.specs.declared.Kind.TheVariants.{Utf7Header, Utf7Body, Jp2}
 use Rattle.ledger.specs.declared.Page.{Page}
-use Rattle.ledger.specs.Words.{Parted, zeros}
+use Rattle.ledger.specs.Words.{zeros}
 use Rattle.parsing.specs.Parsing.{Parsed, found, failed, Parser, done, ◌>>=◌, ◌>>◌, literal, Whole, whole, broken}
-use Rattle.parsing.specs.Digits.{number, list, LF}
+use Rattle.parsing.specs.Digits.{list, LF}
 use Rattle.scan.specs.declared.Found.{Found}
 use Rattle.scan.specs.Found.{found_as}
 use Rattle.scan.specs.Inner.{hexes_at}

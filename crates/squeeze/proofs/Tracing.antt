@@ -3,23 +3,22 @@ use Prim.Native.Nat.{ℕ, suc, ◌+◌, ◌-◌, ◌≤◌, ◌<◌, min}
 use mathlib.Core.Path.{◌≡◌, refl, sym, ap, ◌∙◌, subst}
 use mathlib.Core.Bool.{Bool, true, false, ◌&&◌}
 use mathlib.Core.List.{List, [], ◌∷◌, ◌++◌, reverse, reverse-reverse, append_assoc}
-use Rattle.std.specs.Prelude.{Option, None, Some}
+use Rattle.std.specs.Prelude.{Option, Some}
 use native.Mathlib.Omega.{arith}
 use native.Mathlib.Nat.{add-zero}
-use lib.ListN.{length, get_or, take, drop, length-append, length-take, length-drop, take-append-drop}
+use lib.ListN.{length, get_or, take, drop, length-append, length-drop, take-append-drop}
 use lib.Seq.{slice, length-slice, take-take, drop-drop, drop_at, drop-append-le, drop-append-add, take-append-le}
 use lib.Seq.{length-take-le, take-nil}
 use lib.Dec.{ltb, leb}
 use borrow.Author.Tests.{le-leb, leb-true, ltb-true, ltb-false}
 use Rattle.answer.specs.Answer.{limit}
 use Rattle.answer.proofs.Below.{both, cond-case}
-use Rattle.editor.specs.Records.{Entry, applied, turned, text_before}
+use Rattle.editor.specs.Records.{Entry, applied, turned}
 use Rattle.editor.proofs.Lengths.{fits-here, fits_next, text_from, before-from, length_from}
 use Rattle.ledger.specs.Words.{words_of, size_of, sizes, records_in, length_after, lengths_fit, reached}
 use Rattle.ledger.proofs.Words.{Whole, drop-take, At, words-at, words, length-record, records-words, exact}
 use Rattle.squeeze.specs.declared.Head.{Head}
 use Rattle.squeeze.specs.declared.Trail.{Trail}
-use Rattle.squeeze.specs.declared.Stretch.{Stretch}
 use Rattle.squeeze.specs.Folding.{fold_from}
 use Rattle.squeeze.specs.Tracing.{head_in, kept_in, passed, held_by, entries_in, text_since, Leads, On, Follows}
 

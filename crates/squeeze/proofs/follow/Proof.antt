@@ -1,6 +1,6 @@
 use native.Mathlib.Omega.{arith}
 use borrow.Author.Rules.{rules}
-use Prim.Native.Nat.{◌+◌, ◌-◌, ◌≤◌, min}
+use Prim.Native.Nat.{◌-◌, min}
 use mathlib.Core.Path.{refl, sym, ◌∙◌}
 use Rattle.squeeze.specs.Tracing.{On}
 use Rattle.squeeze.proofs.Tracing.{seen, whole-next, kept-within, least-below}

@@ -1,4 +1,4 @@
-use Rattle.std.proofs.Common.{◌≡◌, ◌+◌, ◌≤◌, ℕ, List, length, sym, arith}
+use Rattle.std.proofs.Common.{◌≡◌, ◌+◌, ◌≤◌, ℕ, List, length}
 use Rattle.squeeze.specs.Tracing.{cells_in}
 use Rattle.squeeze.proofs.Pasting.{put-part}
 use Rattle.squeeze.proofs.put.Goals as goal

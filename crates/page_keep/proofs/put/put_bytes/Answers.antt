@@ -1,4 +1,4 @@
-use Rattle.std.proofs.Common.{◌+◌, ◌∙◌, refl, length, arith}
+use Rattle.std.proofs.Common.{◌∙◌, refl, length, arith}
 use Rattle.std.proofs.lemmas.Slice.{put_mid-paste}
 use Rattle.page_keep.proofs.Puts.{paste-sets}
 use Rattle.page_keep.proofs.put.put_bytes.Goals as goal

@@ -1,4 +1,4 @@
-use Rattle.std.proofs.Common.{◌≡◌, ◌+◌, ◌-◌, ◌∙◌, ℕ, refl, sym, arith}
+use Rattle.std.proofs.Common.{◌≡◌, ◌+◌, ◌-◌, ℕ, refl, sym, arith}
 use Rattle.std.proofs.Math.Nat.{div-one, pow-zero}
 use Rattle.parsing.specs.Digits.{digits}
 use Rattle.page_keep.proofs.Puts.{digit-turn, rest-turn}

@@ -1,4 +1,4 @@
-use Rattle.std.proofs.Common.{◌≡◌, ◌∙◌, ℕ, List, refl, ap, length, take, arith}
+use Rattle.std.proofs.Common.{◌∙◌, ℕ, List, refl, ap, arith}
 use Rattle.std.proofs.lemmas.List.Edits.{sets}
 use lib.Seq.{take_all}
 use Rattle.parsing.specs.Digits.{groups}

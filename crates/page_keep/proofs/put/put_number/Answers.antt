@@ -1,4 +1,4 @@
-use Rattle.std.proofs.Common.{◌+◌, ◌++◌, ◌∙◌, refl, sym, length, arith}
+use Rattle.std.proofs.Common.{◌++◌, refl, arith}
 use Rattle.parsing.specs.Digits.{digits, LF}
 use Rattle.page_keep.proofs.Puts.{sets_then, length_digits}
 use Rattle.page_keep.proofs.put.put_number.Goals as goal

@@ -1,4 +1,4 @@
-use Rattle.std.proofs.Common.{◌≡◌, sym, ◌∙◌, arith}
+use Rattle.std.proofs.Common.{sym, ◌∙◌, arith}
 use Rattle.records.proofs.Judging.{unframed, broken-standing, other_length, broken-undone, both-led}
 use Rattle.page_read.proofs.Sounds.{no-opening, no-done, no-mark, all-bounded, standing-walk, undone-walk}
 use Rattle.page_read.proofs.walk.survey.Goals as goal

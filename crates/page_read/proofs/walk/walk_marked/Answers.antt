@@ -1,4 +1,4 @@
-use Rattle.std.proofs.Common.{◌≡◌, sym, ◌∙◌, arith}
+use Rattle.std.proofs.Common.{sym, ◌∙◌, arith}
 use Rattle.std.proofs.Math.Seq.{slice}
 use Rattle.scan.specs.Inner.{hexes_at}
 use Rattle.records.proofs.Cuts.{cut-between, marked-broken, marked-led, walk-fits}
