@@ -3,7 +3,7 @@ use Prim.Native.Nat.{ℕ, suc, ◌+◌, ◌-◌, ◌≤◌}
 use mathlib.Core.Path.{◌≡◌, refl, sym, ap, ◌∙◌}
 use mathlib.Core.Bool.{Bool, true, false, cond}
 use mathlib.Core.List.{List, [], ◌∷◌, ◌++◌, reverse, append-nil}
-use mathlib.Core.Option.{Option, none, some}
+use Rattle.std.specs.Prelude.{Option, None, Some}
 use native.Mathlib.Omega.{arith}
 use lib.ListN.{length, take, drop, length-append, length-reverse}
 use lib.Seq.{length-take-le}
@@ -62,7 +62,7 @@ module _ {t : State} {s : Side} {p : Pass} (f : Fit t s p) (place count : ℕ) (
 
   replace-is :
       editor.over cells ≡ false →
-      outcome_at t (some s) (replace place count cells)
+      outcome_at t (Some s) (replace place count cells)
       ≡ laid (bench s) t (editor.replace_at (space_in t s) e place count cells)
   unfolding outcome_at layout.outcome_of call_on
   replace-is few =
@@ -137,7 +137,7 @@ module _ {t : State} {s : Side} {p : Pass} (f : Fit t s p) (place count : ℕ) (
 
     replaced-is :
         editor.over cells ≡ false →
-        outcome_at t (some s) (replace place count cells)
+        outcome_at t (Some s) (replace place count cells)
         ≡ placed t s (replaced_on b (number_of s) t.used p place count cells text t.history)
     replaced-is few = replace-is few ∙ replaced-laid
 
@@ -175,5 +175,5 @@ unfolding outcome_at layout.outcome_of
 replace-long t n place count cells q = by (side_of n)
   where
     by : (x : Option Side) → outcome_at t x (replace place count cells) ≡ refusing t [] too_long
-    by none = rw q
-    by (some s) = rw q
+    by None = rw q
+    by (Some s) = rw q

@@ -9,8 +9,7 @@ use lib.Seq.{length-take-le, take-take}
 use borrow.Author.Tests.{lt-ltb, le-ltb}
 use Rattle.answer.specs.Answer.{numbered}
 use Rattle.codec.specs.Kinds.{first_unwritable}
-use Rattle.editor.specs.declared.Mark.{Mark}
-use Rattle.editor.specs.Marks.{replaced_mark}
+use Rattle.editor.specs.Marks.{Mark, replaced_mark}
 use Rattle.editor.specs.Records.{Entry, applied, entry_at}
 use Rattle.ledger.specs.Words.{words_of, pad}
 use Rattle.ledger.proofs.Words.{drop-take}

@@ -3,7 +3,7 @@ use Prim.Native.Nat.{ℕ, zero, suc, ◌≤◌}
 use mathlib.Core.Path.{◌≡◌, refl, sym, ap, ◌∙◌}
 use mathlib.Core.Bool.{Bool, true, false}
 use mathlib.Core.List.{List, reverse}
-use mathlib.Core.Option.{Option, none, some}
+use Rattle.std.specs.Prelude.{Option, None, Some}
 use native.Mathlib.Omega.{arith}
 use lib.ListN.{length, take}
 use lib.Dec.{eqb}
@@ -90,7 +90,7 @@ module _ {t : State} {s : Side} {p : Pass} (f : Fit t s p) where
 
     save-is :
         over arrived ≡ false →
-        outcome_at t (some s) (save arrived out)
+        outcome_at t (Some s) (save arrived out)
         ≡ laid (bench s) t (save_standing (space_in t s) editor arrived out editor.standing)
     unfolding outcome_at layout.outcome_of call_on
     save-is few =
@@ -100,14 +100,14 @@ module _ {t : State} {s : Side} {p : Pass} (f : Fit t s p) where
     saved-is :
         over arrived ≡ false → (a : Answer) (out' : List ℕ) →
         output.leaves a out' ≡ saved_in (page_of b) (take b.length text) arrived out →
-        saved_at t s (saved_bench b a) (in_numbers a) out' ≡ outcome_at t (some s) (save arrived out)
+        saved_at t s (saved_bench b a) (in_numbers a) out' ≡ outcome_at t (Some s) (save arrived out)
     saved-is few a out' e =
         saved-as t s editor a out'
         ∙ ap (λ (o : output.Outcome). laid (bench s) t (saved_as (space_in t s) editor o)) e
         ∙ sym (ap (laid (bench s) t) (standing-saved b.standing refl))
         ∙ sym (save-is few)
 
-  asked_is : reply_at t (some s) ≡ record { verdict = numbered 0 0; unchanged = unchanged_at b.standing b.saved }
+  asked_is : reply_at t (Some s) ≡ record { verdict = numbered 0 0; unchanged = unchanged_at b.standing b.saved }
   unfolding reply_at layout.reply_of
   asked_is = rw (f.short, f.found)
 
@@ -163,8 +163,8 @@ module _ (b : Benches) (text0 text1 history : List ℕ) (n : ℕ) where
   save-long arrived out q = by (side_of n)
     where
       by : (x : Option Side) → outcome_at t x (save arrived out) ≡ refusing t out too_long
-      by none = rw q
-      by (some s) = rw q
+      by None = rw q
+      by (Some s) = rw q
 
 -- what the caller's part gives back, beside the other bench
 module _ (b : Benches) (n : ℕ) (text0 text1 arrived out out' : List ℕ) (x : Bench) (r : Turned) (is : x ≡ bench_at b n)

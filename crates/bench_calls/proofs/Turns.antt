@@ -3,7 +3,7 @@ use Prim.Native.Nat.{ℕ, zero, suc, ◌+◌, ◌-◌, ◌≤◌, ◌<◌}
 use mathlib.Core.Path.{◌≡◌, refl, sym, ap, ◌∙◌}
 use mathlib.Core.Bool.{Bool, true, false, cond, ◌&&◌}
 use mathlib.Core.List.{List, [], ◌∷◌, ◌++◌, reverse, reverse-append, append_assoc}
-use mathlib.Core.Option.{some}
+use Rattle.std.specs.Prelude.{Some}
 use native.Mathlib.Omega.{arith}
 use lib.ListN.{length, take, drop, length-append, length-reverse, drop_of_length-le}
 use lib.Seq.{take_at, drop_at}
@@ -186,17 +186,17 @@ module _ {t : State} {s : Side} {p : Pass} (f : Fit t s p) where
   abbrev editor : Editor
   editor = editor_of b text es
 
-  undo-is : outcome_at t (some s) undo ≡ laid (bench s) t (undo_last editor editor.standing)
+  undo-is : outcome_at t (Some s) undo ≡ laid (bench s) t (undo_last editor editor.standing)
   unfolding outcome_at layout.outcome_of call_on
   undo-is = rw (f.short, f.found)
 
-  redo-is : outcome_at t (some s) redo ≡ laid (bench s) t (redo_next editor editor.undone)
+  redo-is : outcome_at t (Some s) redo ≡ laid (bench s) t (redo_next editor editor.undone)
   unfolding outcome_at layout.outcome_of call_on
   redo-is = rw (f.short, f.found)
 
   abbrev stepped_at : Bool → Outcome
-  stepped_at false = outcome_at t (some s) undo
-  stepped_at true = outcome_at t (some s) redo
+  stepped_at false = outcome_at t (Some s) undo
+  stepped_at true = outcome_at t (Some s) redo
 
   pub steppable : (forward : Bool) → Steppable forward b p text t.history
   steppable false = by b.standing refl
@@ -292,7 +292,7 @@ module _ (t : State) (n : ℕ) (p : Pass) (d : judge_of t n ≡ Sound p) (forwar
   abbrev left_of : Bench → List ℕ → Left
   left_of b text = stepped_on forward b t.used p text t.history
 
-  named_step : (s : Side) → side_of n ≡ some s → (f : Fit t s p) → stepped_of forward t n ≡ stepped_at f forward
+  named_step : (s : Side) → side_of n ≡ Some s → (f : Fit t s p) → stepped_of forward t n ≡ stepped_at f forward
   named_step s q f = by forward
     where
       by : (w : Bool) → stepped_of w t n ≡ stepped_at f w

@@ -1,6 +1,5 @@
 -- What closing the gap makes of the words of the shared history.
-use Rattle.std.specs.Prelude.{ℕ, ◌≤◌, ◌≡◌, List, [], ◌++◌, length, take, drop}
-use Rattle.std.proofs.Math.Option.{Option, none, some}
+use Rattle.std.specs.Prelude.{ℕ, ◌≤◌, ◌≡◌, List, [], ◌++◌, length, take, drop, Option, None, Some}
 use Rattle.std.proofs.Math.Seq.{slice}
 use Rattle.benches.specs.Words.{Side, Record, words, records_in, kept}
 use Rattle.bench_records.specs.Turning.{side_at}
@@ -11,8 +10,8 @@ pub record Tiles (from used : ℕ) (history : List ℕ) : Type 0 where
   pub is : words rs ++ drop used history ≡ drop from history
 
 abbrev pub others_of : Side → Option (List Record) → List ℕ
-others_of s none = []
-others_of s (some rs) = words (kept s 0 rs)
+others_of s None = []
+others_of s (Some rs) = words (kept s 0 rs)
 
 -- of words that records tile, those of the other bench's records
 unfoldable pub others_in : ℕ → List ℕ → List ℕ

@@ -2,7 +2,7 @@
 use Rattle.std.specs.Prelude.{ℕ, cond, List, [], length, eqb}
 use Rattle.answer.specs.Answer.{Verdict, numbered, in_numbers}
 use Rattle.answer.specs.declared.Answer.TheVariants.{Accepted}
-use Rattle.editor.specs.declared.Mark.{Mark}
+use Rattle.editor.specs.Marks.{Mark}
 use Rattle.ledger.specs.Words.{pad}
 use Rattle.benches.specs.declared.Bench.{Bench}
 use Rattle.benches.specs.declared.Benches.{Benches}

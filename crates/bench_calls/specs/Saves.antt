@@ -1,8 +1,7 @@
 -- What save and the question look at: a bench as a page whose words done are its standing steps.
-use Rattle.std.specs.Prelude.{ℕ, cond, List, take, eqb}
+use Rattle.std.specs.Prelude.{ℕ, cond, List, take, eqb, Some}
 use Rattle.answer.specs.declared.Answer.{Answer}
 use Rattle.answer.specs.declared.Answer.TheVariants.{Accepted, Refused}
-use Rattle.editor.specs.declared.Mark.TheVariants.{At}
 use Rattle.ledger.specs.declared.Page.{Page}
 use Rattle.benches.specs.declared.Bench.{Bench}
 use Rattle.benches.specs.declared.Benches.{Benches}
@@ -21,7 +20,7 @@ page_of b =
 
 -- the bench that a save with this answer gives back
 abbrev pub saved_bench : Bench → Answer → Bench
-saved_bench b (Accepted n) = marked_as b (At b.standing)
+saved_bench b (Accepted n) = marked_as b (Some b.standing)
 saved_bench b (Refused why place) = b
 
 -- the cells of the caller's text

@@ -3,7 +3,7 @@
 
 mod gap;
 
-ghost use Rattle.std.specs.Prelude.{◌≡◌, true, false, [], ◌+◌, ◌-◌, ◌≤◌, ◌<◌, length, take};
+ghost use Rattle.std.specs.Prelude.{◌≡◌, true, false, cond, [], ◌+◌, ◌-◌, ◌≤◌, ◌<◌, length, take, eqb};
 ghost use Rattle.answer.specs.Answer.{limit};
 ghost use Rattle.answer.specs.Output as output;
 ghost use Rattle.editor.specs.Records.{entry_at};
@@ -24,8 +24,8 @@ ghost use Rattle.bench_calls.specs.Saves.{page_of, saved_bench, cells_at};
 use answer::{Answer, Refusal};
 use bench_records::{Judged, Pass};
 use benches::{Bench, Benches, Edited};
-use editor::Mark;
 use ledger::{Asked, Page};
+
 // What a call gives back of the caller's bench, and the words then used.
 #[derive(Clone, Copy)]
 struct Turned {
@@ -53,42 +53,32 @@ fn stays(b: Bench, used: usize, answer: Answer) -> Turned
 }
 
 // The caller's bench beside the other one.
-fn first_back(b: Benches, t: Turned) -> Edited
+fn back(b: Benches, bench: usize, t: Turned) -> Edited
     ensures { result ≡ record {
       answer = t.answer;
-      benches = record { bench0 = t.bench; bench1 = b.bench1; used = t.used };
+      benches = record {
+        bench0 = cond (eqb bench 0) t.bench b.bench0;
+        bench1 = cond (eqb bench 0) b.bench1 t.bench;
+        used = t.used;
+      };
     } }
 {
     let answer = t.answer;
-    let bench0 = t.bench;
-    let bench1 = b.bench1;
-    Edited {
-        answer,
-        benches: Benches {
-            bench0,
-            bench1,
-            used: t.used,
-        },
-    }
-}
-
-fn second_back(b: Benches, t: Turned) -> Edited
-    ensures { result ≡ record {
-      answer = t.answer;
-      benches = record { bench0 = b.bench0; bench1 = t.bench; used = t.used };
-    } }
-{
-    let answer = t.answer;
-    let bench0 = b.bench0;
-    let bench1 = t.bench;
-    Edited {
-        answer,
-        benches: Benches {
-            bench0,
-            bench1,
-            used: t.used,
-        },
-    }
+    let used = t.used;
+    let benches = if bench == 0 {
+        Benches {
+            bench0: t.bench,
+            used,
+            ..b
+        }
+    } else {
+        Benches {
+            bench1: t.bench,
+            used,
+            ..b
+        }
+    };
+    Edited { answer, benches }
 }
 
 // Puts cells for `count` cells at a place of a bench's text.
@@ -99,7 +89,7 @@ fn accept(
     cells: &[u32],
     used: usize,
     standing: usize,
-    saved: Mark,
+    saved: Option<usize>,
     text: &mut [u32],
 ) -> Turned
     requires { (place + count ≤ b.length) × Filled b.length text.old
@@ -109,17 +99,14 @@ fn accept(
         × (text.new ≡ pad (length text.old)
         (spliced place count cells.now (take b.length text.old))) }
 {
-    let length = b.length;
-    let kind = b.kind;
-    let n = splice::splice_in(&mut *text, length, place, count, cells);
+    let length = splice::splice_in(&mut *text, b.length, place, count, cells);
     Turned {
-        answer: Answer::Accepted(n),
+        answer: Answer::Accepted(length),
         bench: Bench {
-            kind,
-            opening: b.opening,
-            length: n,
+            length,
             standing,
             saved,
+            ..b
         },
         used,
     }
@@ -140,17 +127,14 @@ fn move_at(
         ≡ moved_on forward b used at standing text.old history.now }
 {
     let change = page::change_at(history, at, forward);
-    let from = change.from;
-    let to = change.to;
-    let saved = b.saved;
     accept(
         b,
         change.place,
         change.count,
-        &history[from..to],
+        &history[change.from..change.to],
         used,
         standing,
-        saved,
+        b.saved,
         &mut *text,
     )
 }
@@ -214,14 +198,12 @@ fn step_sound(
     ensures { leaves result text0.new text1.new history.now []
         ≡ stepped_of forward (state_of b text0.old text1.old history.now) bench }
 {
-    if bench == 0 {
-        let bench0 = b.bench0;
-        let t = step_on(bench0, b.used, forward, p, &mut *text0, history);
-        return first_back(b, t);
-    }
-    let bench1 = b.bench1;
-    let t = step_on(bench1, b.used, forward, p, &mut *text1, history);
-    second_back(b, t)
+    let t = if bench == 0 {
+        step_on(b.bench0, b.used, forward, p, &mut *text0, history)
+    } else {
+        step_on(b.bench1, b.used, forward, p, &mut *text1, history)
+    };
+    back(b, bench, t)
 }
 
 fn step_over(
@@ -306,8 +288,7 @@ fn replace_fitting(
         &text[place..end],
         cells,
     );
-    let old = b.saved;
-    let saved = page::mark_left(old, b.standing);
+    let saved = page::mark_left(b.saved, b.standing);
     accept(
         b,
         place,
@@ -337,14 +318,10 @@ fn replace_on(
         ≡ replaced_on b mine used p place count cells.now text.old history.old }
 {
     let length = b.length;
-    if length < count {
+    if length < count || length - count < place {
         return stays(b, used, Answer::Refused(Refusal::BeyondLength, length));
     }
-    if length - count < place {
-        return stays(b, used, Answer::Refused(Refusal::BeyondLength, length));
-    }
-    let kind = b.kind;
-    let first = codec::first_unwritable(kind, cells);
+    let first = codec::first_unwritable(b.kind, cells);
     if first < cells.len() {
         return stays(b, used, Answer::Refused(Refusal::Unwritable, first));
     }
@@ -379,34 +356,13 @@ fn replace_sound(
         ≡ replace_of (state_of b text0.old text1.old history.old) bench place count
         cells.now }
 {
-    if bench == 0 {
-        let bench0 = b.bench0;
-        let t = replace_on(
-            bench0,
-            0,
-            b.used,
-            p,
-            place,
-            count,
-            cells,
-            &mut *text0,
-            &mut *history,
-        );
-        return first_back(b, t);
-    }
-    let bench1 = b.bench1;
-    let t = replace_on(
-        bench1,
-        1,
-        b.used,
-        p,
-        place,
-        count,
-        cells,
-        &mut *text1,
-        &mut *history,
-    );
-    second_back(b, t)
+    let used = b.used;
+    let t = if bench == 0 {
+        replace_on(b.bench0, 0, used, p, place, count, cells, &mut *text0, &mut *history)
+    } else {
+        replace_on(b.bench1, 1, used, p, place, count, cells, &mut *text1, &mut *history)
+    };
+    back(b, bench, t)
 }
 
 // Puts cells for `count` cells at a place of a bench's text, and records the step.
@@ -448,27 +404,20 @@ pub fn replace(
 fn bench_at(b: Benches, bench: usize) -> Bench
     ensures { result ≡ bench_at b bench }
 {
-    if bench == 0 {
-        let bench0 = b.bench0;
-        return bench0;
-    }
-    let bench1 = b.bench1;
-    bench1
+    if bench == 0 { b.bench0 } else { b.bench1 }
 }
 
 // A bench as a page whose words done are its standing steps: save and the question look at no others.
 fn page_of(b: Bench) -> Page
     ensures { result ≡ page_of b }
 {
-    let kind = b.kind;
-    let saved = b.saved;
     Page {
-        kind,
+        kind: b.kind,
         opening: b.opening,
         length: b.length,
         used: 0,
         done: b.standing,
-        saved,
+        saved: b.saved,
     }
 }
 
@@ -478,20 +427,12 @@ fn save_on(b: Bench, used: usize, cells: &[u32], arrived: &[u8], out: &mut [u8])
         × (output.leaves result.answer out.new
         ≡ saved_in (page_of b) cells.now arrived.now out.old) }
 {
-    let view = page_of(b);
-    let kept = page::save_sound(view, cells, arrived, &mut *out);
-    let answer = kept.answer;
-    let page = kept.page;
-    let saved = page.saved;
-    let kind = b.kind;
+    let kept = page::save_sound(page_of(b), cells, arrived, &mut *out);
     Turned {
-        answer,
+        answer: kept.answer,
         bench: Bench {
-            kind,
-            opening: b.opening,
-            length: b.length,
-            standing: b.standing,
-            saved,
+            saved: kept.page.saved,
+            ..b
         },
         used,
     }
@@ -512,13 +453,9 @@ fn save_sound(
         (cells_at b bench text0.now text1.now) arrived.now out.old) }
 {
     let caller = bench_at(b, bench);
-    let length = caller.length;
-    if bench == 0 {
-        let t = save_on(caller, b.used, &text0[..length], arrived, &mut *out);
-        return first_back(b, t);
-    }
-    let t = save_on(caller, b.used, &text1[..length], arrived, &mut *out);
-    second_back(b, t)
+    let cells = if bench == 0 { text0 } else { text1 };
+    let t = save_on(caller, b.used, &cells[..caller.length], arrived, &mut *out);
+    back(b, bench, t)
 }
 
 // Gives the arrived bytes where no step of the bench stands, else its text written in its kind; and its mark.

@@ -13,7 +13,6 @@ ghost use Rattle.bench_open.specs.Opens.{in_room, bench_of, refused_with, opened
 use answer::Answer;
 use benches::{Bench, Benches, Edited};
 use codec::Kind;
-use editor::Mark;
 use ledger::Page;
 
 // What a reading into no room answers, in a room of so many cells.
@@ -35,13 +34,10 @@ fn would_open(kind: Kind, arrived: &[u8], text: &[u32], history: &[u32]) -> Answ
     ensures { in_numbers result
         ≡ (pages.open_of kind arrived.now text.now history.now).verdict }
 {
-    if answer::over_limit(arrived.len()) {
-        return answer::too_long();
-    }
-    if answer::over_limit(text.len()) {
-        return answer::too_long();
-    }
-    if answer::over_limit(history.len()) {
+    if answer::over_limit(arrived.len())
+        || answer::over_limit(text.len())
+        || answer::over_limit(history.len())
+    {
         return answer::too_long();
     }
     let mut none = [0u32; 0];
@@ -57,7 +53,7 @@ fn no_bench(kind: Kind) -> Bench
         opening: 0,
         length: 0,
         standing: 0,
-        saved: Mark::None,
+        saved: None,
     }
 }
 
@@ -65,13 +61,11 @@ fn no_bench(kind: Kind) -> Bench
 fn not_opened(kind0: Kind, kind1: Kind, answer: Answer) -> Edited
     ensures { result ≡ refused_with kind0 kind1 answer }
 {
-    let bench0 = no_bench(kind0);
-    let bench1 = no_bench(kind1);
     Edited {
         answer,
         benches: Benches {
-            bench0,
-            bench1,
+            bench0: no_bench(kind0),
+            bench1: no_bench(kind1),
             used: 0,
         },
     }
@@ -81,14 +75,12 @@ fn not_opened(kind0: Kind, kind1: Kind, answer: Answer) -> Edited
 fn bench_of(page: Page) -> Bench
     ensures { result ≡ bench_of page }
 {
-    let kind = page.kind;
-    let saved = page.saved;
     Bench {
-        kind,
+        kind: page.kind,
         opening: page.opening,
         length: page.length,
         standing: 0,
-        saved,
+        saved: page.saved,
     }
 }
 
@@ -97,13 +89,11 @@ fn opened(first: Page, second: Page) -> Edited
     requires { (first.length ≤ limit) × (second.length ≤ limit) }
     ensures { result ≡ opened_with first second }
 {
-    let bench0 = bench_of(first);
-    let bench1 = bench_of(second);
     Edited {
         answer: Answer::Accepted(first.length + second.length),
         benches: Benches {
-            bench0,
-            bench1,
+            bench0: bench_of(first),
+            bench1: bench_of(second),
             used: 0,
         },
     }
@@ -127,9 +117,7 @@ fn open_both(
 {
     let first = page::open(kind0, arrived0, &mut *text0, &mut *history);
     let second = page::open(kind1, arrived1, &mut *text1, &mut *history);
-    let page0 = first.page;
-    let page1 = second.page;
-    opened(page0, page1)
+    opened(first.page, second.page)
 }
 
 // Reads both arrived texts and clears the history; bench 0's refusals come first.

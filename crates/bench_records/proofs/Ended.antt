@@ -17,7 +17,7 @@ use Rattle.benches.specs.declared.Bench.{Bench}
 use Rattle.benches.specs.Words.{Side, at, words, sizes, own}
 use Rattle.benches.specs.Benches.{State, bench_sound}
 use Rattle.bench_records.specs.declared.Pass.{Pass}
-use Rattle.bench_records.specs.declared.Passed.TheVariants.{Broken, Through}
+use Rattle.std.specs.Prelude.{None, Some}
 use Rattle.bench_records.specs.Passing.{begun, begins}
 use Rattle.bench_records.proofs.Passes.{end_of, passed_is, ends-seen, ends-spare, ends_last, ends_next, ends-none}
 use Rattle.bench_records.proofs.Places.{placed, placed_at}
@@ -82,7 +82,7 @@ module _ {t : State} {s : Side} {p : Pass} (f : Fit t s p) where
       through (lengths_fit (length text) b.opening es) fitting.lengths
       (sym (passed_is (length text) b.standing s f.rs 0 start) ∙ f.passes)
     where
-      through : (c : Bool) {q : Pass} → c ≡ true → cond c (Through q) Broken ≡ Through p → q ≡ p
+      through : (c : Bool) {q : Pass} → c ≡ true → cond c (Some q) None ≡ Some p → q ≡ p
       through true z e = (cc)
       through false z e = let y : ◌≡◌ {A = ℕ} 0 1 = cc in absurd (omega arith)
 

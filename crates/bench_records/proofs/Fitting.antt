@@ -10,9 +10,8 @@ use Rattle.answer.proofs.Below.{both}
 use Rattle.ledger.specs.Words.{zeros}
 use Rattle.benches.specs.declared.Bench.{Bench}
 use Rattle.bench_records.specs.declared.Pass.{Pass}
-use Rattle.bench_records.specs.declared.Passed.{Passed}
-use Rattle.bench_records.specs.declared.Passed.TheVariants.{Broken, Through}
-use Rattle.bench_records.specs.Passing.{begun}
+use Rattle.std.specs.Prelude.{None, Some}
+use Rattle.bench_records.specs.Passing.{Passed, begun}
 use Rattle.bench_records.specs.Turning.{pass_in}
 use Rattle.bench_records.specs.Judging.{text_fits, leads_as, fitted_of}
 
@@ -22,7 +21,7 @@ opens-within b text e =
     leb-true _ _ (both (leb b.opening (length text)) (leb b.length (length text)) p.0).0
 
 module _ (b : Bench) (text : List ℕ) (used mine : ℕ) (words : List ℕ) where
-  pub text-off : text_fits b text ≡ false → fitted_of b text used mine words ≡ Broken
+  pub text-off : text_fits b text ≡ false → fitted_of b text used mine words ≡ None
   unfolding fitted_of
   text-off e = rw e
 
@@ -30,15 +29,15 @@ module _ (b : Bench) (text : List ℕ) (used mine : ℕ) (words : List ℕ) wher
       (ok : text_fits b text ≡ true)
       (found : Passed)
       (f : found ≡ pass_in (length text) b.standing mine 0 (begun b.opening used) words) where
-    pub pass-broken : found ≡ Broken → fitted_of b text used mine words ≡ Broken
+    pub pass-broken : found ≡ None → fitted_of b text used mine words ≡ None
     unfolding fitted_of
     pass-broken e = rw (ok, sym f, e)
 
-    module _ (p : Pass) (e : found ≡ Through p) where
-      pub pass-off : leads_as b p ≡ false → fitted_of b text used mine words ≡ Broken
+    module _ (p : Pass) (e : found ≡ Some p) where
+      pub pass-off : leads_as b p ≡ false → fitted_of b text used mine words ≡ None
       unfolding fitted_of
       pass-off q = rw (ok, sym f, e, q)
 
-      pub pass_fits : leads_as b p ≡ true → fitted_of b text used mine words ≡ Through p
+      pub pass_fits : leads_as b p ≡ true → fitted_of b text used mine words ≡ Some p
       unfolding fitted_of
       pass_fits q = rw (ok, sym f, e, q)

@@ -3,7 +3,7 @@ use Prim.Native.Nat.{ℕ, zero, suc, ◌+◌, ◌≤◌}
 use mathlib.Core.Path.{◌≡◌, refl, sym, ap, ◌∙◌}
 use mathlib.Core.Bool.{Bool, true, false, cond, ◌&&◌, ◌||◌, false≢true}
 use mathlib.Core.List.{List, [], ◌∷◌, ◌++◌}
-use mathlib.Core.Option.{Option, none, some}
+use Rattle.std.specs.Prelude.{Option, None, Some}
 use native.Mathlib.Omega.{arith}
 use lib.ListN.{length, take, drop, length-drop, take-append-drop}
 use lib.Seq.{take-add, length-take-le}
@@ -22,16 +22,14 @@ use Rattle.editor.proofs.Steps.{or_parts}
 use Rattle.ledger.specs.Words.{zeros}
 use Rattle.ledger.proofs.Words.{Whole}
 use Rattle.benches.specs.declared.Bench.{Bench}
-use Rattle.benches.specs.Words.{Side, first, second, number_of, side_of, at, Record, words, onto, records_in, own}
+use Rattle.benches.specs.Words.{Side, first, second, number_of, side_of, at, Record, words, onto, records_in}
 use Rattle.benches.specs.Benches.{State, Outcome, sound_at, judged, records}
 use Rattle.benches.specs.Layout.{long, bench, editor_for}
 use Rattle.benches.specs.Calls.{outcome_at, reply_at}
 use Rattle.bench_records.specs.declared.Pass.{Pass}
-use Rattle.bench_records.specs.declared.Passed.{Passed}
-use Rattle.bench_records.specs.declared.Passed.TheVariants.{Broken, Through}
 use Rattle.bench_records.specs.declared.Judged.{Judged}
 use Rattle.bench_records.specs.declared.Judged.TheVariants.{Unfit, Sound}
-use Rattle.bench_records.specs.Passing.{leads, pass_sound}
+use Rattle.bench_records.specs.Passing.{Passed, leads, pass_sound}
 use Rattle.bench_records.specs.Turning.{side_at}
 use Rattle.bench_records.specs.Judging.{pass_at, judged_at, sound_by, named_by, judge_of}
 use Rattle.bench_records.proofs.Passes.{pass-sound}
@@ -42,9 +40,9 @@ onto-exact :
     Whole (λ rs. words rs ≡ drop (r + a) ws) x →
     Whole (λ rs. words rs ≡ b ∷ p ∷ r ∷ a ∷ ws)
     (onto s (record { place = p; removed = take r ws; added = take a (drop r ws) }) x)
-onto-exact b p r a ws none q x h e = tt
-onto-exact b p r a ws (some s) q none h e = tt
-onto-exact b p r a ws (some s) q (some rs) h e =
+onto-exact b p r a ws None q x h e = tt
+onto-exact b p r a ws (Some s) q None h e = tt
+onto-exact b p r a ws (Some s) q (Some rs) h e =
     let n : number_of s ≡ b = number b s q in
     let rr : length (take r ws) ≡ r = length-take-le r ws (omega arith) in
     let aa : length (take a (drop r ws)) ≡ a = length-take-le a (drop r ws) (simp length-drop (omega arith)) in
@@ -52,7 +50,7 @@ onto-exact b p r a ws (some s) q (some rs) h e =
     rw (← take-add r a ws, e) (take-append-drop (r + a) ws) in
     λ i. n i ∷ p ∷ rr i ∷ aa i ∷ joined i
   where
-    number : (b : ℕ) (s : Side) → side_of b ≡ some s → number_of s ≡ b
+    number : (b : ℕ) (s : Side) → side_of b ≡ Some s → number_of s ≡ b
     number zero first q = refl
     number zero second q = let z : first ≡ second = cc in ap number_of (sym z)
     number (suc zero) first q = let z : first ≡ second = cc in ap number_of z
@@ -86,8 +84,8 @@ module _ (t : State) where
       (x : Option (List Record)) → Whole (λ rs. words rs ≡ take t.used t.history) x →
       t.used ≤ length t.history → zeros (drop t.used t.history) ≡ true → Whole (Tiled t) (judged t x)
   unfolding judged
-  tiled-by none w u z = tt
-  tiled-by (some rs) w u z =
+  tiled-by None w u z = tt
+  tiled-by (Some rs) w u z =
       cond-case (Whole (Tiled t)) (sound_at t rs first && sound_at t rs second)
       (λ e.
       let q = both (sound_at t rs first) (sound_at t rs second) e in
@@ -109,7 +107,7 @@ module _ (t : State) where
       (λ _. tt)
 
   -- and each one's pass goes through
-  pass-through : (rs : List Record) (s : Side) → sound_at t rs s ≡ true → pass_at t rs s ≡ Broken → ⊥
+  pass-through : (rs : List Record) (s : Side) → sound_at t rs s ≡ true → pass_at t rs s ≡ None → ⊥
   unfolding pass_sound leads
   pass-through rs s e q =
       let b : Bench = at t.benches s in
@@ -129,17 +127,17 @@ pub record Fit (t : State) (s : Side) (p : Pass) : Type 0 where
   pub short-second : length t.texts.bench1 ≤ limit
   pub short-history : length t.history ≤ limit
   pub rs : List Record
-  pub found : records t ≡ some rs
+  pub found : records t ≡ Some rs
   pub tiled : Tiled t rs
-  pub passes : pass_at t rs s ≡ Through p
+  pub passes : pass_at t rs s ≡ Some p
 
 module _ (t : State) where
   fit-cases :
       (p : Pass) (s : Side) (l : Bool) (x : Option (List Record)) → long t ≡ l → records t ≡ x → Whole (Tiled t) x →
       cond l (Unfit (Refused OverLimit limit)) (sound_by (judged_at t (number_of s) x)) ≡ Sound p → Fit t s p
   fit-cases p s true x q r w e = let z : ◌≡◌ {A = ℕ} 0 1 = cc in absurd (omega arith)
-  fit-cases p s false none q r w e = let z : ◌≡◌ {A = ℕ} 0 1 = cc in absurd (omega arith)
-  fit-cases p s false (some rs) q r w e =
+  fit-cases p s false None q r w e = let z : ◌≡◌ {A = ℕ} 0 1 = cc in absurd (omega arith)
+  fit-cases p s false (Some rs) q r w e =
       let o = or_parts (over t.texts.bench0) (over t.texts.bench1 || over t.history) q in
       let u = or_parts (over t.texts.bench1) (over t.history) o.1 in
       record {
@@ -153,12 +151,12 @@ module _ (t : State) where
         passes = through (pass_at t rs s) (rw (side-at s) at e);
       }
     where
-      through : (x : Passed) → sound_by x ≡ Sound p → x ≡ Through p
-      through Broken e = let z : ◌≡◌ {A = ℕ} 0 1 = cc in absurd (omega arith)
-      through (Through q) e = let z : q ≡ p = cc in ap Through z
+      through : (x : Passed) → sound_by x ≡ Sound p → x ≡ Some p
+      through None e = let z : ◌≡◌ {A = ℕ} 0 1 = cc in absurd (omega arith)
+      through (Some q) e = let z : q ≡ p = cc in ap Some z
 
   module _ {j : Judged} {p : Pass} (n : ℕ) (d : j ≡ judge_of t n) (e : j ≡ Sound p) where
-    fit-side : (s : Side) → side_of n ≡ some s → Fit t s p
+    fit-side : (s : Side) → side_of n ≡ Some s → Fit t s p
     unfolding judge_of
     fit-side s q =
         fit-cases p s (long t) (records t) refl refl (records-tiled t)
@@ -168,7 +166,7 @@ module _ (t : State) where
     pub fit-first : n ≡ 0 → Fit t first p
     fit-first q = fit-side first (ap side_of q)
 
-    pub second-named : (n ≡ 0 → ⊥) → side_of n ≡ some second
+    pub second-named : (n ≡ 0 → ⊥) → side_of n ≡ Some second
     unfolding judge_of
     second-named q = by n q (sym d ∙ e)
       where
@@ -177,7 +175,7 @@ module _ (t : State) where
         never false e = let z : ◌≡◌ {A = ℕ} 0 1 = cc in omega arith
 
         by : (n : ℕ) → (n ≡ 0 → ⊥) →
-            cond (long t) (Unfit (Refused OverLimit limit)) (named_by t (side_of n)) ≡ Sound p → side_of n ≡ some second
+            cond (long t) (Unfit (Refused OverLimit limit)) (named_by t (side_of n)) ≡ Sound p → side_of n ≡ Some second
         by zero q e = absurd (q refl)
         by (suc zero) q e = refl
         by (suc (suc n)) q e = absurd (never (long t) e)
@@ -191,10 +189,10 @@ module _ (t : State) where
       {R : Type 0}
       (refuse : Verdict → R)
       (call : Side → Option (List Record) → R)
-      (none-refused : (s : Side) → call s none ≡ refuse (numbered 14 0)) where
+      (none-refused : (s : Side) → call s None ≡ refuse (numbered 14 0)) where
     abbrev called : Option Side → R
-    called none = cond (long t) (refuse too_long) (refuse (numbered 20 0))
-    called (some s) = cond (long t) (refuse too_long) (call s (records t))
+    called None = cond (long t) (refuse too_long) (refuse (numbered 20 0))
+    called (Some s) = cond (long t) (refuse too_long) (call s (records t))
 
     refused_as : (b : Answer) → b ≡ a → refuse (in_numbers b) ≡ refuse (in_numbers a)
     refused_as b z = ap (λ (b : Answer). refuse (in_numbers b)) z
@@ -204,12 +202,12 @@ module _ (t : State) where
         cond l (Unfit (Refused OverLimit limit)) (sound_by (judged_at t (number_of s) x)) ≡ Unfit a →
         cond l (refuse too_long) (call s x) ≡ refuse (in_numbers a)
     unfit-named s true x w e = refused_as (Refused OverLimit limit) (cc)
-    unfit-named s false none w e = none-refused s ∙ refused_as (Refused Unsound 0) (cc)
-    unfit-named s false (some rs) w e = absurd (broken (pass_at t rs s) refl (rw (side-at s) at e))
+    unfit-named s false None w e = none-refused s ∙ refused_as (Refused Unsound 0) (cc)
+    unfit-named s false (Some rs) w e = absurd (broken (pass_at t rs s) refl (rw (side-at s) at e))
       where
         broken : (x : Passed) → pass_at t rs s ≡ x → sound_by x ≡ Unfit a → ⊥
-        broken Broken q e = pass-through t rs s (w.sound s) q
-        broken (Through p) q e = let z : ◌≡◌ {A = ℕ} 0 1 = cc in omega arith
+        broken None q e = pass-through t rs s (w.sound s) q
+        broken (Some p) q e = let z : ◌≡◌ {A = ℕ} 0 1 = cc in omega arith
 
     unfit-nobody :
         (l : Bool) → cond l (Unfit (Refused OverLimit limit)) (Unfit (Refused NoSuchBench 0)) ≡ Unfit a →
@@ -220,8 +218,8 @@ module _ (t : State) where
     unfit-side :
         (x : Option Side) → cond (long t) (Unfit (Refused OverLimit limit)) (named_by t x) ≡ Unfit a →
         called x ≡ refuse (in_numbers a)
-    unfit-side none e = unfit-nobody (long t) e
-    unfit-side (some s) e = unfit-named s (long t) (records t) (records-tiled t) e
+    unfit-side None e = unfit-nobody (long t) e
+    unfit-side (Some s) e = unfit-named s (long t) (records t) (records-tiled t) e
 
     unfit : {j : Judged} (n : ℕ) → j ≡ judge_of t n → j ≡ Unfit a → called (side_of n) ≡ refuse (in_numbers a)
     unfolding judge_of
@@ -231,7 +229,7 @@ module _ (t : State) where
     abbrev call : Side → Option (List Record) → Outcome
     call s x = call_on (bench s) t c (editor_for t s x)
 
-    call_none : (s : Side) → call s none ≡ refusing t (output_of c) (numbered 14 0)
+    call_none : (s : Side) → call s None ≡ refusing t (output_of c) (numbered 14 0)
     unfolding call_on
     call_none s = refl
 
@@ -239,8 +237,8 @@ module _ (t : State) where
         (a : Answer) → overlong c ≡ false → (x : Option Side) →
         outcome_at t x c ≡ called a (refusing t (output_of c)) call call_none x
     unfolding outcome_at layout.outcome_of
-    call-named a few none = rw few
-    call-named a few (some s) = rw few
+    call-named a few None = rw few
+    call-named a few (Some s) = rw few
 
     pub call-unfit :
         {j : Judged} {a : Answer} (n : ℕ) → overlong c ≡ false → j ≡ judge_of t n → j ≡ Unfit a →
@@ -254,13 +252,13 @@ module _ (t : State) where
   abbrev ask : Side → Option (List Record) → Reply
   ask s x = ask_on (bench s) t (editor_for t s x)
 
-  ask-none : (s : Side) → ask s none ≡ refuse (numbered 14 0)
+  ask-none : (s : Side) → ask s None ≡ refuse (numbered 14 0)
   ask-none s = refl
 
   ask-named : (a : Answer) (x : Option Side) → reply_at t x ≡ called a refuse ask ask-none x
   unfolding reply_at layout.reply_of
-  ask-named a none = refl
-  ask-named a (some s) = refl
+  ask-named a None = refl
+  ask-named a (Some s) = refl
 
   pub ask-unfit :
       {j : Judged} {a : Answer} (n : ℕ) → j ≡ judge_of t n → j ≡ Unfit a → reply_at t (side_of n) ≡ refuse (in_numbers a)

@@ -19,7 +19,7 @@ use Rattle.benches.specs.Words.{Side, same, Record, size_of, sizes, own}
 use Rattle.benches.specs.Benches.{bench_sound}
 use Rattle.benches.proofs.Words.{by-bench}
 use Rattle.bench_records.specs.declared.Pass.{Pass}
-use Rattle.bench_records.specs.declared.Passed.TheVariants.{Broken, Through}
+use Rattle.std.specs.Prelude.{None, Some}
 use Rattle.bench_records.specs.Passing.{owned, passed, begun, leads, pass_sound, begins}
 
 cond-and : {A : Type 0} (a b : Bool) (x y : A) → cond a (cond b x y) y ≡ cond (a && b) x y
@@ -43,7 +43,7 @@ module _ (room standing : ℕ) (s : Side) where
 
   pub passed_is :
       (rs : List Record) (at : ℕ) (p : Pass) →
-      passed room standing s at p rs ≡ cond (lengths_fit room p.len (own s rs)) (Through (end_of at p rs)) Broken
+      passed room standing s at p rs ≡ cond (lengths_fit room p.len (own s rs)) (Some (end_of at p rs)) None
   unfolding passed end_of own lengths_fit
   passed_is [] at p = refl
   passed_is (r ∷ rs) at p =
@@ -51,15 +51,15 @@ module _ (room standing : ℕ) (s : Side) where
       let q : Pass = owned room standing s at p x in
       let fits : Bool = leb (x.place + length x.removed) p.len && leb (length_after p.len x) room in
       let next : passed room standing s (at + size_of x) q rs
-      ≡ cond (lengths_fit room (length_after p.len x) (own s rs)) (Through (end_of (at + size_of x) q rs)) Broken =
+      ≡ cond (lengths_fit room (length_after p.len x) (own s rs)) (Some (end_of (at + size_of x) q rs)) None =
       passed_is rs (at + size_of x) q ∙ rw (owned-len at p x) in
       by-bench s r
       (λ t.
-      cond t (cond fits (passed room standing s (at + size_of x) q rs) Broken)
+      cond t (cond fits (passed room standing s (at + size_of x) q rs) None)
       (passed room standing s (at + size_of x) p rs)
       ≡ cond (lengths_fit room p.len (cond t (x ∷ own s rs) (own s rs)))
-      (Through (end_of (at + size_of x) (cond t q p) rs)) Broken)
-      (λ _. rw next (cond-and fits (lengths_fit room (length_after p.len x) (own s rs)) _ Broken))
+      (Some (end_of (at + size_of x) (cond t q p) rs)) None)
+      (λ _. rw next (cond-and fits (lengths_fit room (length_after p.len x) (own s rs)) _ None))
       (λ _. passed_is rs (at + size_of x) p)
 
   -- what is true of a pass's end, by the own records that are left
@@ -279,7 +279,7 @@ module _ (b : Bench) (used : ℕ) (s : Side) (rs : List Record) where
       leb b.standing (length es) && mark_within (length es) b.saved
       && eqb (reached b.opening (take b.standing es)) b.length
 
-  leads-ended : (room : ℕ) (f : Bool) → leads b (cond f (Through (ended room)) Broken) ≡ cond f tests false
+  leads-ended : (room : ℕ) (f : Bool) → leads b (cond f (Some (ended room)) None) ≡ cond f tests false
   unfolding leads
   leads-ended room true =
       let p : Pass = begun b.opening used in

@@ -3,7 +3,7 @@ use Prim.Native.Nat.{ℕ, zero, suc, ◌+◌, ◌-◌, ◌≤◌, ◌<◌}
 use mathlib.Core.Path.{◌≡◌, refl, sym, ap, ◌∙◌, subst}
 use mathlib.Core.Bool.{Bool, true, false, cond, ◌&&◌}
 use mathlib.Core.List.{List, [], ◌∷◌}
-use mathlib.Core.Option.{Option, none, some}
+use Rattle.std.specs.Prelude.{Option, None, Some}
 use native.Mathlib.Omega.{arith}
 use native.Mathlib.Numerals.{add-one}
 use lib.ListN.{length, get_or, take, drop, length-drop, drop_of_length-le}
@@ -15,9 +15,7 @@ use Rattle.editor.specs.Records.{Entry, length_after}
 use Rattle.benches.specs.Words.{Side, side_of, same, Record, size_of, onto, records_in}
 use Rattle.bench_records.specs.declared.Head.{Head}
 use Rattle.bench_records.specs.declared.Pass.{Pass}
-use Rattle.bench_records.specs.declared.Passed.{Passed}
-use Rattle.bench_records.specs.declared.Passed.TheVariants.{Broken, Through}
-use Rattle.bench_records.specs.Passing.{onward, passed}
+use Rattle.bench_records.specs.Passing.{Passed, onward, passed}
 use Rattle.bench_records.specs.Turning.{head_at, size_at, side_at, Bounded, turned, pass_of, pass_in}
 
 -- one record, by the tests in order
@@ -29,21 +27,21 @@ module _ (room standing mine at : ℕ) (p : Pass) (h : Head) where
   after = p.len - h.removed + h.added
 
   module _ (other : h.bench ≡ mine → ⊥) where
-    pub no-bench : 1 < h.bench → here ≡ Broken
+    pub no-bench : 1 < h.bench → here ≡ None
     unfolding turned
     no-bench q = rw (ne_eqb h.bench mine other, lt-ltb 1 h.bench q)
 
-    pub not-mine : h.bench ≤ 1 → here ≡ Through p
+    pub not-mine : h.bench ≤ 1 → here ≡ Some p
     unfolding turned
     not-mine q = rw (ne_eqb h.bench mine other, le-ltb 1 h.bench q)
 
   module _ (own : h.bench ≡ mine) where
-    pub beyond : p.len < h.place + h.removed → here ≡ Broken
+    pub beyond : p.len < h.place + h.removed → here ≡ None
     unfolding turned
     beyond q = rw (eq-eqb h.bench mine own, lt-ltb p.len (h.place + h.removed) q)
 
     module _ (within : h.place + h.removed ≤ p.len) where
-      pub too_long : room < after → here ≡ Broken
+      pub too_long : room < after → here ≡ None
       unfolding turned
       too_long q =
           rw (
@@ -52,7 +50,7 @@ module _ (room standing mine at : ℕ) (p : Pass) (h : Head) where
             lt-ltb room after q,
           )
 
-      pub one_more : after ≤ room → here ≡ Through (onward standing at p after (size_at h))
+      pub one_more : after ≤ room → here ≡ Some (onward standing at p after (size_at h))
       unfolding turned
       one_more q =
           rw (
@@ -63,8 +61,8 @@ module _ (room standing mine at : ℕ) (p : Pass) (h : Head) where
 
 -- where a pass is after a record, its counts are at most the words passed
 abbrev Within : ℕ → ℕ → Passed → Type 0
-Within room at Broken = Unit {0}
-Within room at (Through p) = Bounded room at p
+Within room at None = Unit {0}
+Within room at (Some p) = Bounded room at p
 
 module _ (room standing mine at : ℕ) (p : Pass) (h : Head) (b : Bounded room at p) where
   own-within :
@@ -87,12 +85,12 @@ module _ (room standing mine at : ℕ) (p : Pass) (h : Head) (b : Bounded room a
       (λ _. record { fits = b.fits; few = omega (arith, b.few); small = omega (arith, b.small) }))
 
 -- the side of a number that is 0 or 1
-side-at : (b : ℕ) → b ≤ 1 → side_of b ≡ some (side_at b)
+side-at : (b : ℕ) → b ≤ 1 → side_of b ≡ Some (side_at b)
 side-at zero q = refl
 side-at (suc zero) q = refl
 side-at (suc (suc b)) q = absurd (omega arith)
 
-side-none : (b : ℕ) → 1 < b → side_of b ≡ none
+side-none : (b : ℕ) → 1 < b → side_of b ≡ None
 side-none zero q = absurd (omega arith)
 side-none (suc zero) q = absurd (omega arith)
 side-none (suc (suc b)) q = refl
@@ -122,7 +120,7 @@ records-enough (suc n) (suc m) (x ∷ y ∷ r ∷ a ∷ ws) p q =
     let few : length (drop (r + a) ws) ≤ length ws = omega (arith, length-drop (r + a) ws) in
     rw (records-enough n m (drop (r + a) ws) (omega arith) (omega arith))
 
-broken-both : (t u : Bool) → Broken ≡ cond t (cond u Broken Broken) Broken
+broken-both : (t u : Bool) → ◌≡◌ {A = Passed} None (cond t (cond u None None) None)
 broken-both true true = refl
 broken-both true false = refl
 broken-both false u = refl
@@ -131,18 +129,18 @@ module _ (room standing : ℕ) where
   -- a record more at the front
   onto-pass :
       (s q : Side) (at : ℕ) (p : Pass) (e : Entry) (x : Option (List Record)) →
-      pass_of room standing s at p (onto (some q) e x)
+      pass_of room standing s at p (onto (Some q) e x)
       ≡ cond (same s q)
       (cond (leb (e.place + length e.removed) p.len && leb (length_after p.len e) room)
-      (pass_of room standing s (at + size_of e) (onward standing at p (length_after p.len e) (size_of e)) x) Broken)
+      (pass_of room standing s (at + size_of e) (onward standing at p (length_after p.len e) (size_of e)) x) None)
       (pass_of room standing s (at + size_of e) p x)
   unfolding passed
-  onto-pass s q at p e none =
+  onto-pass s q at p e None =
       broken-both (same s q) (leb (e.place + length e.removed) p.len && leb (length_after p.len e) room)
-  onto-pass s q at p e (some rs) = refl
+  onto-pass s q at p e (Some rs) = refl
 
   module _ (mine at : ℕ) (q : Pass) where
-    words-cut : (ws : List ℕ) → 0 < length ws → length ws < 4 → pass_in room standing mine at q ws ≡ Broken
+    words-cut : (ws : List ℕ) → 0 < length ws → length ws < 4 → pass_in room standing mine at q ws ≡ None
     unfolding records_in
     words-cut [] p q = absurd (omega arith)
     words-cut (x ∷ []) p q = refl
@@ -151,12 +149,12 @@ module _ (room standing : ℕ) where
     words-cut (x ∷ y ∷ z ∷ w ∷ ws) p q = absurd (omega arith)
 
     module _ (b p r a : ℕ) (ws : List ℕ) where
-      words-past : length ws < r + a → pass_in room standing mine at q (b ∷ p ∷ r ∷ a ∷ ws) ≡ Broken
+      words-past : length ws < r + a → pass_in room standing mine at q (b ∷ p ∷ r ∷ a ∷ ws) ≡ None
       unfolding records_in
       words-past t = rw (lt-leb (r + a) (length ws) t)
 
       words-lost :
-          r + a ≤ length ws → 1 < b → pass_in room standing mine at q (b ∷ p ∷ r ∷ a ∷ ws) ≡ Broken
+          r + a ≤ length ws → 1 < b → pass_in room standing mine at q (b ∷ p ∷ r ∷ a ∷ ws) ≡ None
       unfolding records_in
       words-lost t u = rw (le-leb (r + a) (length ws) t, side-none b u)
 
@@ -166,7 +164,7 @@ module _ (room standing : ℕ) where
           ≡ cond (eqb b mine)
           (cond (leb (p + r) q.len && leb (q.len - r + a) room)
           (pass_in room standing mine (at + (4 + r + a)) (onward standing at q (q.len - r + a) (4 + r + a))
-          (drop (r + a) ws)) Broken)
+          (drop (r + a) ws)) None)
           (pass_in room standing mine (at + (4 + r + a)) q (drop (r + a) ws))
       unfolding records_in
       words-here t u v =
@@ -184,8 +182,8 @@ module _ (room standing : ℕ) where
 
 -- what follows a record
 abbrev pub then_on : Passed → (Pass → Passed) → Passed
-then_on Broken f = Broken
-then_on (Through p) f = f p
+then_on None f = None
+then_on (Some p) f = f p
 
 -- a turn of the loop, at a word of the history before `to`
 module _
@@ -199,11 +197,11 @@ module _
   abbrev from : Passed
   from = pass_in room standing mine at q (slice at to h)
 
-  pub turn_end : to ≤ at → from ≡ Through q
+  pub turn_end : to ≤ at → from ≡ Some q
   unfolding records_in passed
   turn_end t = rw (drop_of_length-le (take to h) {i = at} (omega (arith, length-take-le to h fits)))
 
-  pub turn-cut : at < to → to - at < 4 → from ≡ Broken
+  pub turn-cut : at < to → to - at < 4 → from ≡ None
   turn-cut t u =
       words-cut room standing mine at q (slice at to h) (omega (arith, length-slice at to h fits))
       (omega (arith, length-slice at to h fits))
@@ -236,7 +234,7 @@ module _
     length_rest : length rest ≡ to - at - 4
     length_rest = omega (arith, length-slice (at + 4) to h fits)
 
-    pub turn-past : to - at < size_at head → from ≡ Broken
+    pub turn-past : to - at < size_at head → from ≡ None
     turn-past t =
         rw first-four
         (words-past room standing mine at q head.bench head.place head.removed head.added rest
@@ -259,7 +257,7 @@ module _
           from
           ≡ cond (eqb head.bench mine)
           (cond (leb (head.place + head.removed) q.len && leb reaches room)
-          (onto-rest (onward standing at q reaches (size_at head))) Broken)
+          (onto-rest (onward standing at q reaches (size_at head))) None)
           (onto-rest q)
       stepped t =
           rw (first-four, ← rest-next)
@@ -301,7 +299,7 @@ module _
 
     -- the head that was read there, and what was found of it
     module _ (hd : Head) (is : hd ≡ head_at h at) where
-      pub turn-short : to - at < size_at hd → from ≡ Broken
+      pub turn-short : to - at < size_at hd → from ≡ None
       turn-short t = turn-past (rw is at t)
 
       module _ (whole : size_at hd ≤ to - at) (found : Passed) (f : found ≡ turned room standing mine at q hd) where
@@ -311,18 +309,18 @@ module _
         turn-found : from ≡ then_on found further
         turn-found = rw (f, is) (turn (rw is at whole))
 
-        pub turn-broken : found ≡ Broken → from ≡ Broken
+        pub turn-broken : found ≡ None → from ≡ None
         turn-broken e = turn-found ∙ rw e
 
-        pub turn-through : (p : Pass) → found ≡ Through p → from ≡ further p
+        pub turn-through : (p : Pass) → found ≡ Some p → from ≡ further p
         turn-through p e = turn-found ∙ rw e
 
-        pub turn-bounded : Bounded room at q → (p : Pass) → found ≡ Through p → Bounded room (at + size_at hd) p
+        pub turn-bounded : Bounded room at q → (p : Pass) → found ≡ Some p → Bounded room (at + size_at hd) p
         turn-bounded b p e =
             subst (Within room (at + size_at hd)) (sym f ∙ e) (turned-within room standing mine at q hd b)
 
         -- the same, where the record's size is known before
         pub turn-alike :
-            Bounded room at q → (p : Pass) → found ≡ Through p → (n : ℕ) → size_at hd ≡ n →
+            Bounded room at q → (p : Pass) → found ≡ Some p → (n : ℕ) → size_at hd ≡ n →
             Bounded room (at + n) p × (from ≡ pass_in room standing mine (at + n) p (slice (at + n) to h))
         turn-alike b p e n same = rw (← same) (turn-bounded b p e, turn-through p e)

@@ -1,6 +1,5 @@
 -- What the code finds of a bench, over its words.
-use Rattle.std.specs.Prelude.{ℕ, Bool, cond, ◌&&◌, List, length, drop, leb, eqb}
-use Rattle.std.proofs.Math.Option.{Option, none, some}
+use Rattle.std.specs.Prelude.{ℕ, Bool, cond, ◌&&◌, List, length, drop, leb, eqb, Option, None, Some}
 use Rattle.answer.specs.Answer.{limit}
 use Rattle.answer.specs.declared.Answer.TheVariants.{Refused}
 use Rattle.answer.specs.declared.Refusal.TheVariants.{Unsound, OverLimit, NoSuchBench}
@@ -11,11 +10,9 @@ use Rattle.benches.specs.Words.{Side, number_of, side_of, at, Record}
 use Rattle.benches.specs.Benches.{State, records}
 use Rattle.benches.specs.Layout.{long}
 use Rattle.bench_records.specs.declared.Pass.{Pass}
-use Rattle.bench_records.specs.declared.Passed.{Passed}
-use Rattle.bench_records.specs.declared.Passed.TheVariants.{Broken, Through}
 use Rattle.bench_records.specs.declared.Judged.{Judged}
 use Rattle.bench_records.specs.declared.Judged.TheVariants.{Unfit, Sound}
-use Rattle.bench_records.specs.Passing.{passed, begun}
+use Rattle.bench_records.specs.Passing.{Passed, passed, begun}
 use Rattle.bench_records.specs.Turning.{side_at, pass_in}
 
 abbrev pub text_fits : Bench → List ℕ → Bool
@@ -26,15 +23,15 @@ abbrev pub leads_as : Bench → Pass → Bool
 leads_as b p = leb b.standing p.seen && mark_within p.seen b.saved && eqb p.stood b.length
 
 abbrev pub fitted_by : Bench → Passed → Passed
-fitted_by b Broken = Broken
-fitted_by b (Through p) = cond (leads_as b p) (Through p) Broken
+fitted_by b None = None
+fitted_by b (Some p) = cond (leads_as b p) (Some p) None
 
 -- by its own records among these words
 unfoldable pub fitted_of : Bench → List ℕ → ℕ → ℕ → List ℕ → Passed
 fitted_of b text used mine words =
     cond (text_fits b text)
     (fitted_by b (pass_in (length text) b.standing mine 0 (begun b.opening used) words))
-    Broken
+    None
 
 -- where the pass of a bench stands, over the records of sound benches
 abbrev pub pass_at : State → List Record → Side → Passed
@@ -43,18 +40,18 @@ pass_at t rs s =
     (begun (at t.benches s).opening t.used) rs
 
 abbrev pub judged_at : State → ℕ → Option (List Record) → Passed
-judged_at t mine none = Broken
-judged_at t mine (some rs) = pass_at t rs (side_at mine)
+judged_at t mine None = None
+judged_at t mine (Some rs) = pass_at t rs (side_at mine)
 
 -- 14, or where the pass stands
 abbrev pub sound_by : Passed → Judged
-sound_by Broken = Unfit (Refused Unsound 0)
-sound_by (Through p) = Sound p
+sound_by None = Unfit (Refused Unsound 0)
+sound_by (Some p) = Sound p
 
 -- 20, then 14
 abbrev pub named_by : State → Option Side → Judged
-named_by t none = Unfit (Refused NoSuchBench 0)
-named_by t (some s) = sound_by (judged_at t (number_of s) (records t))
+named_by t None = Unfit (Refused NoSuchBench 0)
+named_by t (Some s) = sound_by (judged_at t (number_of s) (records t))
 
 -- 16 comes first
 unfoldable pub judge_of : State → ℕ → Judged

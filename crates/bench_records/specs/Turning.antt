@@ -1,14 +1,11 @@
 -- The pass over words, a record at a time: what a turn of its loop computes.
-use Rattle.std.specs.Prelude.{ℕ, zero, suc, ◌+◌, ◌-◌, ◌≤◌, cond, List, length, get_or, ltb, eqb}
-use Rattle.std.proofs.Math.Option.{Option, none, some}
+use Rattle.std.specs.Prelude.{ℕ, zero, suc, ◌+◌, ◌-◌, ◌≤◌, cond, List, length, get_or, ltb, eqb, Option, None, Some}
 use Rattle.std.proofs.Math.Seq.{slice}
 use Rattle.benches.specs.Words.{Side, first, second, Record, records_in}
 use Rattle.bench_records.specs.declared.Head.{Head}
 use Rattle.bench_records.specs.declared.Pass.{Pass}
 use Rattle.bench_records.specs.declared.Spot.{Spot}
-use Rattle.bench_records.specs.declared.Passed.{Passed}
-use Rattle.bench_records.specs.declared.Passed.TheVariants.{Broken, Through}
-use Rattle.bench_records.specs.Passing.{onward, passed}
+use Rattle.bench_records.specs.Passing.{Passed, onward, passed}
 
 abbrev pub head_at : List ℕ → ℕ → Head
 head_at h at =
@@ -37,14 +34,14 @@ pub record Bounded (room at : ℕ) (p : Pass) : Type 0 where
 unfoldable pub turned : ℕ → ℕ → ℕ → ℕ → Pass → Head → Passed
 turned room standing mine at p h =
     cond (eqb h.bench mine)
-    (cond (ltb p.len (h.place + h.removed)) Broken
-    (cond (ltb room (p.len - h.removed + h.added)) Broken
-    (Through (onward standing at p (p.len - h.removed + h.added) (size_at h)))))
-    (cond (ltb 1 h.bench) Broken (Through p))
+    (cond (ltb p.len (h.place + h.removed)) None
+    (cond (ltb room (p.len - h.removed + h.added)) None
+    (Some (onward standing at p (p.len - h.removed + h.added) (size_at h)))))
+    (cond (ltb 1 h.bench) None (Some p))
 
 abbrev pub pass_of : ℕ → ℕ → Side → ℕ → Pass → Option (List Record) → Passed
-pass_of room standing s at p none = Broken
-pass_of room standing s at p (some rs) = passed room standing s at p rs
+pass_of room standing s at p None = None
+pass_of room standing s at p (Some rs) = passed room standing s at p rs
 
 -- the records that tile words, the first of them at a word
 abbrev pub pass_in : ℕ → ℕ → ℕ → ℕ → Pass → List ℕ → Passed

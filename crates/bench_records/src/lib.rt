@@ -40,13 +40,6 @@ struct Spot {
     pass: Pass,
 }
 
-// What a pass finds: the records do not fit, or where it stands at their end.
-#[derive(Clone, Copy)]
-pub enum Passed {
-    Broken,
-    Through(Pass),
-}
-
 // What is found of both benches and their buffers: the refusal 16, 20 or 14, or where the caller's pass stands.
 #[derive(Clone, Copy)]
 pub enum Judged {
@@ -72,68 +65,51 @@ fn head_at(history: &[u32], at: usize) -> Head
 }
 
 // An own record more, of so many words, which begins at a word and leads to a length.
+#[tactic(auto, unfolding(answer::specs::Answer::limit))]
 fn pass_own(standing: usize, at: usize, p: Pass, after: usize, size: usize) -> Pass
     requires { (p.seen ≤ limit) × (p.spare + size ≤ limit) }
     ensures { result ≡ onward standing at p after size }
 {
     let seen = p.seen + 1;
-    let len = after;
-    let next = p.next;
     if p.seen < standing {
         return Pass {
             seen,
-            len,
+            len: after,
             stood: after,
             last: at,
-            next,
-            spare: p.spare,
+            ..p
         };
     }
-    let spare = p.spare + size;
-    let stood = p.stood;
-    let last = p.last;
-    if p.seen == standing {
-        return Pass {
-            seen,
-            len,
-            stood,
-            last,
-            next: at,
-            spare,
-        };
-    }
+    let next = if p.seen == standing { at } else { p.next };
     Pass {
         seen,
-        len,
-        stood,
-        last,
+        len: after,
         next,
-        spare,
+        spare: p.spare + size,
+        ..p
     }
 }
 
 // One record more: the other bench's changes nothing.
-fn pass_one(room: usize, standing: usize, mine: usize, at: usize, p: Pass, h: Head) -> Passed
+#[tactic(auto, unfolding(answer::specs::Answer::limit))]
+fn pass_one(room: usize, standing: usize, mine: usize, at: usize, p: Pass, h: Head) -> Option<Pass>
     requires { Bounded room at p × (room ≤ limit) × (at + size_at h ≤ limit) × (h.place < 2 ^ 32) }
     ensures { result ≡ turned room standing mine at p h }
 {
     if h.bench != mine {
-        if 1 < h.bench {
-            return Passed::Broken;
-        }
-        return Passed::Through(p);
+        return if h.bench <= 1 { Some(p) } else { None };
     }
     let len = p.len;
     let removed = h.removed;
     if len < h.place + removed {
-        return Passed::Broken;
+        return None;
     }
     let after = len - removed + h.added;
     if room < after {
-        return Passed::Broken;
+        return None;
     }
     let size = 4 + removed + h.added;
-    Passed::Through(pass_own(standing, at, p, after, size))
+    Some(pass_own(standing, at, p, after, size))
 }
 
 // Past the records that come next and have a record's counts, as far as they fit. Steps of one kind come in runs, and
@@ -164,8 +140,7 @@ fn past_alike(
         if h.added != like.added {
             return Spot { at, pass };
         }
-        let found = pass_one(room, standing, mine, at, pass, h);
-        let Passed::Through(next) = found else {
+        let Some(next) = pass_one(room, standing, mine, at, pass, h) else {
             return Spot { at, pass };
         };
         pass = next;
@@ -175,6 +150,7 @@ fn past_alike(
 }
 
 // A bench's own records among all words used, from its opening length on; no length may exceed the room.
+#[tactic(auto, unfolding(answer::specs::Answer::limit))]
 fn pass_over(
     history: &[u32],
     used: usize,
@@ -182,7 +158,7 @@ fn pass_over(
     standing: usize,
     opening: usize,
     room: usize,
-) -> Passed
+) -> Option<Pass>
     requires { (used ≤ length history.now) × (length history.now ≤ limit) × (mine ≤ 1)
         × (opening ≤ room) × (room ≤ limit) }
     ensures { result ≡ pass_in room standing mine 0 (begun opening used) (take used history.now) }
@@ -198,75 +174,56 @@ fn pass_over(
     };
     while at < used {
         if used - at < 4 {
-            return Passed::Broken;
+            return None;
         }
         let h = head_at(history, at);
         let size = 4 + h.removed + h.added;
         if used - at < size {
-            return Passed::Broken;
+            return None;
         }
-        let found = pass_one(room, standing, mine, at, p, h);
-        let Passed::Through(pass) = found else {
-            return Passed::Broken;
-        };
+        let pass = pass_one(room, standing, mine, at, p, h)?;
         let end = at + size;
         let next = Spot { at: end, pass };
         let run = past_alike(history, used, mine, standing, room, next, h);
         at = run.at;
         p = run.pass;
     }
-    Passed::Through(p)
+    Some(p)
 }
 
 // Whether a bench's lengths fit its text buffer, and everything past its text is 0.
 fn text_fits(b: Bench, text: &[u32]) -> bool
     ensures { result ≡ text_fits b text.now }
 {
-    if text.len() < b.opening {
-        return false;
-    }
-    if text.len() < b.length {
-        return false;
-    }
-    records::zero_from(text, b.length)
+    b.opening <= text.len() && b.length <= text.len() && records::zero_from(text, b.length)
 }
 
 // Whether as many stand as the bench says, lead to its length, and its mark is at most the number of all.
 fn leads_as(b: Bench, p: Pass) -> bool
     ensures { result ≡ leads_as b p }
 {
-    if p.seen < b.standing {
-        return false;
-    }
-    let saved = b.saved;
-    if !records::mark_within(saved, p.seen) {
-        return false;
-    }
-    p.stood == b.length
+    b.standing <= p.seen && records::mark_within(b.saved, p.seen) && p.stood == b.length
 }
 
 // A bench by its own records and text: where its pass stands at the end, if it is sound.
-fn bench_fitted(b: Bench, text: &[u32], history: &[u32], used: usize, mine: usize) -> Passed
+fn bench_fitted(b: Bench, text: &[u32], history: &[u32], used: usize, mine: usize) -> Option<Pass>
     requires { (length text.now ≤ limit) × (used ≤ length history.now) × (length history.now ≤ limit)
         × (mine ≤ 1) }
     ensures { result ≡ fitted_of b text.now used mine (take used history.now) }
 {
     if !text_fits(b, text) {
-        return Passed::Broken;
+        return None;
     }
-    let found = pass_over(history, used, mine, b.standing, b.opening, text.len());
-    let Passed::Through(p) = found else {
-        return Passed::Broken;
-    };
+    let p = pass_over(history, used, mine, b.standing, b.opening, text.len())?;
     if !leads_as(b, p) {
-        return Passed::Broken;
+        return None;
     }
-    Passed::Through(p)
+    Some(p)
 }
 
 // On buffers within the limit: whether both benches are sound, and where the pass of one of them stands. 16 and 20
 // come before it.
-fn survey(b: Benches, text0: &[u32], text1: &[u32], history: &[u32], mine: usize) -> Passed
+fn survey(b: Benches, text0: &[u32], text1: &[u32], history: &[u32], mine: usize) -> Option<Pass>
     requires { (length text0.now ≤ limit) × (length text1.now ≤ limit) × (length history.now ≤ limit)
         × (mine ≤ 1) }
     ensures { result ≡ judged_at (state_of b text0.now text1.now history.now) mine
@@ -274,30 +231,24 @@ fn survey(b: Benches, text0: &[u32], text1: &[u32], history: &[u32], mine: usize
 {
     let used = b.used;
     if history.len() < used {
-        return Passed::Broken;
+        return None;
     }
     if !records::zero_from(history, used) {
-        return Passed::Broken;
+        return None;
     }
-    let first = bench_fitted(b.bench0, text0, history, used, 0);
-    let Passed::Through(p) = first else {
-        return Passed::Broken;
-    };
-    let second = bench_fitted(b.bench1, text1, history, used, 1);
-    let Passed::Through(q) = second else {
-        return Passed::Broken;
-    };
+    let first = bench_fitted(b.bench0, text0, history, used, 0)?;
+    let second = bench_fitted(b.bench1, text1, history, used, 1)?;
     if mine == 0 {
-        return Passed::Through(p);
+        return Some(first);
     }
-    Passed::Through(q)
+    Some(second)
 }
 
 // 14, or where the pass stands.
-fn sound_by(found: Passed) -> Judged
+fn sound_by(found: Option<Pass>) -> Judged
     ensures { result ≡ sound_by found }
 {
-    let Passed::Through(p) = found else {
+    let Some(p) = found else {
         return Judged::Unfit(Answer::Refused(Refusal::Unsound, 0));
     };
     Judged::Sound(p)

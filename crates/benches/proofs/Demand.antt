@@ -8,10 +8,10 @@ use lib.ListN.{length}
 use lib.Dec.{eqb}
 use borrow.Author.Tests.{ne_eqb}
 use Rattle.answer.specs.Answer.{numbered, too_long}
+use Rattle.std.specs.Prelude.{Some}
 use Rattle.answer.proofs.Below.{cond-case}
 use Rattle.codec.specs.declared.Kind.{Kind}
 use Rattle.codec.specs.Kinds.{reading_in}
-use Rattle.editor.specs.declared.Mark.TheVariants.{At}
 use Rattle.editor.specs.Marks.{unchanged_at}
 use Rattle.editor.specs.Ledger.{Ledger, opened, fed}
 use Rattle.editor.specs.Editor.{Editor, Turn, refused, turn_of, overlong, output_of}
@@ -260,7 +260,7 @@ two-runs-alike r q s p kind arrived long calls twelves =
       text = (reading_in (kind i) (arrived i)).cells;
       standing = [];
       undone = [];
-      saved = At 0;
+      saved = Some 0;
     } in
     let t =
     two_runs e f same a.mets b.mets (rw (a.hears, b.hears) at calls) (rw (a.hears, b.hears) at twelves) in

@@ -7,13 +7,13 @@ use mathlib.Core.Bool.{Bool, true, false}
 use mathlib.Core.List.{List, [], ◌∷◌, ◌++◌}
 use lib.ListN.{replicate}
 use Rattle.answer.specs.Answer.{numbered, limit}
+use Rattle.std.specs.Prelude.{None, Some}
 use Rattle.answer.specs.Output as output
 use Rattle.codec.specs.declared.Kind.TheVariants.{Utf7Body}
 use Rattle.codec.proofs.ByKind.{write-form}
 use Rattle.codec.proofs.Worked.{letter, cells_read, cells_edited, written, letter-reads, letter-reads-as, sign-writable}
 use Rattle.codec.proofs.Worked.{edited-writable, edited-writes}
-use Rattle.editor.specs.declared.Mark.{Mark}
-use Rattle.editor.specs.declared.Mark.TheVariants.{None, At}
+use Rattle.editor.specs.Marks.{Mark}
 use Rattle.editor.specs.Ledger.{Ledger}
 use Rattle.editor.specs.Records.{reached, lengths_fit}
 use Rattle.editor.specs.Editor.{undo_last, redo_next, replace_fitting, replace_at, save_standing}
@@ -65,22 +65,22 @@ record1 = 1 ∷ 0 ∷ 0 ∷ 1 ∷ 0x3D ∷ []
 
 -- five cells each, and thirteen words between them; each call is made on the state that the one before it leaves
 abbrev opened : State
-opened = state (bench 4 0 (At 0)) (bench 4 0 (At 0)) 0 arrived_text arrived_text (replicate 13 0)
+opened = state (bench 4 0 (Some 0)) (bench 4 0 (Some 0)) 0 arrived_text arrived_text (replicate 13 0)
 
 abbrev one : State
-one = state (bench 4 1 (At 0)) (bench 4 0 (At 0)) 6 edited_text arrived_text (record0 ++ replicate 7 0)
+one = state (bench 4 1 (Some 0)) (bench 4 0 (Some 0)) 6 edited_text arrived_text (record0 ++ replicate 7 0)
 
 abbrev two : State
-two = state (bench 4 1 (At 0)) (bench 5 1 (At 0)) 11 edited_text longer_text (record0 ++ record1 ++ 0 ∷ 0 ∷ [])
+two = state (bench 4 1 (Some 0)) (bench 5 1 (Some 0)) 11 edited_text longer_text (record0 ++ record1 ++ 0 ∷ 0 ∷ [])
 
 -- bench 0 takes its step back: the history stays
 abbrev three : State
-three = state (bench 4 0 (At 0)) (bench 5 1 (At 0)) 11 arrived_text longer_text (record0 ++ record1 ++ 0 ∷ 0 ∷ [])
+three = state (bench 4 0 (Some 0)) (bench 5 1 (Some 0)) 11 arrived_text longer_text (record0 ++ record1 ++ 0 ∷ 0 ∷ [])
 
 -- bench 0 puts 003D for two cells: its undone step goes, the gap is closed, and its record lies last
 abbrev four : State
 four =
-    state (bench 3 1 (At 0)) (bench 5 1 (At 0)) 12 (0x3D ∷ 0x391 ∷ 0x2E ∷ 0 ∷ 0 ∷ []) longer_text
+    state (bench 3 1 (Some 0)) (bench 5 1 (Some 0)) 12 (0x3D ∷ 0x391 ∷ 0x2E ∷ 0 ∷ 0 ∷ []) longer_text
     (record1 ++ 0 ∷ 0 ∷ 2 ∷ 1 ∷ 0x41 ∷ 0x2262 ∷ 0x3D ∷ 0 ∷ [])
 
 -- "refused, it gives the kinds, zeros and no marks"
@@ -142,10 +142,10 @@ room =
 
 -- a mark is "a count of its steps": bench 0 saves one step, takes it back, and puts another in its place
 abbrev saved0 : State
-saved0 = state (bench 4 1 (At 1)) (bench 5 1 (At 0)) 11 edited_text longer_text (record0 ++ record1 ++ 0 ∷ 0 ∷ [])
+saved0 = state (bench 4 1 (Some 1)) (bench 5 1 (Some 0)) 11 edited_text longer_text (record0 ++ record1 ++ 0 ∷ 0 ∷ [])
 
 abbrev undone0 : State
-undone0 = state (bench 4 0 (At 1)) (bench 5 1 (At 0)) 11 arrived_text longer_text (record0 ++ record1 ++ 0 ∷ 0 ∷ [])
+undone0 = state (bench 4 0 (Some 1)) (bench 5 1 (Some 0)) 11 arrived_text longer_text (record0 ++ record1 ++ 0 ∷ 0 ∷ [])
 
 pub record Marks : Type 0 where
   pub saves : save_of two 0 letter (replicate 9 9) ≡ accepts 8 saved0 (written ++ 9 ∷ [])
@@ -153,7 +153,7 @@ pub record Marks : Type 0 where
   pub drops :
       replace_of undone0 0 1 1 (0x3D ∷ [])
       ≡ accepts 4
-      (state (bench 4 1 None) (bench 5 1 (At 0)) 11 edited_text longer_text (record1 ++ record0 ++ 0 ∷ 0 ∷ [])) []
+      (state (bench 4 1 None) (bench 5 1 (Some 0)) 11 edited_text longer_text (record1 ++ record0 ++ 0 ∷ 0 ∷ [])) []
   pub opened-unchanged : unchanged_of opened 1 ≡ says 0 true
   pub edited-changed : unchanged_of two 0 ≡ says 0 false
   pub saved-unchanged : unchanged_of saved0 0 ≡ says 0 true
@@ -177,19 +177,19 @@ marks =
 
 -- bench 1 with bench 0's one record in the history
 abbrev beside : Bench → List ℕ → State
-beside b1 text1 = state (bench 4 1 (At 0)) b1 6 edited_text text1 record0
+beside b1 text1 = state (bench 4 1 (Some 0)) b1 6 edited_text text1 record0
 
 -- "20 (no such bench, place 0) after 16 and before 14"; 14 before what the editor refuses
 pub record Ordered : Type 0 where
   pub nobody : undo_of three 2 ≡ refusing three [] (numbered 20 0)
   pub nobody-saves : save_of three 2 letter (replicate 9 9) ≡ refusing three (replicate 9 9) (numbered 20 0)
   pub nobody-asks : unchanged_of three 2 ≡ says 20 false
-  pub nobody-unsound : (undo_of (beside (bench 4 0 (At 0)) (cells_read ++ 7 ∷ [])) 2).verdict ≡ numbered 20 0
-  pub nobody-asks-unsound : unchanged_of (beside (bench 4 0 (At 0)) (cells_read ++ 7 ∷ [])) 2 ≡ says 20 false
-  pub asks-unsound : unchanged_of (beside (bench 4 0 (At 0)) (cells_read ++ 7 ∷ [])) 0 ≡ says 14 false
+  pub nobody-unsound : (undo_of (beside (bench 4 0 (Some 0)) (cells_read ++ 7 ∷ [])) 2).verdict ≡ numbered 20 0
+  pub nobody-asks-unsound : unchanged_of (beside (bench 4 0 (Some 0)) (cells_read ++ 7 ∷ [])) 2 ≡ says 20 false
+  pub asks-unsound : unchanged_of (beside (bench 4 0 (Some 0)) (cells_read ++ 7 ∷ [])) 0 ≡ says 14 false
   pub replace-14 :
-      (replace_of (beside (bench 4 0 (At 0)) (cells_read ++ 7 ∷ [])) 0 9 9 (0x3D ∷ [])).verdict ≡ numbered 14 0
-  pub save-14 : (save_of (beside (bench 4 0 (At 0)) (cells_read ++ 7 ∷ [])) 0 [] []).verdict ≡ numbered 14 0
+      (replace_of (beside (bench 4 0 (Some 0)) (cells_read ++ 7 ∷ [])) 0 9 9 (0x3D ∷ [])).verdict ≡ numbered 14 0
+  pub save-14 : (save_of (beside (bench 4 0 (Some 0)) (cells_read ++ 7 ∷ [])) 0 [] []).verdict ≡ numbered 14 0
 
 pub ordered : Ordered
 unfolding limit records_in own reached lengths_fit zeros bench_sound judged records layout.call_on layout.outcome_of
@@ -232,21 +232,21 @@ told = record { first-hears = refl; second-hears = refl; refused-untold = λ l. 
 -- any mark at most the number of its records": bench 1 is damaged, and bench 0 asks
 pub record Damaged : Type 0 where
   pub sound : (undo_of (beside (bench 4 0 None) arrived_text) 0).verdict ≡ numbered 0 4
-  pub other-stands : (undo_of (beside (bench 4 1 (At 0)) arrived_text) 0).verdict ≡ numbered 14 0
-  pub other-mark : (undo_of (beside (bench 4 0 (At 1)) arrived_text) 0).verdict ≡ numbered 14 0
-  pub other_text : (undo_of (beside (bench 4 0 (At 0)) (cells_read ++ 7 ∷ [])) 0).verdict ≡ numbered 14 0
-  pub other_length : (undo_of (beside (bench 5 0 (At 0)) (cells_read ++ 7 ∷ [])) 0).verdict ≡ numbered 14 0
-  pub other-short : (undo_of (beside (bench 4 0 (At 0)) (0x41 ∷ 0x2262 ∷ 0x391 ∷ [])) 0).verdict ≡ numbered 14 0
+  pub other-stands : (undo_of (beside (bench 4 1 (Some 0)) arrived_text) 0).verdict ≡ numbered 14 0
+  pub other-mark : (undo_of (beside (bench 4 0 (Some 1)) arrived_text) 0).verdict ≡ numbered 14 0
+  pub other_text : (undo_of (beside (bench 4 0 (Some 0)) (cells_read ++ 7 ∷ [])) 0).verdict ≡ numbered 14 0
+  pub other_length : (undo_of (beside (bench 5 0 (Some 0)) (cells_read ++ 7 ∷ [])) 0).verdict ≡ numbered 14 0
+  pub other-short : (undo_of (beside (bench 4 0 (Some 0)) (0x41 ∷ 0x2262 ∷ 0x391 ∷ [])) 0).verdict ≡ numbered 14 0
   pub other-opening :
       (undo_of
-      (beside (record { kind = Utf7Body; opening = 6; length = 4; standing = 0; saved = At 0 }) arrived_text) 0
+      (beside (record { kind = Utf7Body; opening = 6; length = 4; standing = 0; saved = Some 0 }) arrived_text) 0
       ).verdict
       ≡ numbered 14 0
   -- bench 0's own
   pub mark-beyond :
-      (undo_of (state (bench 4 1 (At 2)) (bench 4 0 None) 6 edited_text arrived_text record0) 0).verdict ≡ numbered 14 0
+      (undo_of (state (bench 4 1 (Some 2)) (bench 4 0 None) 6 edited_text arrived_text record0) 0).verdict ≡ numbered 14 0
   pub many-stand :
-      (undo_of (state (bench 4 2 (At 0)) (bench 4 0 None) 6 edited_text arrived_text record0) 0).verdict ≡ numbered 14 0
+      (undo_of (state (bench 4 2 (Some 0)) (bench 4 0 None) 6 edited_text arrived_text record0) 0).verdict ≡ numbered 14 0
   pub other-first-word :
       (undo_of
       (state (bench 4 0 None) (bench 4 0 None) 6 arrived_text arrived_text (2 ∷ 1 ∷ 1 ∷ 1 ∷ 0x2262 ∷ 0x3D ∷ [])) 0

@@ -5,15 +5,14 @@ use mathlib.Core.Path.{◌≡◌, refl, sym, ap, ◌∙◌}
 use mathlib.Core.Bool.{true, false, false≢true}
 use mathlib.Core.List.{List, [], ◌∷◌, ◌++◌, map, reverse_aux, reverse, reverse-cons, reverse-reverse, append-nil}
 use mathlib.Core.List.{reverse_aux-eq}
-use mathlib.Core.Option.{some}
 use native.Mathlib.Omega.{arith}
 use lib.ListN.{length, take, drop, length-append, length-reverse, length-reverse_aux, length-map}
 use lib.Seq.{take_at, drop_at}
 use lib.Dec.{leb}
 use borrow.Author.Tests.{le-leb, leb-false, eq-eqb, le-ltb}
 use Rattle.answer.specs.Answer.{limit}
-use Rattle.editor.specs.declared.Mark.{Mark}
-use Rattle.editor.specs.declared.Mark.TheVariants.{None, At}
+use Rattle.std.specs.Prelude.{None, Some}
+use Rattle.editor.specs.Marks.{Mark}
 use Rattle.editor.specs.Ledger.{Step, weight_of}
 use Rattle.editor.specs.Records.{Entry, step_of, mark_fits}
 use Rattle.editor.specs.Editor.{Editor, with_text, with_mark, words_in, over}
@@ -41,7 +40,7 @@ weight-steps (x ∷ rest) = omega (arith, weight-steps rest)
 mark-within :
     (m : Mark) (es : List Entry) → mark_fits in_steps m (map step_of es) ≡ true → mark_within (length es) m ≡ true
 mark-within None es h = refl
-mark-within (At n) es h =
+mark-within (Some n) es h =
     by-test (leb n (length es)) (λ t. t)
     (λ t.
     let far : weight_of in_steps (map step_of es) < n =
@@ -175,7 +174,7 @@ module _ (s : Side) (m : ℕ) (f : Editor) {n : ℕ} {t : State} {e : Editor} (l
   sound-each : (p : Side) → sound_at t l.rs p ≡ true
   sound-each = by_side (λ p. sound_at t l.rs p ≡ true) s (sound-is l.here) (sound-is l.there)
 
-  records-are : records t ≡ some l.rs
+  records-are : records t ≡ Some l.rs
   unfolding records judged
   records-are =
       rw (
@@ -198,8 +197,8 @@ module _ (s : Side) (m : ℕ) (f : Editor) {n : ℕ} {t : State} {e : Editor} (l
       let h : over t.history ≡ false = le-ltb limit (length t.history) (omega (arith, space-is, l.small)) in
       rw (short-each first, short-each second, h)
 
-  found_here : (bench s).editor_in t ≡ some e
-  found_here = rw records-are (ap some (editor-is l.here))
+  found_here : (bench s).editor_in t ≡ Some e
+  found_here = rw records-are (ap Some (editor-is l.here))
 
   pub stood-here : (at t.benches s).standing ≡ length e.standing
   stood-here = ap (λ (b : Bench). b.standing) l.here.is

@@ -4,7 +4,7 @@ use Prim.Native.Nat.{ℕ, suc}
 use mathlib.Core.Path.{◌≡◌, refl}
 use mathlib.Core.Bool.{true, false, ◌||◌}
 use mathlib.Core.List.{List, []}
-use mathlib.Core.Option.{Option, none, some}
+use Rattle.std.specs.Prelude.{Option, None, Some}
 use Rattle.answer.specs.Answer.{numbered, too_long}
 use Rattle.answer.proofs.Below.{cond-case}
 use Rattle.codec.specs.declared.Kind.{Kind}
@@ -25,10 +25,10 @@ module _ (t : State) where
       (c : Call) (s : Option Side) → taken (outcome_at t s (call_of c)) ≡ false →
       Unchanged t (output_of (call_of c)) (outcome_at t s (call_of c))
   unfolding outcome_at
-  refused-at c none =
+  refused-at c None =
       cond-case (λ (r : Outcome). taken r ≡ false → Unchanged t (output_of (call_of c)) r) (overlong (call_of c) || _)
       (λ _ _. record { state = refl; output = refl }) (λ _ _. record { state = refl; output = refl })
-  refused-at c (some s) = editor.refused-same (bench s) t (call_of c)
+  refused-at c (Some s) = editor.refused-same (bench s) t (call_of c)
 
   -- 16 is the first: the call's own list, both texts, and the history
   module _ (c : Call) where
@@ -37,8 +37,8 @@ module _ (t : State) where
         (overlong (call_of c) || (over t.texts.bench0 || (over t.texts.bench1 || over t.history))) ≡ true →
         outcome_at t s (call_of c) ≡ refusing t (output_of (call_of c)) too_long
     unfolding outcome_at layout.outcome_of
-    long-at none long = rw long
-    long-at (some s) long = rw long
+    long-at None long = rw long
+    long-at (Some s) long = rw long
 
     pub long-first :
         (n : ℕ) →
@@ -59,8 +59,8 @@ module _ (t : State) where
       (s : Option Side) → (over t.texts.bench0 || (over t.texts.bench1 || over t.history)) ≡ true →
       reply_at t s ≡ record { verdict = too_long; unchanged = false }
   unfolding reply_at layout.reply_of
-  asked-long-at none long = rw long
-  asked-long-at (some s) long = rw long
+  asked-long-at None long = rw long
+  asked-long-at (Some s) long = rw long
 
   pub asked-long :
       (n : ℕ) → (over t.texts.bench0 || (over t.texts.bench1 || over t.history)) ≡ true →

@@ -3,7 +3,7 @@ use Prim.Native.Nat.{ℕ, zero, suc, ◌+◌, ◌≤◌}
 use mathlib.Core.Path.{◌≡◌, refl, sym, ap}
 use mathlib.Core.Bool.{Bool, true, false, cond}
 use mathlib.Core.List.{List, [], ◌∷◌, ◌++◌, append_assoc}
-use mathlib.Core.Option.{some}
+use Rattle.std.specs.Prelude.{Some}
 use native.Mathlib.Omega.{arith}
 use lib.ListN.{length, take, drop, length-append}
 use lib.Seq.{take-append_seam, drop-append_seam, drop-append-add, take-nil, drop-nil}
@@ -17,7 +17,7 @@ abbrev pub other : Side → Side
 other first = second
 other second = first
 
-pub side-number : (s : Side) → side_of (number_of s) ≡ some s
+pub side-number : (s : Side) → side_of (number_of s) ≡ Some s
 side-number first = refl
 side-number second = refl
 
@@ -38,7 +38,7 @@ at_other p first a = refl
 at_other p second a = refl
 
 -- the records found in the words of records are those records
-pub records-words : (n : ℕ) (rs : List Record) → length (words rs) ≤ n → records_in n (words rs) ≡ some rs
+pub records-words : (n : ℕ) (rs : List Record) → length (words rs) ≤ n → records_in n (words rs) ≡ Some rs
 unfolding records_in
 records-words zero [] h = refl
 records-words zero (r ∷ rs) h = absurd (omega arith)
@@ -49,7 +49,7 @@ records-words (suc n) (x ∷ rs) h =
     let all : List ℕ = r ++ (a ++ words rs) in
     let fits : leb (length r + length a) (length all) ≡ true =
     le-leb (length r + length a) (length all) (simp length-append (omega arith)) in
-    let rest : records_in n (words rs) ≡ some rs = records-words n rs (omega (arith, simp length-append at h)) in
+    let rest : records_in n (words rs) ≡ Some rs = records-words n rs (omega (arith, simp length-append at h)) in
     simp (
       append_assoc,
       take-append_seam,

@@ -1,6 +1,5 @@
 -- Document 02, order 13: two benches with the buffers lent beside them, and when they are sound.
-use Rattle.std.specs.Prelude.{ℕ, Bool, cond, ◌&&◌, List, length, take, drop, leb, eqb}
-use Rattle.std.proofs.Math.Option.{Option, none, some}
+use Rattle.std.specs.Prelude.{ℕ, Bool, cond, ◌&&◌, List, length, take, drop, leb, eqb, Option, None, Some}
 use Rattle.answer.specs.Answer.{in_numbers}
 use Rattle.editor.specs.Records.{Entry, reached, lengths_fit}
 use Rattle.editor.specs.Layout as editor
@@ -39,15 +38,15 @@ sound_at t rs s = bench_sound (at t.benches s) (at t.texts s) (own s rs)
 
 -- "14 is over both benches"
 unfoldable pub judged : State → Option (List Record) → Option (List Record)
-judged t none = none
-judged t (some rs) = cond (sound_at t rs first && sound_at t rs second) (some rs) none
+judged t None = None
+judged t (Some rs) = cond (sound_at t rs first && sound_at t rs second) (Some rs) None
 
 -- the records of sound benches, in order; none where they are not sound
 unfoldable pub records : State → Option (List Record)
 records t =
     cond (leb t.used (length t.history) && zeros (drop t.used t.history))
     (judged t (records_in t.used (take t.used t.history)))
-    none
+    None
 
 abbrev pub state_of : Benches → List ℕ → List ℕ → List ℕ → State
 state_of b text0 text1 history =

@@ -1,9 +1,7 @@
 -- Document 02, order 13: the calls of two benches, each refusal in the fixed order, and everything they leave.
-use Rattle.std.specs.Prelude.{ℕ, ◌+◌, false, cond, ◌||◌, List, []}
-use Rattle.std.proofs.Math.Option.{Option, none, some}
+use Rattle.std.specs.Prelude.{ℕ, ◌+◌, false, cond, ◌||◌, List, [], None, Option, Some}
 use Rattle.answer.specs.Answer.{numbered, too_long}
 use Rattle.codec.specs.declared.Kind.{Kind}
-use Rattle.editor.specs.declared.Mark.TheVariants.{None}
 use Rattle.editor.specs.Ledger as editor
 use Rattle.editor.specs.Editor.{overlong, output_of}
 use Rattle.editor.specs.Layout.{refusing, taken, Reply}
@@ -32,9 +30,9 @@ call_of (save arrived out) = editor.save arrived out
 
 -- "20 (no such bench, place 0) after 16 and before 14"; a bench's own calls are those of its layout: 16, 14 and so on
 unfoldable pub outcome_at : State → Option Side → editor.Call → Outcome
-outcome_at t none c =
+outcome_at t None c =
     cond (overlong c || long t) (refusing t (output_of c) too_long) (refusing t (output_of c) (numbered 20 0))
-outcome_at t (some s) c = layout.outcome_of (bench s) t c
+outcome_at t (Some s) c = layout.outcome_of (bench s) t c
 
 abbrev pub outcome_of : State → ℕ → Call → Outcome
 outcome_of t n c = outcome_at t (side_of n) (call_of c)
@@ -56,10 +54,10 @@ save_of t n arrived out = outcome_of t n (save arrived out)
 
 -- the question: 16, 20, 14; refused, it is not unchanged
 unfoldable pub reply_at : State → Option Side → Reply
-reply_at t none =
+reply_at t None =
     cond (long t) (record { verdict = too_long; unchanged = false })
     (record { verdict = numbered 20 0; unchanged = false })
-reply_at t (some s) = layout.reply_of (bench s) t
+reply_at t (Some s) = layout.reply_of (bench s) t
 
 abbrev pub unchanged_of : State → ℕ → Reply
 unchanged_of t n = reply_at t (side_of n)

@@ -1,7 +1,7 @@
 -- Document 02, order 13: each bench as a layout of one text being edited.
 use Rattle.std.specs.Prelude.{ℕ, ◌+◌, ◌-◌, Bool, ◌||◌, List, [], ◌∷◌, ◌++◌, reverse, length, take, drop}
-use Rattle.std.proofs.Math.Option.{Option, none, some}
-use Rattle.editor.specs.declared.Mark.{Mark}
+use Rattle.std.specs.Prelude.{Option, None, Some}
+use Rattle.editor.specs.Marks.{Mark}
 use Rattle.editor.specs.Records.{Entry}
 use Rattle.editor.specs.Editor.{Editor, Space, over}
 use Rattle.editor.specs.Layout.{Layout}
@@ -23,8 +23,8 @@ editor_of b text es =
     }
 
 abbrev pub editor_for : State → Side → Option (List Record) → Option Editor
-editor_for t s none = none
-editor_for t s (some rs) = some (editor_of (at t.benches s) (at t.texts s) (own s rs))
+editor_for t s None = None
+editor_for t s (Some rs) = Some (editor_of (at t.benches s) (at t.texts s) (own s rs))
 
 -- a buffer is over the limit: either text, or the history
 abbrev pub long : State → Bool
@@ -32,8 +32,8 @@ long t = over t.texts.bench0 || (over t.texts.bench1 || over t.history)
 
 -- the records that lie in a state; none where it is not sound
 abbrev pub these : Option (List Record) → List Record
-these none = []
-these (some rs) = rs
+these None = []
+these (Some rs) = rs
 
 abbrev pub lying_in : State → List Record
 lying_in t = these (records t)

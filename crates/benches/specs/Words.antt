@@ -1,6 +1,6 @@
 -- Document 02, order 13: two benches, and the words that their records are in one history.
 use Rattle.std.specs.Prelude.{ℕ, zero, suc, ◌+◌, Bool, true, false, cond, List, [], ◌∷◌, ◌++◌, length, take, drop, leb}
-use Rattle.std.proofs.Math.Option.{Option, none, some}
+use Rattle.std.specs.Prelude.{Option, None, Some}
 use Rattle.editor.specs.Ledger.{Step}
 use Rattle.editor.specs.Records.{Entry}
 use Rattle.ledger.specs.Words as page
@@ -14,9 +14,9 @@ number_of first = 0
 number_of second = 1
 
 abbrev pub side_of : ℕ → Option Side
-side_of zero = some first
-side_of (suc zero) = some second
-side_of (suc (suc n)) = none
+side_of zero = Some first
+side_of (suc zero) = Some second
+side_of (suc (suc n)) = None
 
 abbrev pub same : Side → Side → Bool
 same first first = true
@@ -61,23 +61,23 @@ words (r ∷ rs) = words_of r ++ words rs
 
 -- "every first word 0 or 1"
 abbrev pub onto : Option Side → Entry → Option (List Record) → Option (List Record)
-onto none e rs = none
-onto (some s) e none = none
-onto (some s) e (some rs) = some (record { bench = s; entry = e } ∷ rs)
+onto None e rs = None
+onto (Some s) e None = None
+onto (Some s) e (Some rs) = Some (record { bench = s; entry = e } ∷ rs)
 
 -- the records that tile a list of words, or none; the number bounds how many there are
 unfoldable pub records_in : ℕ → List ℕ → Option (List Record)
-records_in zero [] = some []
-records_in zero (b ∷ ws) = none
-records_in (suc n) [] = some []
-records_in (suc n) (b ∷ []) = none
-records_in (suc n) (b ∷ p ∷ []) = none
-records_in (suc n) (b ∷ p ∷ r ∷ []) = none
+records_in zero [] = Some []
+records_in zero (b ∷ ws) = None
+records_in (suc n) [] = Some []
+records_in (suc n) (b ∷ []) = None
+records_in (suc n) (b ∷ p ∷ []) = None
+records_in (suc n) (b ∷ p ∷ r ∷ []) = None
 records_in (suc n) (b ∷ p ∷ r ∷ a ∷ ws) =
     cond (leb (r + a) (length ws))
     (onto (side_of b) (record { place = p; removed = take r ws; added = take a (drop r ws) })
     (records_in n (drop (r + a) ws)))
-    none
+    None
 
 -- a bench's own records, in order
 unfoldable pub own : Side → List Record → List Entry

@@ -3,7 +3,6 @@
 
 use answer::Answer;
 use codec::Kind;
-use editor::Mark;
 
 // "Each bench has its own kind, text, count of standing steps and saved mark"; its lengths are those of a page.
 #[derive(Clone, Copy)]
@@ -12,7 +11,7 @@ pub struct Bench {
     pub opening: usize,
     pub length: usize,
     pub standing: usize,
-    pub saved: Mark,
+    pub saved: Option<usize>,
 }
 
 // Both benches, and the words used in the history between them.

@@ -8,11 +8,11 @@ use lib.ListN.{length, take, length-take}
 use lib.Dec.{ltb, lit≤}
 use borrow.Author.Tests.{le-ltb}
 use Rattle.answer.specs.Answer.{numbered}
+use Rattle.std.specs.Prelude.{None, Some}
 use Rattle.answer.specs.Output.{Outcome, refusing, filled, deliver}
 use Rattle.codec.specs.declared.Kind.{Kind}
 use Rattle.codec.specs.declared.Kind.TheVariants.{Utf7Header, Utf7Body, Jp2}
-use Rattle.editor.specs.declared.Mark.{Mark}
-use Rattle.editor.specs.declared.Mark.TheVariants.{None, At}
+use Rattle.editor.specs.Marks.{Mark}
 use Rattle.ledger.specs.Page.{State, text_in}
 use Rattle.ledger.specs.Ledger.{Ledger}
 use Rattle.page_file.specs.File.{name_of, mark_of}
@@ -38,7 +38,7 @@ width-most false = lit≤ tt
 
 mark-most : (two : Bool) (mark : Mark) → length (mark_of (form_if two) mark) ≤ 7
 mark-most two None = lit≤ tt
-mark-most two (At n) = omega (arith, length_digits 10 (form_if two).width n, width-most two)
+mark-most two (Some n) = omega (arith, length_digits 10 (form_if two).width n, width-most two)
 
 take-most : (n : ℕ) (l : List ℕ) → length (take n l) ≤ length l
 take-most n l = simp length-take (omega arith)

@@ -1,6 +1,6 @@
 // One command: the page after it is the definition's, whatever the line says.
 ghost use Rattle.std.specs.Prelude.{◌≤◌, true, false, ◌||◌, ◌≡◌, length, eqb};
-ghost use Rattle.std.proofs.Math.Option.{none};
+ghost use Rattle.std.specs.Prelude.{None};
 ghost use Rattle.reading.specs.Reading.{accepted};
 ghost use Rattle.ledger.specs.Page.{state_of};
 ghost use Rattle.ledger.specs.Calls.{unchanged_of};
@@ -62,7 +62,7 @@ fn replace_by(
 fn replace(rt: &HostRuntime, p: Page, words: &[u8], text: &mut [u32], history: &mut [u32]) -> Page
     requires { length words.now ≤ line_room }
     ensures { state_of result text.new history.new
-        ≡ after_call (asked none Replace words.now) (state_of p text.old history.old) }
+        ≡ after_call (asked None Replace words.now) (state_of p text.old history.old) }
 {
     let mut found = [0u32; 65536];
     let read = numbers::read(2, words, &mut found);
@@ -98,7 +98,7 @@ fn alone(rt: &HostRuntime, words: &[u8]) -> bool
 // `undo`
 fn undo(rt: &HostRuntime, p: Page, words: &[u8], text: &mut [u32], history: &[u32]) -> Page
     ensures { state_of result text.new history.now
-        ≡ after_call (asked none Undo words.now) (state_of p text.old history.now) }
+        ≡ after_call (asked None Undo words.now) (state_of p text.old history.now) }
 {
     if !alone(rt, words) {
         return p;
@@ -109,7 +109,7 @@ fn undo(rt: &HostRuntime, p: Page, words: &[u8], text: &mut [u32], history: &[u3
 // `redo`
 fn redo(rt: &HostRuntime, p: Page, words: &[u8], text: &mut [u32], history: &[u32]) -> Page
     ensures { state_of result text.new history.now
-        ≡ after_call (asked none Redo words.now) (state_of p text.old history.now) }
+        ≡ after_call (asked None Redo words.now) (state_of p text.old history.now) }
 {
     if !alone(rt, words) {
         return p;
@@ -120,7 +120,7 @@ fn redo(rt: &HostRuntime, p: Page, words: &[u8], text: &mut [u32], history: &[u3
 // `squeeze K`
 fn squeeze(rt: &HostRuntime, p: Page, words: &[u8], text: &[u32], history: &mut [u32]) -> Page
     ensures { state_of result text.now history.new
-        ≡ after_call (asked none Squeeze words.now) (state_of p text.now history.old) }
+        ≡ after_call (asked None Squeeze words.now) (state_of p text.now history.old) }
 {
     let mut found = [0u32; 1];
     let read = numbers::read(1, words, &mut found);
@@ -295,7 +295,7 @@ fn quit(
     history: &[u32],
 ) -> Done
     ensures { desk_at result text.now history.now
-        ≡ after_command none (sitting p warned text.now history.now) Quit words.now }
+        ≡ after_command None (sitting p warned text.now history.now) Quit words.now }
 {
     if !alone(rt, words) {
         return stays(p);

@@ -4,7 +4,7 @@ use Prim.Native.Nat.{ℕ}
 use mathlib.Core.Path.{◌≡◌, refl}
 use mathlib.Core.Bool.{Bool, true, false}
 use mathlib.Core.List.{List, [], ◌∷◌}
-use mathlib.Core.Option.{Option, none, some}
+use Rattle.std.specs.Prelude.{Option, None, Some}
 use lib.ListN.{drop}
 use Rattle.answer.specs.Answer.{limit}
 use Rattle.answer.specs.Output.{deliver}
@@ -101,19 +101,19 @@ cases =
 
 pub record Asking : Type 0 where
   -- `replace 0 1 62` replaces a cell; `replace 0` and `replace 0 1 x` ask for nothing
-  pub replaced : Asks changes (some (replace 0 1 (98 ∷ [])))
-  pub no-count : Asks (114 ∷ 101 ∷ 112 ∷ 108 ∷ 97 ∷ 99 ∷ 101 ∷ 32 ∷ 48 ∷ 10 ∷ []) none
-  pub no_cell : Asks (114 ∷ 101 ∷ 112 ∷ 108 ∷ 97 ∷ 99 ∷ 101 ∷ 32 ∷ 48 ∷ 32 ∷ 49 ∷ 32 ∷ 120 ∷ 10 ∷ []) none
+  pub replaced : Asks changes (Some (replace 0 1 (98 ∷ [])))
+  pub no-count : Asks (114 ∷ 101 ∷ 112 ∷ 108 ∷ 97 ∷ 99 ∷ 101 ∷ 32 ∷ 48 ∷ 10 ∷ []) None
+  pub no_cell : Asks (114 ∷ 101 ∷ 112 ∷ 108 ∷ 97 ∷ 99 ∷ 101 ∷ 32 ∷ 48 ∷ 32 ∷ 49 ∷ 32 ∷ 120 ∷ 10 ∷ []) None
   -- `squeeze 32` folds 32 steps; `squeeze` and `squeeze 3 2` ask for nothing
-  pub squeezed : Asks folds (some (squeeze 32 work_room))
-  pub no_number : Asks (115 ∷ 113 ∷ 117 ∷ 101 ∷ 101 ∷ 122 ∷ 101 ∷ 10 ∷ []) none
-  pub two-numbers : Asks (115 ∷ 113 ∷ 117 ∷ 101 ∷ 101 ∷ 122 ∷ 101 ∷ 32 ∷ 51 ∷ 32 ∷ 50 ∷ 10 ∷ []) none
+  pub squeezed : Asks folds (Some (squeeze 32 work_room))
+  pub no_number : Asks (115 ∷ 113 ∷ 117 ∷ 101 ∷ 101 ∷ 122 ∷ 101 ∷ 10 ∷ []) None
+  pub two-numbers : Asks (115 ∷ 113 ∷ 117 ∷ 101 ∷ 101 ∷ 122 ∷ 101 ∷ 32 ∷ 51 ∷ 32 ∷ 50 ∷ 10 ∷ []) None
   -- `save a` is a save where the file was put
-  pub saved : AsksPut true saves (some (save [] room))
-  pub not-put : AsksPut false saves none
+  pub saved : AsksPut true saves (Some (save [] room))
+  pub not-put : AsksPut false saves None
   -- `keep a` asks for nothing of the page, whatever became of its file
-  pub kept : AsksPut true keeps none
-  pub not-kept : AsksPut false keeps none
+  pub kept : AsksPut true keeps None
+  pub not-kept : AsksPut false keeps None
 
 pub asking : Asking
 unfolding call_in said_in verb_of same stretch limit read_from reading read_into deliver digit_value raised byte_does ends_in

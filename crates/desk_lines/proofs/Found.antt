@@ -4,7 +4,7 @@ use Prim.Native.Nat.{ℕ, suc, ◌+◌, ◌-◌, ◌<◌, ◌≤◌}
 use mathlib.Core.Path.{◌≡◌, refl, ap, ◌∙◌}
 use mathlib.Core.Bool.{Bool, true, false}
 use mathlib.Core.List.{List, [], ◌∷◌}
-use mathlib.Core.Option.{Option, none}
+use Rattle.std.specs.Prelude.{Option, None}
 use native.Mathlib.Omega.{arith}
 use lib.ListN.{length, get_or, take, drop, replicate, length-drop, length-replicate}
 use lib.Seq.{take_all, take-append_seam}
@@ -36,7 +36,7 @@ pub same-call : (s : State) {a b : Option Call} → a ≡ b → after_call a s �
 same-call s e = ap (λ (call : Option Call). after_call call s) e
 
 -- a place and a count are needed, and the rest are the cells
-pub too_few : (numbers : List ℕ) → length numbers < 2 → none ≡ replacing accepted numbers
+pub too_few : (numbers : List ℕ) → length numbers < 2 → None ≡ replacing accepted numbers
 too_few [] h = refl
 too_few (place ∷ []) h = refl
 too_few (place ∷ count ∷ cells) h = absurd (omega arith)
@@ -64,7 +64,7 @@ module _ (out o : List ℕ) where
 
   refused-by :
       (e : Ending) (cells : List ℕ) (why : Refusal) (place : ℕ) → length cells ≤ length out → leaves (Refused why place) o ≡ on_ending e cells out →
-      replacing e cells ≡ none
+      replacing e cells ≡ None
   unfolding deliver
   refused-by accepted cells why place room q =
       let d : leaves (Refused why place) o ≡ record { verdict = numbered 0 (length cells); out = filled cells out } =
@@ -87,7 +87,7 @@ module _ (words out o : List ℕ) (short : length words ≤ line_room) (wide : l
 
   module _ {a : Answer} (q : leaves a o ≡ read_into (numbers 2) words out) where
     module _ {m n : ℕ} (e : a ≡ Accepted m) (k : n ≡ (in_numbers a).place) where
-      known : (n ≡ length (reading (numbers 2) words).cells) × (replacing accepted (take n o) ≡ asked none Replace words)
+      known : (n ≡ length (reading (numbers 2) words).cells) × (replacing accepted (take n o) ≡ asked None Replace words)
       known =
           let s : n ≡ m = k ∙ ap (λ (x : Answer). (in_numbers x).place) e in
           rw s (accepted-by out o (reading (numbers 2) words).ending (reading (numbers 2) words).cells m (good-reading (numbers-kept 2) words).1 fits (rw e at (by _ q)))
@@ -95,10 +95,10 @@ module _ (words out o : List ℕ) (short : length words ≤ line_room) (wide : l
       pub found-few : n ≤ line_room
       found-few = omega (arith, known.0, few-cells (numbers 2) words)
 
-      pub found_all : replacing accepted (take n o) ≡ asked none Replace words
+      pub found_all : replacing accepted (take n o) ≡ asked None Replace words
       found_all = known.1
 
-    pub found_none : {why : Refusal} {place : ℕ} → a ≡ Refused why place → asked none Replace words ≡ none
+    pub found_none : {why : Refusal} {place : ℕ} → a ≡ Refused why place → asked None Replace words ≡ None
     found_none {why} {place} e =
         refused-by out o (reading (numbers 2) words).ending (reading (numbers 2) words).cells why place fits (rw e at (by _ q))
 

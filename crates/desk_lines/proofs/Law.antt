@@ -4,7 +4,7 @@ use Prim.Native.Nat.{ℕ, ◌≤◌}
 use mathlib.Core.Path.{◌≡◌, refl, sym, ap, ◌∙◌, subst₂}
 use mathlib.Core.Bool.{Bool, true, false, ◌&&◌, ◌||◌, false≢true}
 use mathlib.Core.List.{List, [], ◌∷◌, ◌++◌, map}
-use mathlib.Core.Option.{Option, none, some}
+use Rattle.std.specs.Prelude.{Option, None, Some}
 use native.Mathlib.Omega.{arith}
 use lib.ListN.{length, take, drop}
 use lib.Seq.{take-append_seam}
@@ -44,8 +44,8 @@ use Rattle.desk_lines.specs.Demand.{Keeps, Left}
 call-first :
     (s : State) (call : Option Call) (calls : List Call) →
     after (after_call call s) calls ≡ after s (with_call call calls)
-call-first s none calls = refl
-call-first s (some call) calls = refl
+call-first s None calls = refl
+call-first s (Some call) calls = refl
 
 -- the page after a line is that after its call
 state-after :

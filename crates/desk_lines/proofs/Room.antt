@@ -4,7 +4,7 @@ use Prim.Native.Nat.{ℕ, ◌+◌, ◌*◌, ◌-◌, ◌≤◌}
 use mathlib.Core.Path.{◌≡◌, refl, ap}
 use mathlib.Core.Bool.{false, ◌||◌}
 use mathlib.Core.List.{List, reverse_aux}
-use mathlib.Core.Option.{Option, none, some}
+use Rattle.std.specs.Prelude.{Option, None, Some}
 use native.Mathlib.Omega.{arith}
 use lib.ListN.{length, length-replicate, take-append-drop}
 use lib.Seq.{length-take-le}
@@ -66,8 +66,8 @@ module _ (s : State) (k : ℕ) (work : List ℕ) (wide : length s.history ≤ le
       (x : Option Parted) → Whole (Sound s) x →
       eqb (call_on page s (squeeze k work) (editor_for s x)).verdict.number 9 ≡ false
   unfolding call_on
-  found-room none w = refl
-  found-room (some v) w = sound-room v w
+  found-room None w = refl
+  found-room (Some v) w = sound-room v w
 
 work-long : length work_room ≡ history_room
 unfolding work_room

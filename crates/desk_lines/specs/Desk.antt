@@ -1,7 +1,7 @@
 -- What a desk's lines do to its page: each is a call of document 01's page, or leaves it as it is. And when a line
 -- leaves the desk: document 02, order 5, "Apprentices close the program without knowing."
 use Rattle.std.specs.Prelude.{ℕ, suc, ◌≡◌, Bool, true, false, cond, ◌&&◌, ◌||◌, List, [], ◌∷◌, length, get_or, drop, replicate, eqb}
-use Rattle.std.proofs.Math.Option.{Option, none, some}
+use Rattle.std.specs.Prelude.{Option, None, Some}
 use Rattle.answer.specs.Output.{Outcome}
 use Rattle.reading.specs.Reading.{Ending, accepted, fault, reading, read_into}
 use Rattle.ledger.specs.Page.{State}
@@ -16,10 +16,10 @@ use Rattle.commands.specs.declared.Verb.TheVariants.{Squeeze, Keep, Unknown}
 
 -- `replace PLACE COUNT CELL..`, where all of it can be read
 abbrev pub replacing : Ending → List ℕ → Option Call
-replacing accepted [] = none
-replacing accepted (place ∷ []) = none
-replacing accepted (place ∷ count ∷ cells) = some (replace place count cells)
-replacing (fault k at) cells = none
+replacing accepted [] = None
+replacing accepted (place ∷ []) = None
+replacing accepted (place ∷ count ∷ cells) = Some (replace place count cells)
+replacing (fault k at) cells = None
 
 -- how many bytes a line may have, with its LF
 abbrev pub line_room : ℕ
@@ -39,7 +39,7 @@ work_room = replicate history_room 0
 
 -- `squeeze K`, where its one number can be read
 abbrev pub squeezing : Outcome → Option Call
-squeezing read = cond (eqb read.verdict.number 0) (some (squeeze (get_or read.out 0 0) work_room)) none
+squeezing read = cond (eqb read.verdict.number 0) (Some (squeeze (get_or read.out 0 0) work_room)) None
 
 -- the output that a save is lent
 unfoldable pub room : List ℕ
@@ -47,21 +47,21 @@ room = replicate file_room 0
 
 -- `save FILE`, by what became of the file: one that was put is a save, and any other is as if it had not been
 abbrev pub saving : List ℕ → List ℕ → Bool → Option Call
-saving letter out put = cond put (some (save letter out)) none
+saving letter out put = cond put (Some (save letter out)) None
 
 -- what a command asks for, given what a `save` does: `undo` and `redo` stand alone; `show`, `keep` and `quit`
 -- change nothing
 abbrev pub asked : Option Call → Verb → List ℕ → Option Call
 asked saved Replace words = replacing (reading (numbers 2) words).ending (reading (numbers 2) words).cells
-asked saved Undo words = cond (eqb (length words) 0) (some undo) none
-asked saved Redo words = cond (eqb (length words) 0) (some redo) none
+asked saved Undo words = cond (eqb (length words) 0) (Some undo) None
+asked saved Redo words = cond (eqb (length words) 0) (Some redo) None
 asked saved Squeeze words = squeezing (read_into (numbers 1) words (0 ∷ []))
 asked saved Save words = saved
-asked saved Nothing words = none
-asked saved Show words = none
-asked saved Keep words = none
-asked saved Quit words = none
-asked saved Unknown words = none
+asked saved Nothing words = None
+asked saved Show words = None
+asked saved Keep words = None
+asked saved Quit words = None
+asked saved Unknown words = None
 
 -- `quit` leaves the desk where nothing follows it, and the desk may be left
 abbrev pub leaving : Bool → Verb → List ℕ → Bool
@@ -90,8 +90,8 @@ warned_by warned Keep words = false
 warned_by warned Unknown words = false
 
 abbrev pub after_call : Option Call → State → State
-after_call none s = s
-after_call (some call) s = (outcome_of s call).state
+after_call None s = s
+after_call (Some call) s = (outcome_of s call).state
 
 -- a desk between two lines: its page with the buffers; the last command was a `quit`; it was left
 pub record Desk : Type 0 where
@@ -140,8 +140,8 @@ after_lines letter s (c ∷ rest) = after_lines letter (after_call (call_in lett
 
 -- the calls that they ask for
 abbrev pub with_call : Option Call → List Call → List Call
-with_call none calls = calls
-with_call (some call) calls = call ∷ calls
+with_call None calls = calls
+with_call (Some call) calls = call ∷ calls
 
 abbrev pub calls_in : List ℕ → List Came → List Call
 calls_in letter [] = []

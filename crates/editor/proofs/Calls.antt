@@ -1,19 +1,18 @@
 -- Each call turns the editor that a ledger determines into the one that the ledger then determines. Assumes nothing.
 use Prim.Native.Nat.{ℕ, ◌+◌, ◌≤◌}
 use mathlib.Core.Path.{◌≡◌, refl, sym, ap, ◌∙◌, subst, subst₂}
-use mathlib.Core.Bool.{Bool, true, false, ◌||◌}
+use mathlib.Core.Bool.{Bool, true, ◌||◌}
 use mathlib.Core.List.{List, [], ◌∷◌, reverse_aux, reverse, reverse-cons}
 use native.Mathlib.Omega.{arith}
 use lib.ListN.{length}
 use lib.Dec.{ltb, leb, eqb}
 use borrow.Author.Tests.{ltb-false}
 use Rattle.answer.specs.Answer.{numbered}
+use Rattle.std.specs.Prelude.{Some}
 use Rattle.answer.specs.Output as output
 use Rattle.answer.proofs.Below.{cond-case}
 use Rattle.codec.specs.Kinds.{first_unwritable, reads_as, writing_in, write_in}
-use Rattle.editor.specs.declared.Mark.{Mark}
-use Rattle.editor.specs.declared.Mark.TheVariants.{At}
-use Rattle.editor.specs.Marks.{replaced_mark}
+use Rattle.editor.specs.Marks.{Mark, replaced_mark}
 use Rattle.editor.specs.Ledger.{Step, Ledger, Call, replace, undo, redo, save, squeeze, last_of, before_last}
 use Rattle.editor.specs.Ledger.{accepted_call, fed, text_of, weight_of, done_by}
 use Rattle.editor.specs.Records.{Entry, applied, turned, mark_fits}
@@ -218,8 +217,8 @@ module _ (weigh : Step → ℕ) {arrived : List ℕ} (o : Frame arrived) where
       fills-next (leaves v n) = rw (n, n) (same weigh o back undone good)
       fills-next fills =
           rw done
-          (same weigh (remarked o (At (done_at back))) back undone
-          (remark (At (done_at back)) good good.fits (saved-fits weigh back undone)))
+          (same weigh (remarked o (Some (done_at back))) back undone
+          (remark (Some (done_at back)) good good.fits (saved-fits weigh back undone)))
 
       save-next :
           Next back undone (save lent out)

@@ -7,14 +7,13 @@ use mathlib.Core.List.{List, [], ◌∷◌, ◌++◌}
 use native.Mathlib.Omega.{arith}
 use borrow.Author.Tests.{le-ltb}
 use Rattle.answer.specs.Answer.{numbered, limit}
+use Rattle.std.specs.Prelude.{None, Some}
 use Rattle.answer.specs.Output.{deliver}
 use Rattle.codec.specs.declared.Kind.TheVariants.{Utf7Body}
 use Rattle.codec.specs.Kinds.{first_unwritable}
 use Rattle.codec.proofs.ByKind.{write-form}
 use Rattle.codec.proofs.Worked.{letter, cells_read, cells_edited, cells_great, written, letter-reads-as}
 use Rattle.codec.proofs.Worked.{letter-reads-other, sign-writable, great-unwritable, edited-writable, edited-writes}
-use Rattle.editor.specs.declared.Mark.{Mark}
-use Rattle.editor.specs.declared.Mark.TheVariants.{None, At}
 use Rattle.editor.specs.Marks.{replaced_mark, unchanged_at}
 use Rattle.editor.specs.Ledger.{Step, replace, undo, redo, save}
 use Rattle.editor.specs.Records.{Entry}
@@ -24,7 +23,7 @@ use Rattle.editor.specs.Editor.{replace_at, save_standing, turn_of}
 -- a body text in a buffer of this length, with standing and undone records, marked at 0
 abbrev editing : ℕ → List ℕ → List Entry → List Entry → Editor
 editing room text standing undone =
-    record { kind = Utf7Body; room = room; text = text; standing = standing; undone = undone; saved = At 0 }
+    record { kind = Utf7Body; room = room; text = text; standing = standing; undone = undone; saved = Some 0 }
 
 -- every step counts for one
 abbrev ones : Step → ℕ
@@ -73,17 +72,17 @@ ordered =
 pub record Turned : Type 0 where
   pub replaces :
       turn_of ones (taking 5) (editing 4 cells_read [] (nothing ∷ [])) (replace 1 1 (0x3D ∷ []))
-      ≡ edited (editing 4 cells_read [] (nothing ∷ [])) cells_edited (step ∷ []) [] (At 0) (records step)
+      ≡ edited (editing 4 cells_read [] (nothing ∷ [])) cells_edited (step ∷ []) [] (Some 0) (records step)
   -- "Removing nothing and adding nothing is a step too."
   pub replaces-nothing :
       turn_of ones (taking 3) (editing 4 cells_read [] []) (replace 1 0 [])
-      ≡ edited (editing 4 cells_read [] []) cells_read (nothing ∷ []) [] (At 0) (records nothing)
+      ≡ edited (editing 4 cells_read [] []) cells_read (nothing ∷ []) [] (Some 0) (records nothing)
   pub undoes :
       turn_of ones (taking 5) (editing 4 cells_edited (step ∷ []) []) undo
-      ≡ edited (editing 4 cells_edited (step ∷ []) []) cells_read [] (step ∷ []) (At 0) moves
+      ≡ edited (editing 4 cells_edited (step ∷ []) []) cells_read [] (step ∷ []) (Some 0) moves
   pub redoes :
       turn_of ones (taking 5) (editing 4 cells_read [] (step ∷ [])) redo
-      ≡ edited (editing 4 cells_read [] (step ∷ [])) cells_edited (step ∷ []) [] (At 0) moves
+      ≡ edited (editing 4 cells_read [] (step ∷ [])) cells_edited (step ∷ []) [] (Some 0) moves
   -- "the arrived bytes [..] as they are; otherwise the text written"
   pub saves-arrived :
       turn_of ones (taking 5) (editing 4 cells_read [] (step ∷ [])) (save letter letter)
@@ -107,14 +106,14 @@ turned =
 -- order 5's rules over a mark and what is done: they serve the page and the ledger alike, so nothing else pins them
 pub record Marked : Type 0 where
   -- "an accepted replace made while the mark exceeds the words done sets it to none"
-  pub drops : replaced_mark 5 (At 6) ≡ None
-  pub keeps : replaced_mark 5 (At 5) ≡ At 5
-  pub keeps-earlier : replaced_mark 5 (At 0) ≡ At 0
+  pub drops : replaced_mark 5 (Some 6) ≡ None
+  pub keeps : replaced_mark 5 (Some 5) ≡ Some 5
+  pub keeps-earlier : replaced_mark 5 (Some 0) ≡ Some 0
   pub stays-none : replaced_mark 5 None ≡ None
   -- "exactly when the mark equals the words done"
-  pub same : unchanged_at 5 (At 5) ≡ true
-  pub earlier : unchanged_at 5 (At 0) ≡ false
-  pub later : unchanged_at 0 (At 5) ≡ false
+  pub same : unchanged_at 5 (Some 5) ≡ true
+  pub earlier : unchanged_at 5 (Some 0) ≡ false
+  pub later : unchanged_at 0 (Some 5) ≡ false
   pub none : unchanged_at 0 None ≡ false
 
 pub marked : Marked

@@ -3,7 +3,7 @@ use Prim.Native.Nat.{ℕ, ◌+◌, ◌-◌, ◌≤◌, ◌<◌}
 use mathlib.Core.Path.{◌≡◌, refl, sym, ap}
 use mathlib.Core.Bool.{Bool, true, false, ◌||◌, false≢true}
 use mathlib.Core.List.{List, [], ◌∷◌, ◌++◌, reverse_aux}
-use mathlib.Core.Option.{Option, none, some}
+use Rattle.std.specs.Prelude.{Option, None, Some}
 use lib.ListN.{length, take-append-drop}
 use lib.Dec.{ltb, leb, eqb}
 use borrow.Author.Tests.{ltb-false, leb-false}
@@ -126,8 +126,8 @@ module _ {S : Type 0} (layout : Layout S) where
 
   call_same : (s : S) (c : Call) (found : Option Editor) → Stays s (output_of c) (call_on layout s c found)
   unfolding call_on
-  call_same s c none = refusal s (output_of c) _
-  call_same s c (some e) =
+  call_same s c None = refusal s (output_of c) _
+  call_same s c (Some e) =
       let space : Space = layout.space_in s in
       ends_same s (output_of c) space e _ (turn-ends layout.weigh space e c)
 

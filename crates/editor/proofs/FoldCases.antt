@@ -5,10 +5,9 @@ use mathlib.Core.Path.{◌≡◌, refl}
 use mathlib.Core.List.{List, [], ◌∷◌, ◌++◌}
 use lib.ListN.{length}
 use Rattle.answer.specs.Answer.{numbered}
+use Rattle.std.specs.Prelude.{None, Some}
 use Rattle.codec.specs.declared.Kind.TheVariants.{Utf7Body}
-use Rattle.editor.specs.declared.Mark.{Mark}
-use Rattle.editor.specs.declared.Mark.TheVariants.{None, At}
-use Rattle.editor.specs.Marks.{folded_mark}
+use Rattle.editor.specs.Marks.{Mark, folded_mark}
 use Rattle.editor.specs.Ledger.{Step, Ledger, squeeze, text_after, accepted_call}
 use Rattle.editor.specs.Records.{Entry, text_before}
 use Rattle.editor.specs.Editor.{Editor, Space, folds, squeeze_to, squeeze_oldest, turn_of}
@@ -58,11 +57,11 @@ long = editing (5 ∷ 9 ∷ 9 ∷ 9 ∷ 9 ∷ 9 ∷ []) three [] None
 pub record Squeezed : Type 0 where
   -- "accepted, that record stands first in [the work buffer], its rest untouched"; "The new words used are answered"
   pub folds-two :
-      turn_of counted space (odd (At 3)) (squeeze 2 (7 ∷ 7 ∷ 7 ∷ 7 ∷ 7 ∷ 7 ∷ 7 ∷ 7 ∷ []))
+      turn_of counted space (odd (Some 3)) (squeeze 2 (7 ∷ 7 ∷ 7 ∷ 7 ∷ 7 ∷ 7 ∷ 7 ∷ 7 ∷ []))
       ≡ record {
         verdict = numbered 0 16;
         output = 0 ∷ 2 ∷ 2 ∷ 1 ∷ 9 ∷ 30 ∷ 9 ∷ 7 ∷ [];
-        editor = editing (5 ∷ 9 ∷ []) (putting 30 4 ∷ two ∷ []) undone (At 2);
+        editor = editing (5 ∷ 9 ∷ []) (putting 30 4 ∷ two ∷ []) undone (Some 2);
         change = folds (putting 20 3 ∷ putting 1 2 ∷ []) two;
       }
   pub folds-all :
@@ -100,11 +99,11 @@ squeezed =
 -- alike, so nothing else pins it
 pub record Marked : Type 0 where
   pub none : folded_mark 10 7 None ≡ None
-  pub before : folded_mark 10 7 (At 0) ≡ At 0
-  pub inside : folded_mark 10 7 (At 5) ≡ None
-  pub at_last : folded_mark 10 7 (At 9) ≡ None
-  pub at-end : folded_mark 10 7 (At 10) ≡ At 7
-  pub later : folded_mark 10 7 (At 15) ≡ At 12
+  pub before : folded_mark 10 7 (Some 0) ≡ Some 0
+  pub inside : folded_mark 10 7 (Some 5) ≡ None
+  pub at_last : folded_mark 10 7 (Some 9) ≡ None
+  pub at-end : folded_mark 10 7 (Some 10) ≡ Some 7
+  pub later : folded_mark 10 7 (Some 15) ≡ Some 12
 
 pub marked : Marked
 marked = record { none = refl; before = refl; inside = refl; at_last = refl; at-end = refl; later = refl }
@@ -120,9 +119,9 @@ kept standing saved =
 -- "an accepted one puts that one step into the ledger for the folded ones. A saved mark, the ledger's too"
 pub record Heard : Type 0 where
   pub folds-two :
-      accepted_call counted (kept (puts 2 ∷ puts 3 ∷ puts 4 ∷ []) (At 3)) (squeeze 2 [])
-      ≡ kept (record { place = 0; count = 2; added = 3 ∷ 9 ∷ [] } ∷ puts 4 ∷ []) (At 2)
-  pub drops-mark : (accepted_call counted (kept (puts 2 ∷ puts 3 ∷ []) (At 1)) (squeeze 2 [])).saved ≡ None
+      accepted_call counted (kept (puts 2 ∷ puts 3 ∷ puts 4 ∷ []) (Some 3)) (squeeze 2 [])
+      ≡ kept (record { place = 0; count = 2; added = 3 ∷ 9 ∷ [] } ∷ puts 4 ∷ []) (Some 2)
+  pub drops-mark : (accepted_call counted (kept (puts 2 ∷ puts 3 ∷ []) (Some 1)) (squeeze 2 [])).saved ≡ None
 
 pub heard : Heard
 unfolding text_after accepted_call

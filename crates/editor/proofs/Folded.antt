@@ -11,7 +11,7 @@ use borrow.Author.Tests.{le-leb}
 use Rattle.answer.proofs.Below.{both, cond-case}
 use Rattle.editor.specs.Marks.{folded_mark}
 use Rattle.editor.specs.Ledger.{Step, weight_of}
-use Rattle.editor.specs.Records.{Entry, step_of, text_before, length_after, reached, lengths_fit, mark_fits}
+use Rattle.editor.specs.Records.{Entry, step_of, text_before, length_after, reached, lengths_fit}
 use Rattle.editor.specs.Editor.{Editor, Space, Turn, with_text, oldest, later, folded_to, words_in, squeeze_to}
 use Rattle.editor.specs.Editor.{squeeze_oldest}
 use Rattle.editor.proofs.Steps.{and-true}

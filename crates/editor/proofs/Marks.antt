@@ -8,9 +8,8 @@ use native.Mathlib.Nat.{add-zero, zero-add}
 use lib.Dec.{leb, ltb, eqb}
 use borrow.Author.Tests.{le-leb, leb-true, ltb-false, eqb-true, ne_eqb}
 use Rattle.answer.proofs.Below.{cond-case}
-use Rattle.editor.specs.declared.Mark.{Mark}
-use Rattle.editor.specs.declared.Mark.TheVariants.{None, At}
-use Rattle.editor.specs.Marks.{replaced_mark, folded_mark}
+use Rattle.std.specs.Prelude.{None, Some}
+use Rattle.editor.specs.Marks.{Mark, replaced_mark, folded_mark}
 use Rattle.editor.specs.Ledger.{Step, weight_of}
 use Rattle.editor.specs.Records.{ends_at, mark_fits}
 
@@ -91,7 +90,7 @@ module _ (weigh : Step → ℕ) where
       (within_first (reverse back) rest new n (omega (arith, weight-reverse back [])))
 
   -- a save marks what is done, and a replace drops a mark beyond it
-  pub saved-fits : (back rest : List Step) → mark_fits weigh (At (weight (reverse back))) (reverse_aux back rest) ≡ true
+  pub saved-fits : (back rest : List Step) → mark_fits weigh (Some (weight (reverse back))) (reverse_aux back rest) ≡ true
   saved-fits back rest =
       let n : weight (reverse back) ≡ weight back = omega (arith, weight-reverse back []) in
       rw n (ends-here back rest)
@@ -100,7 +99,7 @@ module _ (weigh : Step → ℕ) where
       (back rest new : List Step) (m : Mark) → mark_fits weigh m (reverse_aux back rest) ≡ true →
       mark_fits weigh (replaced_mark (weight (reverse back)) m) (reverse_aux back new) ≡ true
   replaced-fits back rest new None h = refl
-  replaced-fits back rest new (At n) h =
+  replaced-fits back rest new (Some n) h =
       let w : weight (reverse back) ≡ weight back = omega (arith, weight-reverse back []) in
       cond-case (λ (m : Mark). mark_fits weigh m (reverse_aux back new) ≡ true) (ltb (weight (reverse back)) n)
       (λ _. refl)
@@ -113,7 +112,7 @@ module _ (weigh : Step → ℕ) where
       (old rest : List Step) (x : Step) (m : Mark) → mark_fits weigh m (reverse_aux old rest) ≡ true →
       mark_fits weigh (folded_mark (weight old) (weigh x) m) (x ∷ rest) ≡ true
   folded_fits old rest x None h = refl
-  folded_fits old rest x (At n) h =
+  folded_fits old rest x (Some n) h =
       let Fitting : Mark → Type 0 = λ m. mark_fits weigh m (x ∷ rest) ≡ true in
       cond-case Fitting (eqb n 0) (λ _. ends-zero (x ∷ rest))
       (λ _. cond-case Fitting (ltb n (weight old)) (λ _. refl)

@@ -3,24 +3,22 @@ use Prim.Native.Nat.{ℕ, ◌≤◌, ◌<◌}
 use mathlib.Core.Path.{◌≡◌, refl, sym, ap, ◌∙◌, subst, subst₂}
 use mathlib.Core.Bool.{Bool, true, false, cond, ◌||◌, false≢true}
 use mathlib.Core.List.{List, [], ◌∷◌, ◌++◌, reverse_aux, reverse, map, cons≢nil}
-use mathlib.Core.Option.{some}
 use mathlib.Core.Logic.{◌↔◌}
 use native.Mathlib.Omega.{arith}
 use lib.ListN.{length, replicate, length-reverse}
 use lib.Dec.{eqb}
 use borrow.Author.Tests.{le-ltb}
 use Rattle.answer.specs.Answer.{Verdict, limit, numbered, too_long}
+use Rattle.std.specs.Prelude.{Some}
 use Rattle.answer.specs.Output as output
 use Rattle.answer.proofs.Below.{cond-case}
-use Rattle.editor.specs.declared.Mark.{Mark}
-use Rattle.editor.specs.declared.Mark.TheVariants.{At}
-use Rattle.editor.specs.Marks.{replaced_mark}
-use Rattle.editor.specs.Ledger.{Step, Ledger, Call, undo, redo, save, squeeze, fed, weight_of, done_by}
+use Rattle.editor.specs.Marks.{Mark}
+use Rattle.editor.specs.Ledger.{Step, Ledger, Call, undo, redo, save, squeeze, fed, weight_of}
 use Rattle.editor.specs.Ledger.{unchanged_by}
-use Rattle.editor.specs.Records.{Entry, step_of, mark_fits}
+use Rattle.editor.specs.Records.{Entry, step_of}
 use Rattle.editor.specs.Editor.{Editor, Turn, with_text, with_mark, saved_as, turn_of, overlong, output_of, undo_last}
 use Rattle.editor.specs.Editor.{Space, redo_next, save_standing, words_in, squeeze_oldest}
-use Rattle.editor.specs.Layout.{Outcome, refusing, taken, Reply, Layout, laid, call_on, outcome_of}
+use Rattle.editor.specs.Layout.{Outcome, refusing, taken, Layout, laid, call_on, outcome_of}
 use Rattle.editor.specs.Layout.{reply_of, after, heard}
 use Rattle.editor.specs.Demand.{bytes_for, saved_bytes, undone-by, Promised}
 use Rattle.editor.proofs.Steps.{text-standing}
@@ -34,7 +32,7 @@ use Rattle.editor.proofs.Calls.{accepts, undo-some, redo-some, save-fills, held-
 -- an editor lies in a state of a layout: it is found there, and what a call makes of it lies in what the call leaves
 pub record Lays {S : Type 0} (layout : Layout S) (Lies : ℕ → S → Editor → Type 0) : Type 0 where
   pub short : {n : ℕ} {s : S} {e : Editor} → Lies n s e → layout.long s ≡ false
-  pub sees : {n : ℕ} {s : S} {e : Editor} → Lies n s e → layout.editor_in s ≡ some e
+  pub sees : {n : ℕ} {s : S} {e : Editor} → Lies n s e → layout.editor_in s ≡ Some e
   pub shows : {n : ℕ} {s : S} {e : Editor} → Lies n s e → layout.text_in s ≡ e.text
   pub done :
       {n : ℕ} {s : S} {e : Editor} → Lies n s e →
@@ -218,7 +216,7 @@ module _ {S : Type 0} {layout : Layout S} {Lies : ℕ → S → Editor → Type 
         (s : S) (e : Editor) (out bytes : List ℕ) {r : output.Outcome} → Fills out bytes r →
         taken (laid layout s (saved_as (layout.space_in s) e r)) ≡ true →
         laid layout s (saved_as (layout.space_in s) e r)
-        ≡ saved_bytes (layout.marked s (At (layout.space_in s).done)) out bytes
+        ≡ saved_bytes (layout.marked s (Some (layout.space_in s).done)) out bytes
     fills-give s e out bytes (leaves v n) t = absurd (false≢true (sym n ∙ rw n at t))
     fills-give s e out bytes fills t = refl
 
@@ -226,11 +224,11 @@ module _ {S : Type 0} {layout : Layout S} {Lies : ℕ → S → Editor → Type 
         {s : S} (back undone : List Step) → LiesAt o s back undone → Good o weigh (reverse_aux back undone) →
         (lent out : List ℕ) → taken (outcome_of layout s (save lent out)) ≡ true →
         outcome_of layout s (save lent out)
-        ≡ saved_bytes (layout.marked s (At (weight_of weigh (reverse back)))) out
+        ≡ saved_bytes (layout.marked s (Some (weight_of weigh (reverse back)))) out
         (bytes_for (ledger_of o back undone) (reverse back) lent)
     saves-here {s} back undone lies good lent out =
         let bytes : List ℕ = bytes_for (ledger_of o back undone) (reverse back) lent in
-        let marked : S = layout.marked s (At (layout.space_in s).done) in
+        let marked : S = layout.marked s (Some (layout.space_in s).done) in
         let t = save-fills o (layout.space_in s) back undone lent out in
         rw (outcome-is lies (save lent out), ← done-counted o back undone lies good)
         (cond-case (λ (r : Outcome S). taken r ≡ true → r ≡ saved_bytes marked out bytes) (overlong (save lent out))
@@ -243,7 +241,7 @@ module _ {S : Type 0} {layout : Layout S} {Lies : ℕ → S → Editor → Type 
     saves-arrived :
         (s : S) (undone : List Step) → LiesAt o s [] undone → Good o weigh undone → (out : List ℕ) →
         length arrived ≤ length out →
-        outcome_of layout s (save arrived out) ≡ saved_bytes (layout.marked s (At 0)) out arrived
+        outcome_of layout s (save arrived out) ≡ saved_bytes (layout.marked s (Some 0)) out arrived
     unfolding save_standing output.deliver
     saves-arrived s undone lies good out fits =
         rw (
@@ -292,12 +290,12 @@ module _ {S : Type 0} {layout : Layout S} {Lies : ℕ → S → Editor → Type 
         (n : ℕ) → (outcome_of layout (undone-by layout n s) undo).verdict ≡ numbered 13 0 → (out : List ℕ) →
         length arrived ≤ length out →
         outcome_of layout (undone-by layout n s) (save arrived out)
-        ≡ saved_bytes (layout.marked (undone-by layout n s) (At 0)) out arrived
+        ≡ saved_bytes (layout.marked (undone-by layout n s) (Some 0)) out arrived
     gives_back n =
         at-bottom
         (λ s _.
         (out : List ℕ) → length arrived ≤ length out →
-        outcome_of layout s (save arrived out) ≡ saved_bytes (layout.marked s (At 0)) out arrived)
+        outcome_of layout s (save arrived out) ≡ saved_bytes (layout.marked s (Some 0)) out arrived)
         saves-arrived (kept-calls k (replicate n undo))
 
   module _ {arrived : List ℕ} {s : S} (o : Frame arrived) (back undone : List Step) where

@@ -1,14 +1,13 @@
 -- A squeeze turns the editor that a ledger determines into the one that the ledger then determines. Assumes nothing.
-use Prim.Native.Nat.{ℕ, ◌+◌, ◌-◌, ◌≤◌}
+use Prim.Native.Nat.{ℕ, ◌-◌, ◌≤◌}
 use mathlib.Core.Path.{◌≡◌, refl, sym, ap, ◌∙◌, subst, subst₂}
 use mathlib.Core.List.{List, [], ◌∷◌, ◌++◌, map, reverse_aux, reverse, reverse_aux-eq, reverse_aux-append, append-nil}
 use native.Mathlib.Nat.{zero-add}
 use native.Mathlib.Omega.{arith}
 use lib.ListN.{length, take, drop, length-append, length-drop, length-reverse, take-append-drop}
 use lib.Seq.{take_at, drop_at, take-length, drop-length}
-use Rattle.editor.specs.declared.Mark.{Mark}
-use Rattle.editor.specs.Marks.{folded_mark}
-use Rattle.editor.specs.Ledger.{Step, Ledger, squeeze, accepted_call, weight_of, folded}
+use Rattle.editor.specs.Marks.{Mark, folded_mark}
+use Rattle.editor.specs.Ledger.{Step, squeeze, accepted_call, weight_of}
 use Rattle.editor.specs.Records.{Entry, step_of, text_before}
 use Rattle.editor.specs.Editor.{Editor, Space, oldest, later, folded_to, folding}
 use Rattle.editor.proofs.Steps.{stepped, record_of, records_of, records_back, text_back, Fits, fits-first, fits-rest}

@@ -1,10 +1,9 @@
 -- Demand 3, for any layout: what holds of a state and of the ledger that heard the calls that led to it.
-use Rattle.std.specs.Prelude.{ℕ, ◌≤◌, ◌≡◌, ◌↔◌, true, false, List, [], ◌∷◌, map, reverse, length, replicate}
-use Rattle.std.proofs.Math.Option.{Option, some}
+use Rattle.std.specs.Prelude.{ℕ, ◌≤◌, ◌≡◌, ◌↔◌, true, false, List, [], ◌∷◌, map, reverse, length, replicate, Some}
+use Rattle.std.specs.Prelude.{Option}
 use Rattle.answer.specs.Answer.{numbered}
 use Rattle.answer.specs.Output.{filled}
 use Rattle.codec.specs.Kinds.{writing_in}
-use Rattle.editor.specs.declared.Mark.TheVariants.{At}
 use Rattle.editor.specs.Ledger.{Step, Ledger, Call, undo, redo, save, text_of, done_by, unchanged_by}
 use Rattle.editor.specs.Records.{step_of}
 use Rattle.editor.specs.Editor.{Editor, output_of}
@@ -13,7 +12,7 @@ use Rattle.editor.specs.Layout.{Outcome, taken, Layout, outcome_of, reply_of, af
 -- "the records are proved to agree with it, step for step, in place, count removed and cells added"; the state is sound
 pub record Agrees (found : Option Editor) (l : Ledger) : Type 0 where
   pub editor : Editor
-  pub sound : found ≡ some editor
+  pub sound : found ≡ Some editor
   pub kind : editor.kind ≡ l.kind
   pub standing : map step_of (reverse editor.standing) ≡ l.standing
   pub undone : map step_of editor.undone ≡ l.undone
@@ -47,7 +46,7 @@ module _ {S : Type 0} (layout : Layout S) where
     pub saves :
         (lent out : List ℕ) → taken (outcome_of layout s (save lent out)) ≡ true →
         outcome_of layout s (save lent out)
-        ≡ saved_bytes (layout.marked s (At (done_by layout.weigh l))) out (bytes_for l l.standing lent)
+        ≡ saved_bytes (layout.marked s (Some (done_by layout.weigh l))) out (bytes_for l l.standing lent)
     -- "unchanged" exactly when the ledger's mark equals its words done
     pub asks : reply_of layout s ≡ record { verdict = numbered 0 0; unchanged = unchanged_by layout.weigh l }
     -- undo until it refuses brings the reading back, cell for cell, and save then gives the arrived bytes
@@ -59,7 +58,7 @@ module _ {S : Type 0} (layout : Layout S) where
         (n : ℕ) → (outcome_of layout (undone-by n s) undo).verdict ≡ numbered 13 0 → (out : List ℕ) →
         length arrived ≤ length out →
         outcome_of layout (undone-by n s) (save arrived out)
-        ≡ saved_bytes (layout.marked (undone-by n s) (At 0)) out arrived
+        ≡ saved_bytes (layout.marked (undone-by n s) (Some 0)) out arrived
 
 -- the state and the output are these still
 pub record Unchanged {S : Type 0} (s : S) (out : List ℕ) (o : Outcome S) : Type 0 where

@@ -1,12 +1,11 @@
 -- One text being edited: what the calls see of it and leave of it, whatever words its history is laid out in.
 use Rattle.std.specs.Prelude.{ℕ, ◌+◌, ◌-◌, Bool, false, cond, ◌||◌, List, [], ◌∷◌, ◌++◌, map, length, take, drop, ltb, leb, eqb}
+use Rattle.std.specs.Prelude.{Some}
 use Rattle.answer.specs.Answer.{Verdict, numbered, limit}
 use Rattle.answer.specs.Output as output
 use Rattle.codec.specs.declared.Kind.{Kind}
 use Rattle.codec.specs.Kinds.{first_unwritable, reads_as, write_in}
-use Rattle.editor.specs.declared.Mark.{Mark}
-use Rattle.editor.specs.declared.Mark.TheVariants.{At}
-use Rattle.editor.specs.Marks.{replaced_mark, folded_mark}
+use Rattle.editor.specs.Marks.{Mark, replaced_mark, folded_mark}
 use Rattle.editor.specs.Ledger.{Step, Call, replace, undo, redo, save, squeeze, weight_of}
 use Rattle.editor.specs.Records.{Entry, step_of, applied, turned, entry_at, text_before}
 
@@ -95,7 +94,7 @@ replace_at space e place count cells =
 -- "an accepted save sets it to the words done"; it changes nothing else but the output
 abbrev pub saving : Space → Editor → List ℕ → Verdict → Turn
 saving space e out verdict =
-    record { verdict = verdict; output = out; editor = with_mark e (At space.done); change = marks }
+    record { verdict = verdict; output = out; editor = with_mark e (Some space.done); change = marks }
 
 abbrev pub saved_as : Space → Editor → output.Outcome → Turn
 saved_as space e o =

@@ -1,9 +1,7 @@
 -- A layout of an editor in some state, such as a page with the buffers lent beside it; and a list of calls on a state.
-use Rattle.std.specs.Prelude.{ℕ, Bool, false, cond, ◌||◌, List, [], ◌∷◌, eqb}
-use Rattle.std.proofs.Math.Option.{Option, none, some}
+use Rattle.std.specs.Prelude.{ℕ, Bool, false, cond, ◌||◌, List, [], ◌∷◌, eqb, Option, None, Some}
 use Rattle.answer.specs.Answer.{Verdict, numbered, too_long}
-use Rattle.editor.specs.declared.Mark.{Mark}
-use Rattle.editor.specs.Marks.{unchanged_at}
+use Rattle.editor.specs.Marks.{Mark, unchanged_at}
 use Rattle.editor.specs.Ledger.{Step, Ledger, Call, fed}
 use Rattle.editor.specs.Records.{Entry}
 use Rattle.editor.specs.Editor.{Editor, Space, Change, stays, marks, moves, records, folds, Turn}
@@ -59,8 +57,8 @@ module _ {S : Type 0} (layout : Layout S) where
   laid s t = record { verdict = t.verdict; state = changed s t.editor t.change; output = t.output }
 
   unfoldable pub call_on : S → Call → Option Editor → Outcome S
-  call_on s c none = refusing s (output_of c) (numbered 14 0)
-  call_on s c (some e) = laid s (turn_of layout.weigh (layout.space_in s) e c)
+  call_on s c None = refusing s (output_of c) (numbered 14 0)
+  call_on s c (Some e) = laid s (turn_of layout.weigh (layout.space_in s) e c)
 
   -- 16, 14, then what the editor makes of the call
   unfoldable pub outcome_of : S → Call → Outcome S
@@ -69,8 +67,8 @@ module _ {S : Type 0} (layout : Layout S) where
 
   -- the question: 16, 14, "else place 0", and whether the mark is at what is done; refused, it is not
   abbrev pub ask_on : S → Option Editor → Reply
-  ask_on s none = record { verdict = numbered 14 0; unchanged = false }
-  ask_on s (some e) = record { verdict = numbered 0 0; unchanged = unchanged_at (layout.space_in s).done e.saved }
+  ask_on s None = record { verdict = numbered 14 0; unchanged = false }
+  ask_on s (Some e) = record { verdict = numbered 0 0; unchanged = unchanged_at (layout.space_in s).done e.saved }
 
   unfoldable pub reply_of : S → Reply
   reply_of s = cond (layout.long s) (record { verdict = too_long; unchanged = false }) (ask_on s (layout.editor_in s))

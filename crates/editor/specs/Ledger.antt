@@ -1,11 +1,9 @@
 -- Document 01, "The page": the ledger, with document 02's saved mark. It takes nothing from the page, the text buffer
 -- or the history.
-use Rattle.std.specs.Prelude.{ℕ, ◌+◌, Bool, cond, List, [], ◌∷◌, ◌++◌, length, take, drop}
+use Rattle.std.specs.Prelude.{ℕ, ◌+◌, Bool, cond, List, [], ◌∷◌, ◌++◌, length, take, drop, Some}
 use Rattle.codec.specs.declared.Kind.{Kind}
 use Rattle.codec.specs.Kinds.{reading_in}
-use Rattle.editor.specs.declared.Mark.{Mark}
-use Rattle.editor.specs.declared.Mark.TheVariants.{At}
-use Rattle.editor.specs.Marks.{replaced_mark, folded_mark, unchanged_at}
+use Rattle.editor.specs.Marks.{Mark, replaced_mark, folded_mark, unchanged_at}
 
 -- "A step is a place, a count removed and the cells added."
 pub record Step : Type 0 where
@@ -24,7 +22,7 @@ pub record Ledger : Type 0 where
 -- "An accepted open sets it to 0"
 abbrev pub opened : Kind → List ℕ → Ledger
 opened kind arrived =
-    record { kind = kind; reading = (reading_in kind arrived).cells; standing = []; undone = []; saved = At 0 }
+    record { kind = kind; reading = (reading_in kind arrived).cells; standing = []; undone = []; saved = Some 0 }
 
 -- the calls, with their arguments: place, count and cells; arrived bytes and output; how many steps and the work buffer
 pub data Call : Type 0 where
@@ -87,7 +85,7 @@ module _ (weigh : Step → ℕ) where
       (replaced_mark (done_by l) l.saved)
   accepted_call l undo = with_steps l (before_last l.standing) (last_of l.standing ++ l.undone) l.saved
   accepted_call l redo = with_steps l (l.standing ++ take 1 l.undone) (drop 1 l.undone) l.saved
-  accepted_call l (save arrived out) = with_steps l l.standing l.undone (At (done_by l))
+  accepted_call l (save arrived out) = with_steps l l.standing l.undone (Some (done_by l))
   accepted_call l (squeeze k work) = folded l (take k l.standing) (drop k l.standing)
 
   -- "each call with its arguments and whether it was accepted"; "every refused call change[s] nothing"

@@ -1,7 +1,7 @@
 -- Document 01, "The page": the record of a step, and the texts and lengths that records lead through.
 use Rattle.std.specs.Prelude.{ℕ, ◌+◌, ◌-◌, Bool, true, ◌&&◌, ◌||◌, List, [], ◌∷◌, ◌++◌, length, take, drop, leb, eqb}
-use Rattle.editor.specs.declared.Mark.{Mark}
-use Rattle.editor.specs.declared.Mark.TheVariants.{None, At}
+use Rattle.std.specs.Prelude.{None, Some}
+use Rattle.editor.specs.Marks.{Mark}
 use Rattle.editor.specs.Ledger.{Step}
 
 -- "A step's record is: place, count removed, count added, the removed cells, the added cells."
@@ -53,4 +53,4 @@ ends_at weigh (s ∷ rest) n = eqb n 0 || (leb (weigh s) n && ends_at weigh rest
 -- 14 "when the mark is not none and is neither 0 nor the end of a record", standing or undone
 abbrev pub mark_fits : (Step → ℕ) → Mark → List Step → Bool
 mark_fits weigh None steps = true
-mark_fits weigh (At n) steps = ends_at weigh steps n
+mark_fits weigh (Some n) steps = ends_at weigh steps n

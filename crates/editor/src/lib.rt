@@ -1,10 +1,2 @@
-// One text being edited, below every layout of its history: a type, definitions and proofs, no code.
-
-// The saved mark: what was done "at the last accepted save, or none".
+// One text being edited, below every layout of its history: definitions and proofs, no code.
 #![tactic(auto)]
-
-#[derive(Clone, Copy)]
-pub enum Mark {
-    None,
-    At(usize),
-}

@@ -4,16 +4,15 @@ use Prim.Native.Nat.{ℕ, ◌+◌, ◌≤◌, ◌<◌}
 use mathlib.Core.Path.{◌≡◌, refl, sym, ap, ◌∙◌}
 use mathlib.Core.Bool.{Bool, true, false, cond, ◌||◌, false≢true}
 use mathlib.Core.List.{List, [], ◌∷◌, ◌++◌, map}
-use mathlib.Core.Option.{Option, none, some}
 use native.Mathlib.Omega.{arith}
 use lib.ListN.{length, length-append, length-map}
 use lib.Dec.{ltb, eqb}
 use borrow.Author.Tests.{ltb-false, ne_eqb}
 use Rattle.answer.specs.Answer.{Verdict, limit}
+use Rattle.std.specs.Prelude.{None, Some, Option}
 use Rattle.answer.proofs.Below.{cond-case}
 use Rattle.codec.specs.declared.Kind.{Kind}
-use Rattle.editor.specs.declared.Mark.{Mark}
-use Rattle.editor.specs.declared.Mark.TheVariants.{None, At}
+use Rattle.editor.specs.Marks.{Mark}
 use Rattle.editor.specs.Ledger.{Ledger, opened, weight_of}
 use Rattle.editor.specs.Records.{Entry, step_of, mark_fits}
 use Rattle.editor.specs.Editor.{Editor, output_of}
@@ -60,7 +59,7 @@ mark-there :
     mark_in (mark_number m) ≡ m
 unfolding mark_in mark_number limit
 mark-there None es h few = refl
-mark-there (At n) es h few =
+mark-there (Some n) es h few =
     rw (ne_eqb n never
     (λ (e : n ≡ never).
     let far : weight_of in_steps (map step_of es) < n =
@@ -157,19 +156,19 @@ module _ (start : State) (marks : (orders : List Order) → Own (after start ord
 
 -- the mark of a bench is that of the editor seen there
 saved_in : Option Editor → Mark
-saved_in none = None
-saved_in (some e) = e.saved
+saved_in None = None
+saved_in (Some e) = e.saved
 
 present : Option Editor → Bool
-present none = false
-present (some e) = true
+present None = false
+present (Some e) = true
 
 seen-mark :
-    (t : State) (s : Side) (rs : Option (List Record)) (e : Editor) → editor_for t s rs ≡ some e →
+    (t : State) (s : Side) (rs : Option (List Record)) (e : Editor) → editor_for t s rs ≡ Some e →
     (at t.benches s).saved ≡ e.saved
 unfolding present saved_in
-seen-mark t s none e h = absurd (false≢true (ap present h))
-seen-mark t s (some rs) e h = ap saved_in h
+seen-mark t s None e h = absurd (false≢true (ap present h))
+seen-mark t s (Some rs) e h = ap saved_in h
 
 mark-at : (t : State) (marks : Own t) (s : Side) → mark_in (bench_at (host_state t) s).saved ≡ (at t.benches s).saved
 mark-at t marks first = marks first

@@ -9,7 +9,7 @@ use Rattle.answer.specs.Answer.{in_numbers}
 use Rattle.answer.specs.Output as output
 use Rattle.answer.specs.declared.Answer.{Answer}
 use Rattle.answer.proofs.Below.{all_below, below, cond-case}
-use Rattle.editor.specs.declared.Mark.{Mark}
+use Rattle.editor.specs.Marks.{Mark}
 use Rattle.ledger.specs.Page.{State, state_of, Outcome, keeps, replies}
 use Rattle.ledger.specs.Calls.{unchanged_of}
 use Rattle.ledger.specs.declared.Asked.{Asked}

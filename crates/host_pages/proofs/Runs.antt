@@ -8,11 +8,11 @@ use native.Mathlib.Omega.{arith}
 use lib.Dec.{ltb, leb}
 use borrow.Author.Tests.{leb-true, ltb-false, ne_eqb}
 use Rattle.answer.specs.Answer.{Verdict, limit}
+use Rattle.std.specs.Prelude.{None, Some}
 use Rattle.answer.proofs.Below.{cond-case}
 use Rattle.codec.specs.declared.Kind.{Kind}
 use Rattle.codec.specs.declared.Kind.TheVariants.{Utf7Header, Utf7Body, Jp2}
-use Rattle.editor.specs.declared.Mark.{Mark}
-use Rattle.editor.specs.declared.Mark.TheVariants.{None, At}
+use Rattle.editor.specs.Marks.{Mark}
 use Rattle.editor.specs.Editor.{Editor, output_of}
 use Rattle.editor.specs.Records.{step_of, mark_fits}
 use Rattle.editor.proofs.Ends.{entries}
@@ -55,7 +55,7 @@ kind-few Jp2 = refl
 mark-there : (m : Mark) (used : ℕ) → mark_within used m ≡ true → used ≤ limit → mark_in (mark_number m) ≡ m
 unfolding mark_in mark_number limit
 mark-there None used h few = refl
-mark-there (At n) used h few =
+mark-there (Some n) used h few =
     rw (ne_eqb n never (λ (e : n ≡ never). omega (arith, leb-true n used h)))
 
 and_first : (a b : Bool) → (a && b) ≡ true → a ≡ true

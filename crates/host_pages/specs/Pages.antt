@@ -1,12 +1,11 @@
 -- The page as it crosses to C: its kind is a number, 0 UTF-7 header, 1 UTF-7 body, 2 JP-2; its saved mark is a number
 -- of words, and the greatest size is none.
-use Rattle.std.specs.Prelude.{ℕ, cond, ◌||◌, List, [], ltb, eqb}
+use Rattle.std.specs.Prelude.{ℕ, cond, ◌||◌, List, [], ltb, eqb, None, Some}
 use Rattle.answer.specs.Answer.{Verdict, numbered, too_long}
 use Rattle.answer.specs.Output as output
 use Rattle.codec.specs.declared.Kind.{Kind}
 use Rattle.codec.specs.declared.Kind.TheVariants.{Utf7Header, Utf7Body, Jp2}
-use Rattle.editor.specs.declared.Mark.{Mark}
-use Rattle.editor.specs.declared.Mark.TheVariants.{None, At}
+use Rattle.editor.specs.Marks.{Mark}
 use Rattle.ledger.specs.Page.{State, state_of, Outcome}
 use Rattle.ledger.specs.Calls.{over, Reply, unchanged_of}
 use Rattle.ledger.specs.declared.Page.{Page}
@@ -29,11 +28,11 @@ abbrev pub never : ℕ
 never = 18446744073709551615
 
 unfoldable pub mark_in : ℕ → Mark
-mark_in n = cond (eqb n never) None (At n)
+mark_in n = cond (eqb n never) None (Some n)
 
 unfoldable pub mark_number : Mark → ℕ
 mark_number None = never
-mark_number (At n) = n
+mark_number (Some n) = n
 
 abbrev pub page_in : HostPage → Page
 page_in p =

@@ -12,7 +12,6 @@ ghost use Rattle.host_pages.specs.Pages.{hosted, on_page, finds, finds_output, i
 
 use answer::{Answer, Refusal};
 use codec::Kind;
-use editor::Mark;
 use host_numbers::{Numbers, in_numbers};
 use ledger::{Asked, Edited, Page};
 
@@ -69,21 +68,21 @@ pub fn kind_number(kind: Kind) -> u32
     }
 }
 
-pub fn mark_in(number: usize) -> Mark
+pub fn mark_in(number: usize) -> Option<usize>
     ensures { result ≡ mark_in number }
 {
     if number == NEVER {
-        return Mark::None;
+        return None;
     }
-    Mark::At(number)
+    Some(number)
 }
 
-pub fn mark_number(mark: Mark) -> usize
+pub fn mark_number(mark: Option<usize>) -> usize
     ensures { result ≡ mark_number mark }
 {
     match mark {
-        Mark::None => NEVER,
-        Mark::At(n) => n,
+        None => NEVER,
+        Some(n) => n,
     }
 }
 

@@ -8,6 +8,7 @@ use native.Mathlib.Omega.{arith}
 use lib.ListN.{replicate}
 use borrow.Author.Tests.{le-ltb}
 use Rattle.answer.specs.Answer.{numbered, limit}
+use Rattle.std.specs.Prelude.{None, Some}
 use Rattle.answer.specs.Output as output
 use Rattle.reading.specs.Reading.{fault}
 use Rattle.codec.specs.declared.Kind.TheVariants.{Utf7Body}
@@ -15,8 +16,7 @@ use Rattle.codec.specs.Kinds.{first_unwritable}
 use Rattle.codec.proofs.ByKind.{write-form}
 use Rattle.codec.proofs.Worked.{letter, cells_read, cells_edited, written, letter-reads, letter-reads-as, sign-writable}
 use Rattle.codec.proofs.Worked.{edited-writable, edited-writes}
-use Rattle.editor.specs.declared.Mark.{Mark}
-use Rattle.editor.specs.declared.Mark.TheVariants.{None, At}
+use Rattle.editor.specs.Marks.{Mark}
 use Rattle.editor.specs.Records.{reached, lengths_fit, ends_at}
 use Rattle.editor.specs.Editor.{undo_last, redo_next, replace_fitting, replace_at, save_standing}
 use Rattle.editor.specs.Layout as editor
@@ -30,7 +30,7 @@ marked saved used done text history =
     state_of (record { kind = Utf7Body; opening = 4; length = 4; used = used; done = done; saved = saved }) text history
 
 abbrev pub page : ℕ → ℕ → List ℕ → List ℕ → State
-page used done text history = marked (At 0) used done text history
+page used done text history = marked (Some 0) used done text history
 
 abbrev pub accepts : ℕ → State → List ℕ → Outcome
 accepts count s out = record { verdict = numbered 0 count; state = s; output = out }
@@ -52,7 +52,7 @@ abbrev pub on_replace : State
 on_replace = page 5 5 (cells_edited ++ 0 ∷ []) step
 
 abbrev pub on_save : State
-on_save = marked (At 5) 5 5 (cells_edited ++ 0 ∷ []) step
+on_save = marked (Some 5) 5 5 (cells_edited ++ 0 ∷ []) step
 
 abbrev pub on_undo : State
 on_undo = page 5 0 (cells_read ++ 0 ∷ []) step
@@ -98,14 +98,14 @@ pub record Damaged : Type 0 where
       (undo_of (page 5 5 (cells_edited ++ 0 ∷ 0 ∷ 0 ∷ []) (1 ∷ 0 ∷ 2 ∷ 0x3D ∷ 0x3D ∷ []))).verdict ≡ numbered 14 0
   pub opening-beyond :
       (undo_of
-      (state_of (record { kind = Utf7Body; opening = 6; length = 4; used = 5; done = 5; saved = At 0 }) (cells_read ++ 0 ∷ [])
+      (state_of (record { kind = Utf7Body; opening = 6; length = 4; used = 5; done = 5; saved = Some 0 }) (cells_read ++ 0 ∷ [])
       (0 ∷ 2 ∷ 0 ∷ 0x41 ∷ 0x41 ∷ []))
       ).verdict
       ≡ numbered 14 0
   -- a mark "neither 0 nor the end of a record"
-  pub mark-in-record : (undo_of (marked (At 3) 5 5 (cells_edited ++ 0 ∷ []) step)).verdict ≡ numbered 14 0
-  pub mark-in-undone : (redo_of (marked (At 3) 5 0 (cells_read ++ 0 ∷ []) step)).verdict ≡ numbered 14 0
-  pub mark-beyond : (undo_of (marked (At 6) 5 5 (cells_edited ++ 0 ∷ []) step)).verdict ≡ numbered 14 0
+  pub mark-in-record : (undo_of (marked (Some 3) 5 5 (cells_edited ++ 0 ∷ []) step)).verdict ≡ numbered 14 0
+  pub mark-in-undone : (redo_of (marked (Some 3) 5 0 (cells_read ++ 0 ∷ []) step)).verdict ≡ numbered 14 0
+  pub mark-beyond : (undo_of (marked (Some 6) 5 5 (cells_edited ++ 0 ∷ []) step)).verdict ≡ numbered 14 0
 
 pub damaged : Damaged
 unfolding limit records_in reached lengths_fit ends_at part_at zeros framed reached_at_done fitting records
@@ -154,7 +154,7 @@ recorded =
 
 -- order 5: a mark at the end of an undone record is sound; undo and redo leave it, and a replace made then drops it
 abbrev pub undone_saved : State
-undone_saved = marked (At 5) 5 0 (cells_read ++ 0 ∷ []) step
+undone_saved = marked (Some 5) 5 0 (cells_read ++ 0 ∷ []) step
 
 pub record Marked : Type 0 where
   pub undo-leaves : undo_of on_save ≡ accepts 4 undone_saved []
@@ -162,8 +162,8 @@ pub record Marked : Type 0 where
   pub dropped :
       replace_of undone_saved 1 1 (0x3D ∷ []) ≡ accepts 4 (marked None 5 5 (cells_edited ++ 0 ∷ []) step) []
   pub kept :
-      replace_of (marked (At 5) 5 5 cells_edited (step ++ replicate 3 0)) 1 0 []
-      ≡ accepts 4 (marked (At 5) 8 8 cells_edited (step ++ 1 ∷ 0 ∷ 0 ∷ [])) []
+      replace_of (marked (Some 5) 5 5 cells_edited (step ++ replicate 3 0)) 1 0 []
+      ≡ accepts 4 (marked (Some 5) 8 8 cells_edited (step ++ 1 ∷ 0 ∷ 0 ∷ [])) []
   -- a refused save sets no mark
   pub save-refused : save_of on_replace letter [] ≡ record { verdict = numbered 9 8; state = on_replace; output = [] }
   -- the question

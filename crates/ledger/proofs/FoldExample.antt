@@ -4,9 +4,9 @@ use Prim.Native.Nat.{ℕ}
 use mathlib.Core.Path.{◌≡◌, refl}
 use mathlib.Core.List.{List, [], ◌∷◌, ◌++◌}
 use Rattle.answer.specs.Answer.{numbered, limit}
+use Rattle.std.specs.Prelude.{None, Some}
 use Rattle.codec.specs.declared.Kind.TheVariants.{Utf7Body}
-use Rattle.editor.specs.declared.Mark.{Mark}
-use Rattle.editor.specs.declared.Mark.TheVariants.{None, At}
+use Rattle.editor.specs.Marks.{Mark}
 use Rattle.editor.specs.Records.{reached, lengths_fit, ends_at, text_before}
 use Rattle.editor.specs.Editor.{squeeze_to, squeeze_oldest}
 use Rattle.editor.specs.Layout as editor
@@ -38,12 +38,12 @@ squeezed_to saved = page 16 12 saved 0 (two ++ (putting 30 4 ++ (1 ∷ 1 ∷ 0 �
 
 pub record Folded : Type 0 where
   pub folds :
-      squeeze_of (odd (At 19) 0) 2 (two ++ 7 ∷ [])
-      ≡ record { verdict = numbered 0 16; state = squeezed_to (At 16); output = two ++ 7 ∷ [] }
+      squeeze_of (odd (Some 19) 0) 2 (two ++ 7 ∷ [])
+      ≡ record { verdict = numbered 0 16; state = squeezed_to (Some 16); output = two ++ 7 ∷ [] }
   -- "strictly inside the fold becomes none; one at its end or later moves along"; at 0 it stays
-  pub mark-at-end : (squeeze_of (odd (At 10) 0) 2 two).state ≡ squeezed_to (At 7)
-  pub mark-inside : (squeeze_of (odd (At 5) 0) 2 two).state ≡ squeezed_to None
-  pub mark-at-0 : (squeeze_of (odd (At 0) 0) 2 two).state ≡ squeezed_to (At 0)
+  pub mark-at-end : (squeeze_of (odd (Some 10) 0) 2 two).state ≡ squeezed_to (Some 7)
+  pub mark-inside : (squeeze_of (odd (Some 5) 0) 2 two).state ≡ squeezed_to None
+  pub mark-at-0 : (squeeze_of (odd (Some 0) 0) 2 two).state ≡ squeezed_to (Some 0)
   -- a work buffer too short by one word: 9, and nothing is changed
   pub short-9 :
       squeeze_of (odd None 0) 2 (7 ∷ 7 ∷ 7 ∷ 7 ∷ 7 ∷ 7 ∷ [])

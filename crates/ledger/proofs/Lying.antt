@@ -3,24 +3,22 @@
 use Prim.Native.Nat.{ℕ, ◌+◌, ◌-◌, ◌≤◌, ◌<◌}
 use mathlib.Core.Path.{◌≡◌, refl, sym, ap, ◌∙◌, subst}
 use mathlib.Core.Bool.{true, false}
-use mathlib.Core.List.{List, [], ◌∷◌, ◌++◌, map, reverse_aux, reverse, reverse-cons, append-nil, append_assoc}
+use mathlib.Core.List.{List, [], ◌∷◌, ◌++◌, reverse_aux, reverse, reverse-cons, append-nil, append_assoc}
 use mathlib.Core.List.{reverse_aux-eq, reverse_aux-append}
-use mathlib.Core.Option.{some}
+use Rattle.std.specs.Prelude.{Some}
 use native.Mathlib.Omega.{arith}
 use lib.ListN.{length, take, drop, length-append}
 use lib.Seq.{take_at, drop_at}
 use borrow.Author.Tests.{le-leb, le-ltb}
 use Rattle.answer.specs.Answer.{limit}
-use Rattle.editor.specs.declared.Mark.{Mark}
-use Rattle.editor.specs.Ledger.{weight_of}
-use Rattle.editor.specs.Records.{step_of}
-use Rattle.editor.specs.Editor.{Editor, with_text, with_mark, words_in, over}
+use Rattle.editor.specs.Marks.{Mark}
+use Rattle.editor.specs.Editor.{Editor, with_text, words_in, over}
 use Rattle.editor.proofs.Steps.{and-true}
 use Rattle.editor.proofs.Ends.{entries}
 use Rattle.editor.proofs.Held.{Legal}
 use Rattle.editor.proofs.Promises.{Lays}
 use Rattle.ledger.specs.Words.{Entry, words_of, in_words, size_of, sizes, pad}
-use Rattle.ledger.specs.Page.{State, state_of, framed, records}
+use Rattle.ledger.specs.Page.{State, state_of, framed}
 use Rattle.ledger.specs.Layout.{folded_in, page}
 use Rattle.ledger.proofs.Words.{length-pad, take-pad, zeros-pad, words, length-words, words_append}
 use Rattle.ledger.proofs.Words.{sizes-reverse, sizes-append, length-record}
@@ -79,10 +77,10 @@ module _ (opening space : ℕ) (e : Editor) (legal : Legal in_words opening e) (
         mark = legal.marked;
       }
 
-  found_here : page.editor_in here ≡ some e
+  found_here : page.editor_in here ≡ Some e
   found_here =
       rw (sound-records here (record { standing = e.standing; undone = e.undone }) sound-here)
-      (λ i. some
+      (λ i. Some
       (record {
         kind = e.kind;
         room = length-text i;

@@ -7,8 +7,8 @@ use native.Mathlib.Omega.{arith}
 use lib.Dec.{leb, ltb}
 use borrow.Author.Tests.{le-leb, lt-leb, le-ltb, lt-ltb, ltb-true, ltb-false}
 use Rattle.answer.proofs.Below.{cond-case}
-use Rattle.editor.specs.declared.Mark.{Mark}
-use Rattle.editor.specs.declared.Mark.TheVariants.{None, At}
+use Rattle.std.specs.Prelude.{None, Some}
+use Rattle.editor.specs.Marks.{Mark}
 use Rattle.editor.specs.Ledger.{Step, weight_of}
 use Rattle.editor.specs.Records.{step_of, ends_at, mark_fits}
 use Rattle.editor.proofs.Marks.{ends-zero, ends-far, ends-beyond, within_first}
@@ -44,13 +44,13 @@ module _ (es fs : List Entry) (done used : ℕ) (d : sizes es ≡ done) (u : don
   -- a mark cuts the records before done, or those after it, or is beyond all
   module _ (n : ℕ) where
     abbrev Parts : Bool → Type 0
-    Parts b = b ≡ (leb n used && ends es (cut_in (At n) 0 done) && ends fs (cut_in (At n) done used - done))
+    Parts b = b ≡ (leb n used && ends es (cut_in (Some n) 0 done) && ends fs (cut_in (Some n) done used - done))
 
     standing-mark : n ≤ done → Parts (ends_at in_words all n)
     standing-mark h =
         let near : ends_at in_words all n ≡ ends es n =
         within_first in_words (map step_of es) (map step_of fs) [] n (omega (arith, first-weight)) ∙ rw append-nil in
-        let here : cut_in (At n) done used - done ≡ 0 =
+        let here : cut_in (Some n) done used - done ≡ 0 =
         cond-case (λ (k : ℕ). k - done ≡ 0) (ltb n done) (λ _. omega arith)
         (λ _. cond-case (λ (k : ℕ). k - done ≡ 0) (ltb used n) (λ _. omega arith) (λ _. omega arith)) in
         rw (
@@ -98,4 +98,4 @@ module _ (es fs : List Entry) (done used : ℕ) (d : sizes es ≡ done) (u : don
   mark-parts None =
       let z : done - done ≡ 0 = omega arith in
       rw (z, ends-zero in_words (map step_of es), ends-zero in_words (map step_of fs))
-  mark-parts (At n) = rw map-append (mark-at n)
+  mark-parts (Some n) = rw map-append (mark-at n)

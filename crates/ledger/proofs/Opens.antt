@@ -9,13 +9,13 @@ use lib.ListN.{length}
 use lib.Dec.{ltb}
 use borrow.Author.Tests.{ltb-false, eqb-true}
 use Rattle.answer.specs.Answer.{Verdict, limit, too_long}
+use Rattle.std.specs.Prelude.{Some}
 use Rattle.answer.proofs.Below.{cond-case}
 use Rattle.reading.specs.Reading.{Ending, accepted, fault}
 use Rattle.reading.proofs.Laws.{SoundEnd}
 use Rattle.codec.specs.declared.Kind.{Kind}
 use Rattle.codec.specs.Kinds.{reading_in, reads_as}
 use Rattle.codec.proofs.ByKind.{fault-numbered, reads-itself}
-use Rattle.editor.specs.declared.Mark.TheVariants.{At}
 use Rattle.editor.specs.Ledger.{Step, opened}
 use Rattle.editor.specs.Layout.{refusing, taken}
 use Rattle.editor.specs.Demand.{Unchanged}
@@ -73,7 +73,7 @@ module _ (kind : Kind) (arrived text history : List ℕ) where
 
   -- the editor that it leaves is the one of the ledger at first, whatever its steps will count for
   abbrev pub frame_at : Frame arrived
-  frame_at = record { kind = kind; reading = (reading_in kind arrived).cells; room = length text; mark = At 0 }
+  frame_at = record { kind = kind; reading = (reading_in kind arrived).cells; room = length text; mark = Some 0 }
 
   pub held-opened :
       {r : Outcome} → Opened r → (weigh : Step → ℕ) → Held weigh arrived (editor_of frame_at [] []) (opened kind arrived)

@@ -2,17 +2,15 @@
 use Prim.Native.Nat.{ℕ, ◌+◌, ◌-◌, ◌≤◌}
 use mathlib.Core.Path.{◌≡◌, refl, sym, ap, ◌∙◌}
 use mathlib.Core.Bool.{Bool, true, ◌&&◌}
-use mathlib.Core.List.{List, [], ◌++◌, map, reverse_aux, reverse, reverse_aux-eq, reverse-reverse}
-use mathlib.Core.Option.{Option, none, some}
+use mathlib.Core.List.{List, [], ◌++◌, reverse_aux, reverse, reverse_aux-eq, reverse-reverse}
+use Rattle.std.specs.Prelude.{Option, None, Some}
 use native.Mathlib.Omega.{arith}
 use lib.ListN.{length, take, drop, length-append, length-take}
 use lib.Seq.{take_at, drop_at, take-add, length-take-le}
 use lib.Dec.{leb, eqb}
 use borrow.Author.Tests.{le-leb, leb-true, eq-eqb, eqb-true}
 use Rattle.answer.proofs.Below.{both, cond-case}
-use Rattle.editor.specs.declared.Mark.{Mark}
-use Rattle.editor.specs.Records.{step_of, mark_fits}
-use Rattle.ledger.specs.Words.{Entry, Parted, in_words, sizes, records_in, lengths_fit, reached, zeros}
+use Rattle.ledger.specs.Words.{Entry, Parted, sizes, records_in, lengths_fit, reached, zeros}
 use Rattle.ledger.specs.Page.{State, framed, records}
 use Rattle.ledger.specs.Parts.{joined, mark_within, cut_in, ends, ending_at, bounded, standing_in, undone_in, records_twice}
 use Rattle.ledger.proofs.Words.{Whole, words, length-words, words_append, sizes-reverse, records-words, exact, lengths-append}
@@ -21,10 +19,10 @@ use Rattle.ledger.proofs.Sound.{Sound, sound-records, records-sound}
 
 -- two options that hold exactly what has a property are one
 pub same-options :
-    {A : Type 0} (P : A → Type 0) (x y : Option A) → Whole P x → Whole P y → ((v : A) → P v → x ≡ some v) → ((v : A) → P v → y ≡ some v) → x ≡ y
-same-options P none none p q f g = refl
-same-options P none (some v) p q f g = f v q
-same-options P (some v) y p q f g = sym (g v p)
+    {A : Type 0} (P : A → Type 0) (x y : Option A) → Whole P x → Whole P y → ((v : A) → P v → x ≡ Some v) → ((v : A) → P v → y ≡ Some v) → x ≡ y
+same-options P None None p q f g = refl
+same-options P None (Some v) p q f g = f v q
+same-options P (Some v) y p q f g = sym (g v p)
 
 -- a list cut in two ways at one length
 cut : (p q r t : List ℕ) → p ++ q ≡ r ++ t → length p ≡ length r → (p ≡ r) × (q ≡ t)
@@ -75,7 +73,7 @@ module _ (s : State) where
       (third (leb s.page.opening (length s.text)) (leb s.page.length (length s.text)) (leb used (length s.history))
       (zeros (drop s.page.length s.text)) (zeros (drop used s.history)) f)
 
-  sound-twice : (v : Parted) → Sound s v → records_twice s ≡ some v
+  sound-twice : (v : Parted) → Sound s v → records_twice s ≡ Some v
   unfolding records_twice joined
   sound-twice v h =
       let es : List Entry = reverse v.standing in
@@ -116,17 +114,17 @@ module _ (s : State) where
   Ending ws n es = (words es ≡ ws) × (ends es n ≡ true)
 
   ending : (ws : List ℕ) (n : ℕ) (x : Option (List Entry)) → Whole (λ es. words es ≡ ws) x → Whole (Ending ws n) (ending_at n x)
-  ending ws n none p = tt
-  ending ws n (some es) p = cond-case (Whole (Ending ws n)) (ends es n) (λ t. (p, t)) (λ _. tt)
+  ending ws n None p = tt
+  ending ws n (Some es) p = cond-case (Whole (Ending ws n)) (ends es n) (λ t. (p, t)) (λ _. tt)
 
   module _ (f : framed s ≡ true) (d : done ≤ used) (m : mark_within used s.page.saved ≡ true) where
     joined-sound :
         (x y : Option (List Entry)) → Whole (Ending front cut₁) x → Whole (Ending rest cut₂) y →
         Whole (Sound s) (joined s x y)
     unfolding joined
-    joined-sound none y p q = tt
-    joined-sound (some es) none p q = tt
-    joined-sound (some es) (some fs) p q =
+    joined-sound None y p q = tt
+    joined-sound (Some es) None p q = tt
+    joined-sound (Some es) (Some fs) p q =
         let all : reverse_aux (reverse es) fs ≡ es ++ fs = reverse_aux-eq (reverse es) fs ∙ rw reverse-reverse in
         let tiles : words (es ++ fs) ≡ take used s.history = words_append es fs ∙ rw (p.0, q.0) (sym (used-words d)) in
         let first : length front ≡ done = length-take-le done s.history (omega (arith, used-fits f)) in

@@ -3,7 +3,7 @@ use Prim.Native.Nat.{◌≤◌}
 use mathlib.Core.Path.{◌≡◌, ◌∙◌}
 use mathlib.Core.Bool.{Bool, true, ◌&&◌}
 use mathlib.Core.List.{List, [], map, reverse_aux, reverse}
-use mathlib.Core.Option.{Option, none, some}
+use Rattle.std.specs.Prelude.{Option, None, Some}
 use native.Mathlib.Nat.{add-zero}
 use native.Mathlib.Omega.{arith}
 use lib.ListN.{length, take, drop, length-take}
@@ -51,12 +51,12 @@ pub record Sound (s : State) (v : Parted) : Type 0 where
   pub mark : mark_fits in_words s.page.saved (map step_of (reverse_aux v.standing v.undone)) ≡ true
 
 module _ (s : State) where
-  pub sound-records : (v : Parted) → Sound s v → records s ≡ some v
+  pub sound-records : (v : Parted) → Sound s v → records s ≡ Some v
   unfolding records fitting reached_at_done
   sound-records v h =
       let all : List Entry = reverse_aux v.standing v.undone in
       let few : length (words all) ≤ s.page.used = rw h.tiles (simp length-take (omega arith)) in
-      let parted : part_at all s.page.done [] ≡ some v =
+      let parted : part_at all s.page.done [] ≡ Some v =
       rw (← h.end, ← add-zero (sizes v.standing)) (parted-at v.standing v.undone 0 ∙ parted-here v.standing v.undone) in
       rw (
         h.frame,
@@ -72,8 +72,8 @@ module _ (s : State) where
     module _ (es : List Entry) (w : words es ≡ take s.page.used s.history) (l : lengths_fit (length s.text) s.page.opening es ≡ true) (m : mark_fits in_words s.page.saved (map step_of es) ≡ true) where
       reached-sound : (x : Option Parted) → Whole (PartedAs es s.page.done) x → Whole (Sound s) (reached_at_done s.page x)
       unfolding reached_at_done
-      reached-sound none p = tt
-      reached-sound (some v) p =
+      reached-sound None p = tt
+      reached-sound (Some v) p =
           cond-case (Whole (Sound s)) (eqb (reached s.page.opening (reverse v.standing)) s.page.length)
           (λ t.
           record { frame = f; tiles = rw p.0 w; end = p.1; fits = rw p.0 l; reach = eqb-true _ _ t; mark = rw p.0 m })
@@ -81,8 +81,8 @@ module _ (s : State) where
 
     fitting-sound : (x : Option (List Entry)) → Whole (λ es. words es ≡ take s.page.used s.history) x → Whole (Sound s) (fitting s x)
     unfolding fitting
-    fitting-sound none w = tt
-    fitting-sound (some es) w =
+    fitting-sound None w = tt
+    fitting-sound (Some es) w =
         let fits : Bool = lengths_fit (length s.text) s.page.opening es in
         let marked : Bool = mark_fits in_words s.page.saved (map step_of es) in
         cond-case (Whole (Sound s)) (fits && marked)

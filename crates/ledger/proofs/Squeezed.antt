@@ -3,7 +3,7 @@ use Prim.Native.Nat.{ℕ, ◌-◌, ◌≤◌}
 use mathlib.Core.Path.{◌≡◌, refl, sym, ap, ◌∙◌}
 use mathlib.Core.Bool.{true, false, ◌||◌, false≢true}
 use mathlib.Core.List.{List, ◌++◌}
-use mathlib.Core.Option.{Option, none, some}
+use Rattle.std.specs.Prelude.{Option, None, Some}
 use native.Mathlib.Omega.{arith}
 use lib.ListN.{length, take, drop, replicate, length-drop, take-append-drop}
 use lib.Seq.{length-take-le}
@@ -91,15 +91,15 @@ module _ (s : State) where
   Left k work x = found x ≡ true → sound (squeeze_of s k work).state ≡ true
 
   -- an editor is found exactly where records are
-  editor-found : (s : State) (e : Editor) (x : Option Parted) → editor_for s x ≡ some e → found x ≡ true
-  editor-found s e none p = let z : ◌≡◌ {A = ℕ} 0 1 = cc in absurd (omega arith)
-  editor-found s e (some v) p = refl
+  editor-found : (s : State) (e : Editor) (x : Option Parted) → editor_for s x ≡ Some e → found x ≡ true
+  editor-found s e None p = let z : ◌≡◌ {A = ℕ} 0 1 = cc in absurd (omega arith)
+  editor-found s e (Some v) p = refl
 
   found_left :
       (k : ℕ) (work : List ℕ) → (over s.text || over s.history) ≡ false → (x : Option Parted) →
       Whole (Sound s) x → Left k work x
-  found_left k work short none w f = absurd (false≢true f)
-  found_left k work short (some v) w f =
+  found_left k work short None w f = absurd (false≢true f)
+  found_left k work short (Some v) w f =
       editor-found (squeeze_of s k work).state _ (records (squeeze_of s k work).state)
       (page-lays.sees (squeezed-lies page-lays (sound-lies v w short) (sound-legal v w) k work))
 

@@ -1,11 +1,10 @@
 -- Document 01, "The page" and "Numbers given back": the five calls, and everything they leave; and order 5's question
 -- and order 8's squeeze. Replace, undo, redo, save and squeeze are the editor's calls, laid out in the page.
-use Rattle.std.specs.Prelude.{ℕ, cond, ◌||◌, List, [], length, replicate, ltb}
+use Rattle.std.specs.Prelude.{ℕ, cond, ◌||◌, List, [], length, replicate, ltb, None, Some}
 use Rattle.answer.specs.Answer.{numbered, too_long}
 use Rattle.reading.specs.Reading.{Ending, accepted, fault}
 use Rattle.codec.specs.declared.Kind.{Kind}
 use Rattle.codec.specs.Kinds.{reading_in}
-use Rattle.editor.specs.declared.Mark.TheVariants.{None, At}
 use Rattle.editor.specs.Ledger.{Call, replace, undo, redo, save, squeeze}
 use Rattle.editor.specs.Layout as editor
 use Rattle.ledger.specs.Words.{pad}
@@ -53,7 +52,7 @@ opened_on kind cells text history =
       verdict = numbered 0 (length cells);
       state =
           state_of
-          (record { kind = kind; opening = length cells; length = length cells; used = 0; done = 0; saved = At 0 })
+          (record { kind = kind; opening = length cells; length = length cells; used = 0; done = 0; saved = Some 0 })
           (pad (length text) cells) (replicate (length history) 0);
       output = [];
     }

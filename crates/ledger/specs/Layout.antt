@@ -1,7 +1,6 @@
 -- Document 01, "The page": a page with its buffers as a layout of one text being edited.
-use Rattle.std.specs.Prelude.{ℕ, ◌+◌, ◌-◌, ◌||◌, List, ◌++◌, length, take, drop}
-use Rattle.std.proofs.Math.Option.{Option, none, some}
-use Rattle.editor.specs.declared.Mark.{Mark}
+use Rattle.std.specs.Prelude.{ℕ, ◌+◌, ◌-◌, ◌||◌, List, ◌++◌, length, take, drop, Option, None, Some}
+use Rattle.editor.specs.Marks.{Mark}
 use Rattle.editor.specs.Editor.{Editor, Space, over}
 use Rattle.editor.specs.Layout.{Layout}
 use Rattle.ledger.specs.Words.{Entry, Parted, words_of, in_words, size_of, sizes, pad}
@@ -21,8 +20,8 @@ editor_of s v =
     }
 
 abbrev pub editor_for : State → Option Parted → Option Editor
-editor_for s none = none
-editor_for s (some v) = some (editor_of s v)
+editor_for s None = None
+editor_for s (Some v) = Some (editor_of s v)
 
 -- "12 is given exactly when done + 3 + removed + added exceeds the history's length"
 abbrev pub space_in : State → Space

@@ -1,6 +1,6 @@
 -- Document 01, "The page": a page with the buffers lent beside it, and when it is sound.
 use Rattle.std.specs.Prelude.{ℕ, Bool, true, false, cond, ◌&&◌, List, [], map, reverse, length, take, drop, leb, eqb}
-use Rattle.std.proofs.Math.Option.{Option, none, some}
+use Rattle.std.specs.Prelude.{Option, None, Some}
 use Rattle.answer.specs.Answer.{in_numbers}
 use Rattle.editor.specs.Records.{step_of, mark_fits}
 use Rattle.editor.specs.Layout as editor
@@ -32,25 +32,25 @@ framed s =
 
 -- "the length reached at done is the page's"
 unfoldable pub reached_at_done : Page → Option Parted → Option Parted
-reached_at_done page none = none
-reached_at_done page (some v) = cond (eqb (reached page.opening (reverse v.standing)) page.length) (some v) none
+reached_at_done page None = None
+reached_at_done page (Some v) = cond (eqb (reached page.opening (reverse v.standing)) page.length) (Some v) None
 
 -- "14 also when the mark is not none and is neither 0 nor the end of a record", of the undone ones too
 unfoldable pub fitting : State → Option (List Entry) → Option Parted
-fitting s none = none
-fitting s (some es) =
+fitting s None = None
+fitting s (Some es) =
     cond (lengths_fit (length s.text) s.page.opening es && mark_fits in_words s.page.saved (map step_of es))
     (reached_at_done s.page (part_at es s.page.done []))
-    none
+    None
 
 -- the records of a sound page, parted at done; none where the page is not sound
 unfoldable pub records : State → Option Parted
-records s = cond (framed s) (fitting s (records_in s.page.used (take s.page.used s.history))) none
+records s = cond (framed s) (fitting s (records_in s.page.used (take s.page.used s.history))) None
 
 -- "A page is sound"
 abbrev pub found : Option Parted → Bool
-found none = false
-found (some v) = true
+found None = false
+found (Some v) = true
 
 abbrev pub sound : State → Bool
 sound s = found (records s)

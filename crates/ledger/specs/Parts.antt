@@ -1,42 +1,42 @@
 -- Soundness in two parts, the records before done and those after it, and a mark that may cut either: what the code
 -- computes. proofs/Parts.antt: it is the documents'.
 use Rattle.std.specs.Prelude.{ℕ, ◌-◌, Bool, true, cond, ◌&&◌, List, map, reverse, length, take, drop, leb, ltb, eqb}
-use Rattle.std.proofs.Math.Option.{Option, none, some}
-use Rattle.editor.specs.declared.Mark.{Mark}
-use Rattle.editor.specs.declared.Mark.TheVariants.{None, At}
+use Rattle.std.specs.Prelude.{None, Some}
+use Rattle.std.specs.Prelude.{Option}
+use Rattle.editor.specs.Marks.{Mark}
 use Rattle.editor.specs.Records.{step_of, ends_at}
 use Rattle.ledger.specs.Words.{Entry, Parted, in_words, records_in, reached, lengths_fit}
 use Rattle.ledger.specs.Page.{State, framed}
 
 -- both tile their words: the first fit from the opening length and reach the page's, the second fit from there
 unfoldable pub joined : State → Option (List Entry) → Option (List Entry) → Option Parted
-joined s none fs = none
-joined s (some es) none = none
-joined s (some es) (some fs) =
+joined s None fs = None
+joined s (Some es) None = None
+joined s (Some es) (Some fs) =
     cond
     (lengths_fit (length s.text) s.page.opening es
     && eqb (reached s.page.opening es) s.page.length
     && lengths_fit (length s.text) s.page.length fs)
-    (some (record { standing = reverse es; undone = fs }))
-    none
+    (Some (record { standing = reverse es; undone = fs }))
+    None
 
 -- the mark is of the words used
 abbrev pub mark_within : ℕ → Mark → Bool
 mark_within used None = true
-mark_within used (At n) = leb n used
+mark_within used (Some n) = leb n used
 
 -- the word at which a mark cuts those from one to another: its own if it is among them, else the first, which cuts none
 abbrev pub cut_in : Mark → ℕ → ℕ → ℕ
 cut_in None from to = from
-cut_in (At n) from to = cond (ltb n from) from (cond (ltb to n) from n)
+cut_in (Some n) from to = cond (ltb n from) from (cond (ltb to n) from n)
 
 -- records of which so many words are an end
 abbrev pub ends : List Entry → ℕ → Bool
 ends es n = ends_at in_words (map step_of es) n
 
 abbrev pub ending_at : ℕ → Option (List Entry) → Option (List Entry)
-ending_at n none = none
-ending_at n (some es) = cond (ends es n) (some es) none
+ending_at n None = None
+ending_at n (Some es) = cond (ends es n) (Some es) None
 
 -- the tests before the records are looked at
 abbrev pub bounded : State → Bool
@@ -52,4 +52,4 @@ undone_in s =
     (records_in (s.page.used - s.page.done) (take (s.page.used - s.page.done) (drop s.page.done s.history)))
 
 unfoldable pub records_twice : State → Option Parted
-records_twice s = cond (bounded s) (joined s (standing_in s) (undone_in s)) none
+records_twice s = cond (bounded s) (joined s (standing_in s) (undone_in s)) None

@@ -3,7 +3,6 @@
 
 use answer::Answer;
 use codec::Kind;
-use editor::Mark;
 
 // "A page has a kind (UTF-7 header, UTF-7 body, JP-2), an opening length, a length, words used and words done." And "a saved mark: the words done at the last accepted save, or none".
 #[derive(Clone, Copy)]
@@ -13,7 +12,7 @@ pub struct Page {
     pub length: usize,
     pub used: usize,
     pub done: usize,
-    pub saved: Mark,
+    pub saved: Option<usize>,
 }
 
 // What open, replace, undo, redo and save give back.

@@ -5,7 +5,7 @@ use mathlib.Core.Bool.{false}
 use Rattle.answer.specs.Answer.{numbered, in_numbers}
 use Rattle.answer.specs.declared.Answer.{Answer}
 use Rattle.editor.specs.Marks.{unchanged_at}
-use Rattle.editor.specs.Layout.{Reply, ask_on, reply_of}
+use Rattle.editor.specs.Layout.{ask_on, reply_of}
 use Rattle.ledger.specs.Page.{State}
 use Rattle.ledger.specs.Calls.{unchanged_of}
 use Rattle.ledger.specs.Layout.{editor_for, page}

@@ -9,6 +9,7 @@ use lib.Seq.{take-append_seam}
 use lib.Dec.{ltb}
 use borrow.Author.Tests.{ltb-false}
 use Rattle.answer.specs.Answer.{Verdict, numbered, in_numbers, too_long}
+use Rattle.std.specs.Prelude.{Some}
 use Rattle.answer.specs.declared.Answer.{Answer}
 use Rattle.answer.specs.declared.Answer.TheVariants.{Accepted, Refused}
 use Rattle.answer.specs.declared.Refusal.{Refusal}
@@ -20,7 +21,6 @@ use Rattle.codec.specs.declared.Kind.{Kind}
 use Rattle.codec.specs.declared.Format.{Format}
 use Rattle.codec.specs.Kinds.{format_of, reading_in, read_in}
 use Rattle.codec.proofs.ByKind.{read-form, fault-numbered}
-use Rattle.editor.specs.declared.Mark.TheVariants.{At}
 use Rattle.ledger.specs.Words.{pad}
 use Rattle.ledger.specs.Page.{state_of, Outcome}
 use Rattle.ledger.specs.Calls.{refusing, over, no_page, opened_on, open_read, open_of}
@@ -35,7 +35,7 @@ module _ (kind : Kind) (arrived text history : List ℕ) where
   opening count x =
       record {
         verdict = numbered 0 count;
-        state = state_of (fresh_page kind count (At 0)) (pad (length x) (take count x)) (replicate (length history) 0);
+        state = state_of (fresh_page kind count (Some 0)) (pad (length x) (take count x)) (replicate (length history) 0);
         output = [];
       }
 

@@ -14,8 +14,7 @@ use Rattle.codec.specs.Kinds.{first_unwritable}
 use Rattle.ledger.specs.Words.{Entry, Parted, size_of, words_of, pad}
 use Rattle.ledger.specs.Page.{State, text_in, leaves}
 use Rattle.ledger.specs.Calls.{refusing, over, applied, entry_at, replace_of}
-use Rattle.editor.specs.declared.Mark.{Mark}
-use Rattle.editor.specs.Marks.{replaced_mark}
+use Rattle.editor.specs.Marks.{Mark, replaced_mark}
 use Rattle.editor.specs.Ledger.{replace}
 use Rattle.editor.specs.Editor as editor
 use Rattle.editor.specs.Layout.{laid, call_on, outcome_of}

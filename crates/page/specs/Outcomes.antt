@@ -1,13 +1,12 @@
 -- What an accepted edit gives back, what replace and save come to on a sound page, and a page just opened.
-use Rattle.std.specs.Prelude.{ℕ, cond, List, [], length, eqb}
+use Rattle.std.specs.Prelude.{ℕ, cond, List, [], length, eqb, Some}
 use Rattle.answer.specs.Answer.{numbered}
 use Rattle.answer.specs.Output.{Outcome, refusing, deliver}
 use Rattle.answer.specs.declared.Answer.{Answer}
 use Rattle.answer.specs.declared.Answer.TheVariants.{Accepted, Refused}
 use Rattle.codec.specs.declared.Kind.{Kind}
 use Rattle.codec.specs.Kinds.{reads_as, write_in}
-use Rattle.editor.specs.declared.Mark.{Mark}
-use Rattle.editor.specs.declared.Mark.TheVariants.{At}
+use Rattle.editor.specs.Marks.{Mark}
 use Rattle.editor.specs.Records.{Entry}
 use Rattle.editor.specs.Editor as editor
 use Rattle.editor.specs.Layout.{laid}
@@ -55,5 +54,5 @@ saved_in page cells arrived out =
 
 -- the page that a save with this answer gives back
 abbrev pub saved_page : Page → Answer → Page
-saved_page page (Accepted n) = marked_as page (At page.done)
+saved_page page (Accepted n) = marked_as page (Some page.done)
 saved_page page (Refused why place) = page

@@ -3,14 +3,13 @@
 
 mod output;
 
-ghost use Rattle.std.specs.Prelude.{◌≡◌, ◌+◌, ◌-◌, ◌≤◌, ◌<◌, ◌^◌, [], ◌++◌, length, take, replicate};
+ghost use Rattle.std.specs.Prelude.{◌≡◌, ◌+◌, ◌-◌, ◌≤◌, ◌<◌, ◌^◌, [], ◌++◌, length, take, replicate, Some};
 ghost use Rattle.answer.specs.Answer.{limit, numbered};
 ghost use Rattle.answer.specs.declared.Answer.TheVariants.{Accepted};
 ghost use Rattle.answer.specs.Output as output;
 ghost use Rattle.records.specs.declared.Judged.TheVariants.{Sound};
 ghost use Rattle.records.specs.Walking.{judge_of};
 ghost use Rattle.ledger.specs.Words.{words_of, pad};
-ghost use Rattle.editor.specs.declared.Mark.TheVariants.{At};
 ghost use Rattle.editor.specs.Marks.{replaced_mark, unchanged_at};
 ghost use Rattle.ledger.specs.Page.{state_of, leaves, keeps, replies};
 ghost use Rattle.ledger.specs.Calls.{undo_of, redo_of, entry_at, replace_of, open_of, save_of, unchanged_of};
@@ -20,7 +19,6 @@ ghost use Rattle.page.specs.Outcomes.{edited_as, replace_fitting, replace_sound,
 
 use answer::{Answer, Refusal};
 use codec::Kind;
-use editor::Mark;
 use ledger::{Asked, Edited, Page};
 use records::Judged;
 
@@ -56,25 +54,22 @@ fn accept(
     cells: &[u32],
     used: usize,
     done: usize,
-    saved: Mark,
+    saved: Option<usize>,
     text: &mut [u32],
 ) -> Edited
     requires { (place + count ≤ page.length) × Filled page.length text.old × (page.length - count + length cells.now ≤ length text.old) }
     ensures { (result ≡ edited_as page (spliced place count cells.now (take page.length text.old)) used done saved)
         × (text.new ≡ pad (length text.old) (spliced place count cells.now (take page.length text.old))) }
 {
-    let length = page.length;
-    let kind = page.kind;
-    let n = splice::splice_in(&mut *text, length, place, count, cells);
+    let length = splice::splice_in(&mut *text, page.length, place, count, cells);
     Edited {
-        answer: Answer::Accepted(n),
+        answer: Answer::Accepted(length),
         page: Page {
-            kind,
-            opening: page.opening,
-            length: n,
+            length,
             used,
             done,
             saved,
+            ..page
         },
     }
 }
@@ -111,10 +106,7 @@ fn no_change() -> Change
 pub fn change_at(history: &[u32], at: usize, forward: bool) -> Change
     ensures { result ≡ change_found forward history.now at }
 {
-    if history.len() < 3 {
-        return no_change();
-    }
-    if history.len() - 3 < at {
+    if history.len() < 3 || history.len() - 3 < at {
         return no_change();
     }
     let place = records::wide(history[at]);
@@ -154,17 +146,14 @@ fn move_over(page: Page, forward: bool, last: usize, text: &mut [u32], history: 
         return refused(page, Answer::Refused(Refusal::NothingLeft, 0));
     }
     let change = change_at(history, at, forward);
-    let from = change.from;
-    let to = change.to;
-    let saved = page.saved;
     accept(
         page,
         change.place,
         change.count,
-        &history[from..to],
+        &history[change.from..change.to],
         page.used,
         change.done,
-        saved,
+        page.saved,
         &mut *text,
     )
 }
@@ -217,16 +206,10 @@ fn put_record(
 }
 
 // The mark after a replace made while so many words were done.
-pub fn mark_left(mark: Mark, done: usize) -> Mark
+pub fn mark_left(mark: Option<usize>, done: usize) -> Option<usize>
     ensures { result ≡ replaced_mark done mark }
 {
-    let Mark::At(n) = mark else {
-        return Mark::None;
-    };
-    if done < n {
-        return Mark::None;
-    }
-    Mark::At(n)
+    mark.filter(|n| *n <= done)
 }
 
 // 9, then 12; else the step is recorded and done.
@@ -262,8 +245,7 @@ fn replace_fitting(
         &text[place..end],
         cells,
     );
-    let old = page.saved;
-    let saved = mark_left(old, done);
+    let saved = mark_left(page.saved, done);
     accept(page, place, count, cells, used, used, saved, &mut *text)
 }
 
@@ -282,14 +264,10 @@ fn replace_sound(
         ≡ replace_sound (state_of page text.old history.old) place count cells.now }
 {
     let length = page.length;
-    if length < count {
+    if length < count || length - count < place {
         return refused(page, Answer::Refused(Refusal::BeyondLength, length));
     }
-    if length - count < place {
-        return refused(page, Answer::Refused(Refusal::BeyondLength, length));
-    }
-    let kind = page.kind;
-    let first = codec::first_unwritable(kind, cells);
+    let first = codec::first_unwritable(page.kind, cells);
     if first < cells.len() {
         return refused(page, Answer::Refused(Refusal::Unwritable, first));
     }
@@ -319,7 +297,7 @@ pub fn replace(
 }
 
 // A page on which nothing was done.
-fn fresh(kind: Kind, size: usize, saved: Mark) -> Page
+fn fresh(kind: Kind, size: usize, saved: Option<usize>) -> Page
     ensures { result ≡ fresh_page kind size saved }
 {
     Page {
@@ -337,7 +315,7 @@ fn opened(kind: Kind, count: usize, text: &mut [u32], history: &mut [u32]) -> Ed
     ensures { leaves result text.new history.new
         ≡ record {
           verdict = numbered 0 count;
-          state = state_of (fresh_page kind count (At 0))
+          state = state_of (fresh_page kind count (Some 0))
               (pad (length text.old) (take count text.old)) (replicate (length history.old) 0);
           output = [];
         } }
@@ -346,7 +324,7 @@ fn opened(kind: Kind, count: usize, text: &mut [u32], history: &mut [u32]) -> Ed
     splice::clear_from(&mut *history, 0);
     Edited {
         answer: Answer::Accepted(count),
-        page: fresh(kind, count, Mark::At(0)),
+        page: fresh(kind, count, Some(0)),
     }
 }
 
@@ -355,14 +333,11 @@ pub fn open(kind: Kind, arrived: &[u8], text: &mut [u32], history: &mut [u32]) -
     ensures { leaves result text.new history.new
         ≡ open_of kind arrived.now text.old history.old }
 {
-    let none = fresh(kind, 0, Mark::None);
-    if answer::over_limit(arrived.len()) {
-        return refused(none, answer::too_long());
-    }
-    if answer::over_limit(text.len()) {
-        return refused(none, answer::too_long());
-    }
-    if answer::over_limit(history.len()) {
+    let none = fresh(kind, 0, None);
+    if answer::over_limit(arrived.len())
+        || answer::over_limit(text.len())
+        || answer::over_limit(history.len())
+    {
         return refused(none, answer::too_long());
     }
     let answer = codec::read(kind.format(), arrived, &mut *text);
@@ -376,11 +351,10 @@ pub fn open(kind: Kind, arrived: &[u8], text: &mut [u32], history: &mut [u32]) -
 fn save_text(page: Page, cells: &[u32], arrived: &[u8], out: &mut [u8]) -> Answer
     ensures { output.leaves result out.new ≡ saved_in page cells.now arrived.now out.old }
 {
-    let kind = page.kind;
     if page.done != 0 {
-        return codec::write(kind, cells, &mut *out);
+        return codec::write(page.kind, cells, &mut *out);
     }
-    if !codec::reads_as(kind.format(), arrived, cells) {
+    if !codec::reads_as(page.kind.format(), arrived, cells) {
         return Answer::Refused(Refusal::NotTheText, 0);
     }
     output::give(arrived, &mut *out)
@@ -390,20 +364,15 @@ fn save_text(page: Page, cells: &[u32], arrived: &[u8], out: &mut [u8]) -> Answe
 fn set_mark(page: Page, answer: Answer) -> Edited
     ensures { result ≡ record { answer = answer; page = saved_page page answer } }
 {
-    let Answer::Accepted(_) = answer else {
-        return refused(page, answer);
-    };
-    let kind = page.kind;
-    Edited {
-        answer,
-        page: Page {
-            kind,
-            opening: page.opening,
-            length: page.length,
-            used: page.used,
-            done: page.done,
-            saved: Mark::At(page.done),
+    match answer {
+        Answer::Accepted(_) => Edited {
+            answer,
+            page: Page {
+                saved: Some(page.done),
+                ..page
+            },
         },
+        Answer::Refused(_, _) => refused(page, answer),
     }
 }
 
@@ -433,22 +402,12 @@ pub fn save(page: Page, text: &[u32], history: &[u32], arrived: &[u8], out: &mut
 }
 
 // Whether the mark is at the words done.
-fn is_marked(mark: Mark, done: usize) -> bool
-    ensures { result ≡ unchanged_at done mark }
-{
-    let Mark::At(n) = mark else {
-        return false;
-    };
-    n == done
-}
-
 pub fn told(page: Page) -> Asked
     ensures { result ≡ record { answer = Accepted 0; unchanged = unchanged_at page.done page.saved } }
 {
-    let saved = page.saved;
     Asked {
         answer: Answer::Accepted(0),
-        unchanged: is_marked(saved, page.done),
+        unchanged: page.saved == Some(page.done),
     }
 }
 

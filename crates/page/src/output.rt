@@ -11,10 +11,6 @@ pub fn give(bytes: &[u8], out: &mut [u8]) -> Answer
     if out.len() < bytes.len() {
         return Answer::Refused(Refusal::NoRoom, bytes.len());
     }
-    let mut i = 0;
-    while i < bytes.len() {
-        out[i] = bytes[i];
-        i += 1;
-    }
-    Answer::Accepted(i)
+    out[..bytes.len()].copy_from_slice(bytes);
+    Answer::Accepted(bytes.len())
 }

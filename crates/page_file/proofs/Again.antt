@@ -4,24 +4,23 @@ use Prim.Native.Nat.{ℕ, ◌+◌, ◌-◌, ◌≤◌, ◌<◌, ◌^◌}
 use mathlib.Core.Path.{◌≡◌, refl, sym, ap, ◌∙◌, subst}
 use mathlib.Core.Bool.{Bool, true, false, ◌&&◌, ◌||◌, false≢true}
 use mathlib.Core.List.{List, [], ◌∷◌, ◌++◌, map, reverse_aux}
-use mathlib.Core.Option.{Option, none, some}
 use native.Mathlib.Omega.{arith}
 use lib.ListN.{length, take, drop, replicate, length-drop, take-append-drop}
 use lib.Seq.{length-take-le, take-append_seam}
 use lib.Dec.{ltb, leb, eqb}
 use borrow.Author.Tests.{leb-true, ltb-false, eqb-true, le-ltb}
 use Rattle.answer.specs.Answer.{numbered, limit}
+use Rattle.std.specs.Prelude.{None, Some, Option}
 use Rattle.answer.specs.Output as output
 use Rattle.answer.specs.Output.{deliver}
 use Rattle.answer.proofs.Below.{both, cond-case, each_take}
-use Rattle.editor.specs.declared.Mark.{Mark}
-use Rattle.editor.specs.declared.Mark.TheVariants.{None, At}
+use Rattle.editor.specs.Marks.{Mark}
 use Rattle.editor.specs.Ledger.{Step, weight_of}
 use Rattle.editor.specs.Records.{Entry, step_of, ends_at, mark_fits}
 use Rattle.ledger.specs.Words.{Parted, in_words, sizes, zeros, pad}
 use Rattle.ledger.specs.Page.{State, state_of, framed, records}
 use Rattle.ledger.specs.Calls.{over}
-use Rattle.ledger.proofs.Words.{Whole, words, length-words, sizes-reverse}
+use Rattle.ledger.proofs.Words.{Whole, length-words, sizes-reverse}
 use Rattle.ledger.proofs.Marks.{weight-sizes}
 use Rattle.ledger.proofs.Sound.{Sound, records-sound}
 use Rattle.editor.proofs.Steps.{or_parts}
@@ -51,7 +50,7 @@ pub mark-within :
     (m : Mark) (es : List Entry) → mark_fits in_words m (map step_of es) ≡ true → sizes es ≤ limit →
     mark_within wide m
 mark-within None es h k = tt
-mark-within (At n) es h k = omega (arith, ends-below in_words (map step_of es) n h, weight-sizes es)
+mark-within (Some n) es h k = omega (arith, ends-below in_words (map step_of es) n h, weight-sizes es)
 
 -- the parts of a page's frame
 pub record Framed (s : State) : Type 0 where
@@ -99,7 +98,7 @@ pad-again n l h z =
 -- what an accepted keeping is: the file of a sound page to which the bytes belong
 pub record Keeps (s : State) (bytes : List ℕ) (o : output.Outcome) : Type 0 where
   pub parted : Parted
-  pub found : records s ≡ some parted
+  pub found : records s ≡ Some parted
   pub same : belongs (content_of s bytes) parted.standing ≡ true
   pub written : take o.verdict.place o.out ≡ file_of (content_of s bytes)
   pub few : length bytes ≤ limit
@@ -113,8 +112,8 @@ module _ (s : State) (bytes out : List ℕ) where
   module _ (b : length bytes ≤ limit) (t : length s.text ≤ limit) (h : length s.history ≤ limit) where
     parted-finds : (x : Option Parted) → records s ≡ x → Finds (keep_parted (content_of s bytes) out x)
     unfolding keep_parted deliver
-    parted-finds none e = λ ok. absurd (false≢true ok)
-    parted-finds (some v) e =
+    parted-finds None e = λ ok. absurd (false≢true ok)
+    parted-finds (Some v) e =
         let file : List ℕ = file_of (content_of s bytes) in
         cond-case Finds (belongs (content_of s bytes) v.standing)
         (λ q. cond-case Finds (ltb (length out) (length file)) (λ _ ok. absurd (false≢true ok))
@@ -192,7 +191,7 @@ module _ (s : State) (bytes out : List ℕ) where
       again a l t h =
           let f = frame-of s sound.frame in
           let e : there ≡ s = same-page t h in
-          let found : records there ≡ some k.parted = ap records e ∙ k.found in
+          let found : records there ≡ Some k.parted = ap records e ∙ k.found in
           let cells : length (take s.page.length s.text) ≡ s.page.length =
           length-take-le s.page.length s.text f.size in
           let words : length (take s.page.used s.history) ≡ s.page.used =

@@ -5,7 +5,7 @@ use native.Mathlib.Omega.{arith}
 use mathlib.Core.Path.{◌≡◌, refl, sym, ap, ◌∙◌}
 use mathlib.Core.Bool.{Bool, true, false, ◌&&◌, ◌||◌, false≢true}
 use mathlib.Core.List.{List, [], ◌∷◌, cons≢nil}
-use mathlib.Core.Option.{Option, none, some}
+use Rattle.std.specs.Prelude.{Option, None, Some}
 use mathlib.Core.Logic.{◌↔◌}
 use lib.ListN.{length, take}
 use lib.Dec.{ltb, eqb}
@@ -114,8 +114,8 @@ deliver-leaves file out =
 
 parted-leaves : (c : Content) (out : List ℕ) (x : Option Parted) → Leaves out (keep_parted c out x)
 unfolding keep_parted
-parted-leaves c out none = λ _. refl
-parted-leaves c out (some v) =
+parted-leaves c out None = λ _. refl
+parted-leaves c out (Some v) =
     cond-case (Leaves out) (belongs c v.standing) (λ _. deliver-leaves (file_of c) out) (λ _ _. refl)
 
 pub keep-leaves : (s : State) (arrived out : List ℕ) → Leaves out (keep_of s arrived out)
@@ -133,8 +133,8 @@ module _ (arrived text history : List ℕ) where
 
   parted-stays : (c : Content) (x : Option Parted) → Stays (read_parted arrived text history c x)
   unfolding read_parted
-  parted-stays c none = stays _
-  parted-stays c (some v) =
+  parted-stays c None = stays _
+  parted-stays c (Some v) =
       cond-case Stays (belongs c v.standing) (λ _ q. absurd (false≢true (sym q))) (λ _. stays _)
 
   parsed-stays : (p : Whole Content) → Stays (read_parsed arrived text history p)
@@ -156,7 +156,7 @@ pub record Accepts (arrived text history file : List ℕ) (o : Outcome) : Type 0
   pub content : Content
   pub parsed : parse file ≡ whole content
   pub parted : Parted
-  pub sound : records (state_from arrived text history content) ≡ some parted
+  pub sound : records (state_from arrived text history content) ≡ Some parted
   pub same : belongs content parted.standing ≡ true
   pub outcome : o ≡ given arrived text history content
   pub arrived-room : length content.arrived ≤ length arrived
@@ -181,8 +181,8 @@ module _ (arrived text history file : List ℕ) where
         (x : Option Parted) → records (state_from arrived text history c) ≡ x →
         Finds (read_parted arrived text history c x)
     unfolding read_parted
-    parted-finds a t h none s = λ ok. absurd (false≢true ok)
-    parted-finds a t h (some v) s =
+    parted-finds a t h None s = λ ok. absurd (false≢true ok)
+    parted-finds a t h (Some v) s =
         cond-case Finds (belongs c v.standing)
         (λ b _.
         record {

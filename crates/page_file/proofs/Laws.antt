@@ -12,13 +12,13 @@ use lib.ListN.{length, get_or, get_or-append}
 use lib.Dec.{ltb, leb, lit<, lit≤}
 use borrow.Author.Tests.{ltb-true, ltb-false, lt-ltb, le-ltb, leb-true, leb-false}
 use Rattle.answer.specs.Answer.{limit}
+use Rattle.std.specs.Prelude.{None, Some}
 use Rattle.answer.specs.Lists.{Each}
 use Rattle.answer.specs.Bytes.{bytes}
 use Rattle.answer.proofs.Below.{all_below, below, cond-case}
 use Rattle.codec.specs.declared.Kind.{Kind}
 use Rattle.codec.specs.declared.Kind.TheVariants.{Utf7Header, Utf7Body, Jp2}
-use Rattle.editor.specs.declared.Mark.{Mark}
-use Rattle.editor.specs.declared.Mark.TheVariants.{None, At}
+use Rattle.editor.specs.Marks.{Mark}
 use Rattle.parsing.specs.Parsing.{Parser, either, literal, done, ◌>>=◌, Language, FirstFault, whole, broken}
 use Rattle.parsing.specs.Parsing.{Right}
 use Rattle.parsing.specs.Digits.{digit, digits, groups, LF}
@@ -29,7 +29,7 @@ use Rattle.page_file.specs.File.{Content, Form, form1, form2, name_of, line, mar
 use Rattle.page_file.specs.File.{mark_number, greatest, greatest_in, form_for, file_of, IsFile}
 use Rattle.page_file.specs.File as file
 use Rattle.page_file.specs.Reading.{keyed, line_of, list_of, named, kind_name, page_by, decimal, mark}
-use Rattle.page_file.specs.Reading.{least, content_lines, lines_of, parse}
+use Rattle.page_file.specs.Reading.{least, lines_of, parse}
 
 -- values that are in form, each spelled in one way
 abbrev Spelled : {A : Type 0} → (A → Type 0) → (A → List ℕ) → Language A
@@ -194,7 +194,7 @@ module _
   parses-decimal = parses-number 10 form.bound (lit< tt) (lit≤ tt) form.width enough
 
   abbrev Marks : Language Mark
-  Marks = Or (Named "none" None) (Then (Spelled Small (file.decimal form)) (λ n m w. (m ≡ At n) × (w ≡ [])))
+  Marks = Or (Named "none" None) (Then (Spelled Small (file.decimal form)) (λ n m w. (m ≡ Some n) × (w ≡ [])))
 
   of-mark : (m : Mark) (w : List ℕ) → Marks m w → Spelled (mark_within form) (mark_of form) m w
   of-mark m w (inl (e, j)) = rw e (tt, j)
@@ -202,13 +202,13 @@ module _
 
   mark-of : (m : Mark) (w : List ℕ) → Spelled (mark_within form) (mark_of form) m w → Marks m w
   mark-of None w (h, e) = inl (refl, e)
-  mark-of (At n) w (h, e) =
+  mark-of (Some n) w (h, e) =
       inr (n, file.decimal form n, [], (h, refl), (refl, refl), e ∙ sym (append-nil (file.decimal form n)))
 
   parses-mark : Parses (mark form) (Spelled (mark_within form) (mark_of form))
   parses-mark =
       parses-as
-      (parses-either (parses-named "none" None) (parses-then parses-decimal (λ n _ _. parses-done (At n)))
+      (parses-either (parses-named "none" None) (parses-then parses-decimal (λ n _ _. parses-done (Some n)))
       (λ _ _ u v x y (_, i) (n, u', v', (_, j), (_, t), z) e.
       not_none form.width n x (v' ++ y) some-digits (rw (i, z, j, append_assoc) at e)))
       of-mark mark-of
@@ -366,11 +366,11 @@ module _
 module _ (form : Form) where
   mark-small : (m : Mark) → mark_within form m → mark_number m ≤ form.bound
   mark-small None h = omega arith
-  mark-small (At n) h = h
+  mark-small (Some n) h = h
 
   small-mark : (m : Mark) → mark_number m ≤ form.bound → mark_within form m
   small-mark None h = tt
-  small-mark (At n) h = h
+  small-mark (Some n) h = h
 
   all_small : (c : Content) → InForm form c → greatest_in c ≤ form.bound
   all_small c f = omega (arith, f.opening, f.size, f.used, f.done, mark-small c.page.saved f.saved, f.few)

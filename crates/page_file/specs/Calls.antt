@@ -1,6 +1,6 @@
 -- Document 02, order 6: keeping a page and reading its file, with every refusal and everything that they leave.
 use Rattle.std.specs.Prelude.{ℕ, Bool, true, false, cond, ◌&&◌, ◌||◌, List, [], ◌∷◌, length, take, ltb, eqb}
-use Rattle.std.proofs.Math.Option.{Option, none, some}
+use Rattle.std.specs.Prelude.{Option, None, Some}
 use Rattle.answer.specs.Answer.{Verdict, numbered, too_long}
 use Rattle.answer.specs.Output as output
 use Rattle.answer.specs.Output.{deliver}
@@ -39,8 +39,8 @@ belongs c standing = counted c.page.opening (reading_in c.page.kind c.arrived) &
 
 -- keeping changes neither page nor buffers: it answers, and fills an output with the file
 unfoldable pub keep_parted : Content → List ℕ → Option Parted → output.Outcome
-keep_parted c out none = output.refusing (numbered 14 0) out
-keep_parted c out (some v) =
+keep_parted c out None = output.refusing (numbered 14 0) out
+keep_parted c out (Some v) =
     cond (belongs c v.standing) (deliver (file_of c) out) (output.refusing (numbered 15 0) out)
 
 -- "Keeping refuses with 16, 14, this same 15, then 9."
@@ -70,8 +70,8 @@ module _ (arrived text history : List ℕ) where
 
   -- "14, then 15"
   unfoldable pub read_parted : Content → Option Parted → Outcome
-  read_parted c none = unread (numbered 14 0)
-  read_parted c (some v) = cond (belongs c v.standing) (given c) (unread (numbered 15 0))
+  read_parted c None = unread (numbered 14 0)
+  read_parted c (Some v) = cond (belongs c v.standing) (given c) (unread (numbered 15 0))
 
   -- "9 for the first of arrived, text, history that lacks room"
   unfoldable pub read_fitting : Content → Outcome

@@ -1,14 +1,13 @@
 -- Cases of page files, and of keeping and reading them: document 01's worked page, the places of 18, and the order of
 -- the refusals; one table and what it states.
-use Rattle.std.specs.Prelude.{ℕ, ◌≡◌, List, [], ◌∷◌, ◌++◌, length, replicate}
+use Rattle.std.specs.Prelude.{ℕ, ◌≡◌, List, [], ◌∷◌, ◌++◌, length, replicate, None, Some}
 use Prim.Native.String.{String}
 use Rattle.answer.specs.Answer.{numbered}
 use Rattle.answer.specs.Bytes.{bytes}
 use Rattle.answer.specs.Cases.{leaving}
 use Rattle.answer.specs.Lists.{Each}
 use Rattle.codec.specs.declared.Kind.TheVariants.{Utf7Header, Utf7Body, Jp2}
-use Rattle.editor.specs.declared.Mark.{Mark}
-use Rattle.editor.specs.declared.Mark.TheVariants.{None, At}
+use Rattle.editor.specs.Marks.{Mark}
 use Rattle.ledger.specs.declared.Page.{Page}
 use Rattle.ledger.specs.Page.{State, state_of}
 use Rattle.parsing.specs.Parsing.{whole, broken, wholly}
@@ -122,7 +121,7 @@ small2 = "form=2␊kind=jp2␊opening=0000000␊length=0000000␊used=0000000␊
 
 abbrev pub files : List Case
 files =
-    spells worked (record { page = body 4 4 5 5 (At 0); arrived = letter; text = edited; history = step })
+    spells worked (record { page = body 4 4 5 5 (Some 0); arrived = letter; text = edited; history = step })
     ∷ spells undone (record { page = body 4 4 5 0 None; arrived = letter; text = cells; history = step })
     ∷ spells blank
     (record {
@@ -135,7 +134,7 @@ files =
     ∷ spells
     ("form=1␊kind=utf7h␊opening=65536␊length=00000␊used=00000␊done=00007␊saved=65536␊arrived=FF␊text=␊history=␊" ∷ [])
     (record {
-      page = record { kind = Utf7Header; opening = 65536; length = 0; used = 0; done = 7; saved = At 65536 };
+      page = record { kind = Utf7Header; opening = 65536; length = 0; used = 0; done = 7; saved = Some 65536 };
       arrived = 0xFF ∷ [];
       text = [];
       history = [];
@@ -182,7 +181,7 @@ files =
     -- some number is greater, whatever soundness says
     ∷ spells (small2 ∷ "saved=0065537␊arrived=41␊text=␊history=␊" ∷ [])
     (record {
-      page = record { kind = Jp2; opening = 0; length = 0; used = 0; done = 0; saved = At 65537 };
+      page = record { kind = Jp2; opening = 0; length = 0; used = 0; done = 0; saved = Some 65537 };
       arrived = 0x41 ∷ [];
       text = [];
       history = [];
@@ -203,13 +202,13 @@ files =
 
 -- the worked page in longer buffers; with text past its length, so not sound; another edit, of a page of three cells
 abbrev pub on_page : State
-on_page = state_of (body 4 4 5 5 (At 0)) (edited ++ 0 ∷ []) (step ++ 0 ∷ 0 ∷ [])
+on_page = state_of (body 4 4 5 5 (Some 0)) (edited ++ 0 ∷ []) (step ++ 0 ∷ 0 ∷ [])
 
 abbrev pub on_damaged : State
-on_damaged = state_of (body 3 4 0 0 (At 0)) (edited ++ 7 ∷ []) []
+on_damaged = state_of (body 3 4 0 0 (Some 0)) (edited ++ 7 ∷ []) []
 
 abbrev pub on_three : State
-on_three = state_of (body 3 4 4 4 (At 0)) edited (1 ∷ 0 ∷ 1 ∷ 0x3D ∷ [])
+on_three = state_of (body 3 4 4 4 (Some 0)) edited (1 ∷ 0 ∷ 1 ∷ 0x3D ∷ [])
 
 -- "Keeping refuses with 16, 14, this same 15, then 9."
 abbrev pub keepings : List Case
@@ -221,14 +220,14 @@ keepings =
     -- a step stands: the count only
     ∷ keeps on_three letter [] 15 0 []
     -- nothing stands: the text
-    ∷ keeps (state_of (body 4 4 0 0 (At 0)) edited []) letter [] 15 0 []
+    ∷ keeps (state_of (body 4 4 0 0 (Some 0)) edited []) letter [] 15 0 []
     ∷ keeps (state_of (body 4 4 5 0 None) cells step) letter [] 9 192 []
     ∷ []
 
 -- "16 [..], 18 [..], 9 for the first of arrived, text, history that lacks room, 14, then 15"
 abbrev pub readings : List Case
 readings =
-    gives worked 10 6 7 (body 4 4 5 5 (At 0)) (letter ++ 0 ∷ []) (edited ++ 0 ∷ 0 ∷ []) (step ++ 0 ∷ 0 ∷ [])
+    gives worked 10 6 7 (body 4 4 5 5 (Some 0)) (letter ++ 0 ∷ []) (edited ++ 0 ∷ 0 ∷ []) (step ++ 0 ∷ 0 ∷ [])
     ∷ gives undone 9 4 5 (body 4 4 5 0 None) letter cells step
     -- 18 before 9
     ∷ refuses (worked ++ "␊" ∷ []) 0 0 0 18 193

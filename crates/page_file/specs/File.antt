@@ -1,13 +1,12 @@
 -- Document 02, order 6: "a page file of key=value lines, each ended by LF, in this order: form, kind, opening, length,
 -- used, done, saved, arrived, text, history." Order 10: "Page files get form 2 with seven digits".
-use Rattle.std.specs.Prelude.{ℕ, ◌≤◌, ◌<◌, ◌^◌, max, ◌≡◌, cond, List, [], ◌∷◌, ◌++◌, length, ltb}
+use Rattle.std.specs.Prelude.{ℕ, ◌≤◌, ◌<◌, ◌^◌, max, ◌≡◌, cond, List, [], ◌∷◌, ◌++◌, length, ltb, None, Some}
 use Prim.Native.String.{String}
 use Rattle.answer.specs.Lists.{Each}
 use Rattle.answer.specs.Bytes.{bytes}
 use Rattle.codec.specs.declared.Kind.{Kind}
 use Rattle.codec.specs.declared.Kind.TheVariants.{Utf7Header, Utf7Body, Jp2}
-use Rattle.editor.specs.declared.Mark.{Mark}
-use Rattle.editor.specs.declared.Mark.TheVariants.{None, At}
+use Rattle.editor.specs.Marks.{Mark}
 use Rattle.ledger.specs.declared.Page.{Page}
 use Rattle.parsing.specs.Parsing.{Language}
 use Rattle.parsing.specs.Digits.{digits, groups, LF}
@@ -38,7 +37,7 @@ form2 = record { name = "2"; width = 7; bound = 1048576; floor = 65537 }
 -- the greatest of a page's five numbers, and of the arrived length
 abbrev pub mark_number : Mark → ℕ
 mark_number None = 0
-mark_number (At n) = n
+mark_number (Some n) = n
 
 abbrev pub greatest : Page → ℕ
 greatest page =
@@ -71,11 +70,11 @@ module _ (form : Form) where
   -- "saved the same or `none`"
   abbrev pub mark_of : Mark → List ℕ
   mark_of None = bytes "none"
-  mark_of (At n) = decimal n
+  mark_of (Some n) = decimal n
 
   abbrev pub mark_within : Mark → Type 0
   mark_within None = Unit
-  mark_within (At n) = n ≤ form.bound
+  mark_within (Some n) = n ≤ form.bound
 
   -- "Arrived bytes are pairs of capital hex digits, cells and words groups of eight, without spaces"
   unfoldable pub file_in : Content → List ℕ

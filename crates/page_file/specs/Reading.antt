@@ -1,11 +1,10 @@
 -- Document 02, orders 6 and 10: reading the lines of a page file.
-use Rattle.std.specs.Prelude.{ℕ, cond, List, leb}
+use Rattle.std.specs.Prelude.{ℕ, cond, List, leb, None, Some}
 use Prim.Native.String.{String}
 use Rattle.answer.specs.Bytes.{bytes}
 use Rattle.codec.specs.declared.Kind.{Kind}
 use Rattle.codec.specs.declared.Kind.TheVariants.{Utf7Header, Utf7Body, Jp2}
-use Rattle.editor.specs.declared.Mark.{Mark}
-use Rattle.editor.specs.declared.Mark.TheVariants.{None, At}
+use Rattle.editor.specs.Marks.{Mark}
 use Rattle.ledger.specs.declared.Page.{Page}
 use Rattle.parsing.specs.Parsing.{Parser, done, ◌>>=◌, ◌>>◌, either, literal, Whole, wholly}
 use Rattle.parsing.specs.Digits.{number, list, LF}
@@ -51,7 +50,7 @@ module _ (form : Form) where
   abbrev pub mark : Parser Mark
   mark = either (named "none" None) (do
     n ← decimal
-    done (At n))
+    done (Some n))
 
   -- the fewest arrived bytes: "18 also, at the LF ending arrived, for form 2 where form 1 was due"
   abbrev pub least : Page → ℕ

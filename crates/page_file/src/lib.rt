@@ -3,43 +3,27 @@
 #![tactic(auto)]
 
 ghost use Rattle.std.specs.Prelude.{◌≡◌, max, ltb};
-ghost use Rattle.page_file.specs.File.{mark_number, greatest};
+ghost use Rattle.page_file.specs.File.{greatest};
 
-use editor::Mark;
 use ledger::Page;
 
 pub fn greater(a: usize, b: usize) -> usize
     ensures { result ≡ max a b }
 {
-    if a < b {
-        return b;
-    }
-    a
-}
-
-fn mark_number(mark: Mark) -> usize
-    ensures { result ≡ mark_number mark }
-{
-    let Mark::At(n) = mark else {
-        return 0;
-    };
-    n
+    a.max(b)
 }
 
 // The greatest of a page's five numbers.
 pub fn greatest_of(page: Page) -> usize
     ensures { result ≡ greatest page }
 {
-    let saved = page.saved;
-    let done = greater(page.done, mark_number(saved));
-    let used = greater(page.used, done);
-    let length = greater(page.length, used);
-    greater(page.opening, length)
+    let marked = page.done.max(page.saved.unwrap_or(0));
+    page.opening.max(page.length.max(page.used.max(marked)))
 }
 
 // Whether form 2 is due, with so many bytes arrived.
 pub fn is_long(page: Page, arrived: usize) -> bool
     ensures { result ≡ ltb 65536 (max (greatest page) arrived) }
 {
-    65536 < greater(greatest_of(page), arrived)
+    65536 < greatest_of(page).max(arrived)
 }

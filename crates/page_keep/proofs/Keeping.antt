@@ -1,41 +1,34 @@
 -- A file is its first lines and its lists, and how many bytes; what keeping answers. Assumes nothing.
-use Prim.Native.Nat.{ℕ, ◌+◌, ◌*◌, ◌/◌, ◌%◌, ◌≤◌, ◌<◌}
+use Prim.Native.Nat.{ℕ, ◌+◌, ◌*◌, ◌≤◌, ◌<◌}
 use Prim.Native.String.{String}
 use mathlib.Core.Path.{◌≡◌, refl, sym, ap, ◌∙◌}
-use mathlib.Core.Bool.{Bool, true, false, cond, ◌||◌}
+use mathlib.Core.Bool.{Bool, true, false, cond}
 use mathlib.Core.List.{List, [], ◌∷◌, ◌++◌, append_assoc, append-nil}
-use mathlib.Core.Option.{Option, none, some}
 use native.Mathlib.Omega.{arith}
 use native.Mathlib.Nat.{zero-add}
-use native.Mathlib.Numerals.{add-one}
-use lib.ListN.{length, take, drop, set, length-append}
+use lib.ListN.{length, take, length-append}
 use lib.Seq.{sets, sets-eq, length-take-le}
-use lib.Dec.{lit≤}
 use borrow.Author.Tests.{lt-ltb, le-ltb}
 use Rattle.answer.specs.Answer.{numbered, in_numbers, too_long}
 use Rattle.answer.specs.declared.Answer.{Answer}
 use Rattle.answer.specs.declared.Answer.TheVariants.{Accepted, Refused}
 use Rattle.answer.specs.declared.Refusal.TheVariants.{NoRoom}
 use Rattle.answer.specs.Bytes.{bytes}
-use Rattle.answer.specs.Output.{Outcome, leaves, refusing, filled, deliver}
-use Rattle.codec.specs.declared.Kind.{Kind}
-use Rattle.editor.specs.declared.Mark.{Mark}
-use Rattle.editor.specs.declared.Mark.TheVariants.{None, At}
+use Rattle.answer.specs.Output.{leaves, refusing, filled, deliver}
 use Rattle.ledger.specs.declared.Page.{Page}
-use Rattle.ledger.specs.Words.{Parted}
-use Rattle.ledger.specs.Page.{State, text_in, records}
+use Rattle.ledger.specs.Page.{State, text_in}
 use Rattle.ledger.specs.Calls.{over}
 use Rattle.records.specs.declared.Judged.{Judged}
 use Rattle.records.specs.declared.Judged.TheVariants.{Unfit}
 use Rattle.records.specs.Walking.{judge_of}
 use Rattle.records.proofs.Found.{Fit, unfit}
-use Rattle.parsing.specs.Digits.{digit, digits, groups, LF}
-use Rattle.page_file.specs.File.{Content, Form, line, joined, name_of, mark_of, file_in, file_of}
-use Rattle.page_file.specs.Calls.{content_of, count_is, counted, belongs, keep_parted, keep_of}
+use Rattle.parsing.specs.Digits.{groups}
+use Rattle.page_file.specs.File.{Form, line, joined, name_of, mark_of, file_in, file_of}
+use Rattle.page_file.specs.Calls.{content_of, keep_parted, keep_of}
 use Rattle.page_file.specs.Inner.{belongs_by, form_if}
 use Rattle.page_file.proofs.Belonging.{belongs-by}
 use Rattle.page_file.proofs.Forms.{form-if}
-use Rattle.page_keep.specs.Inner.{is_long, decimal, front, form_line, page_lines, head_of, lists_of}
+use Rattle.page_keep.specs.Inner.{is_long, decimal, form_line, page_lines, head_of, lists_of}
 use Rattle.page_keep.specs.Inner.{content_by}
 use Rattle.page_keep.proofs.Puts.{length_digits, length-groups}
 
@@ -138,29 +131,6 @@ file-size two page cells words arrived e =
     ap length (file-is two page cells words arrived e)
     ∙ length-append (head_of two page) (lists_of arrived cells words)
     ∙ omega (arith, head-size two page, lists-size arrived cells words)
-
--- a number is its first digits and its last five
-pub front-is : (two : Bool) (n : ℕ) → decimal two n ≡ front two n ++ digits 10 5 n
-unfolding digits
-front-is true n = refl
-front-is false n = refl
-
-pub front-size : (two : Bool) (n : ℕ) → length (front two n) + 5 ≡ (form_if two).width
-front-size true n = refl
-front-size false n = refl
-
-pub width-least : (two : Bool) → 5 ≤ (form_if two).width
-width-least true = lit≤ tt
-width-least false = lit≤ tt
-
-module _ (two : Bool) (n at : ℕ) (out : List ℕ) where
-  pub no_front : two ≡ false → (at + 5 ≡ at + (form_if two).width) × (out ≡ sets out at (front two n))
-  no_front e = rw e (refl, refl)
-
-  pub two-front :
-      two ≡ true → {a b : ℕ} → a ≡ digit (n / 1000000 % 10) → b ≡ digit (n / 100000 % 10) →
-      (at + 2 + 5 ≡ at + (form_if two).width) × (set (set out at a) (at + 1) b ≡ sets out at (front two n))
-  two-front e i j = rw (e, i, j, add-one at) (omega arith, refl)
 
 -- put whole, from the front
 pub put_whole : (out file : List ℕ) → length file ≤ length out → sets out 0 file ≡ filled file out

@@ -1,17 +1,18 @@
 -- Elements put into an output one after another, digits and groups of them. Assumes nothing.
 use Prim.Native.Nat.{ℕ, zero, suc, ◌+◌, ◌-◌, ◌*◌, ◌/◌, ◌%◌, ◌^◌, ◌<◌, ◌≤◌}
 use mathlib.Core.Path.{◌≡◌, refl, sym, ap, ◌∙◌}
-use mathlib.Core.Bool.{Bool, true, false, cond}
 use mathlib.Core.List.{List, [], ◌∷◌, ◌++◌, append_assoc, append-nil}
 use native.Mathlib.Omega.{arith}
 use native.Mathlib.Numerals.{add-one}
-use native.Mathlib.Nat.{add-zero, div-one, suc-mul, zero-mul}
-use lib.ListN.{length, get_or, take, drop, set, length-append}
-use lib.Seq.{sets, sets-eq, take-suc, length-take-le}
-use lib.Dec.{ltb, leb, eqb}
+use native.Mathlib.Nat.{suc-mul, zero-mul, pow-suc}
+use Rattle.std.proofs.Math.Nat.{div-div-eq-div-mul}
+use lib.ListN.{length, get_or, take, set, length-append}
+use lib.Seq.{sets, sets-eq, paste, take-suc, take-length, length-take-le}
+use lib.Dec.{eqb}
 use borrow.Author.Tests.{eqb-true}
+use Rattle.std.proofs.lemmas.List.{set_comm}
 use Rattle.answer.proofs.Below.{all_below, below}
-use Rattle.parsing.specs.Digits.{digit, digits, groups, LF}
+use Rattle.parsing.specs.Digits.{digit, digits, groups}
 
 -- one piece, and another behind it
 pub sets-on : (out p q : List ℕ) (at to : ℕ) → to ≡ at + length p → sets (sets out at p) to q ≡ sets out at (p ++ q)
@@ -73,40 +74,28 @@ groups-next k out₀ out out' xs at i h d f =
     rw (add-one i, take-suc xs i 0 h, groups-on k (take i xs) (get_or xs i 0))
     (sets_then out₀ out out' (groups k (take i xs)) (digits 16 k (get_or xs i 0)) at (at + i * k) d n f)
 
--- the digits that straight-line code puts
-pub two :
-    (out : List ℕ) (at x : ℕ) {a b : ℕ} → a ≡ digit (x / 16 % 16) → b ≡ digit (x % 16) →
-    set (set out at a) (at + 1) b ≡ sets out at (digits 16 2 x)
-unfolding digits
-two out at x e f = rw (e, f, add-one at, div-one x)
+-- one element before those that stand
+set_before :
+    (l vs : List ℕ) (i j d : ℕ) → i < j → set (sets l j vs) i d ≡ sets (set l i d) j vs
+set_before l [] i j d h = refl
+set_before l (v ∷ vs) i j d h =
+    let ne : j ≡ i → ⊥ = omega arith in
+    set_before (set l j v) vs i (suc j) d (omega arith)
+    ∙ ap (λ (x : List ℕ). sets x (suc j) vs) (set_comm l j i v d ne)
 
-pub five :
-    (out : List ℕ) (at x : ℕ) {a b c d e : ℕ} → a ≡ digit (x / 10000 % 10) → b ≡ digit (x / 1000 % 10) → c ≡ digit
-    (x / 100 % 10) → d ≡ digit (x / 10 % 10) → e ≡ digit (x % 10) →
-    set (set (set (set (set out at a) (at + 1) b) (at + 2) c) (at + 3) d) (at + 4) e ≡ sets out at (digits 10 5 x)
-unfolding digits
-five out at x ea eb ec ed ee =
-    let n1 : at + 1 ≡ suc at = omega arith in
-    let n2 : at + 2 ≡ suc (suc at) = omega arith in
-    let n3 : at + 3 ≡ suc (suc (suc at)) = omega arith in
-    let n4 : at + 4 ≡ suc (suc (suc (suc at))) = omega arith in
-    rw (ea, eb, ec, ed, ee, n1, n2, n3, n4, div-one x)
+-- one digit more, before those that stand; and what is left of the number
+module _ (base : ℕ) (out₀ out : List ℕ) (at k n j rest : ℕ) (r : rest ≡ n / base ^ k) where
+  pub digit-turn :
+      {m : ℕ} → m ≡ j + 1 → out ≡ sets out₀ (at + m) (digits base k n) → {d : ℕ} → d ≡ digit (rest % base) →
+      set out (at + j) d ≡ sets out₀ (at + j) (digits base (k + 1) n)
+  unfolding digits
+  digit-turn {m} h e {d} f =
+      let next : at + m ≡ suc (at + j) = omega arith in
+      rw (add-one k, e, next, ← r, ← f) (set_before out₀ (digits base k n) (at + j) (suc (at + j)) d (omega arith))
 
-pub eight :
-    (out : List ℕ) (at x : ℕ) {a b c d e f g h : ℕ} →
-    a ≡ digit (x / 268435456 % 16) → b ≡ digit (x / 16777216 % 16) → c ≡ digit (x / 1048576 % 16) → d ≡ digit
-    (x / 65536 % 16) →
-    e ≡ digit (x / 4096 % 16) → f ≡ digit (x / 256 % 16) → g ≡ digit (x / 16 % 16) → h ≡ digit (x % 16) →
-    set (set (set (set (set (set (set (set out at a) (at + 1) b) (at + 2) c) (at + 3) d) (at + 4) e) (at + 5) f)
-    (at + 6) g) (at + 7) h
-    ≡ sets out at (digits 16 8 x)
-unfolding digits
-eight out at x ea eb ec ed ee ef eg eh =
-    let n1 : at + 1 ≡ suc at = omega arith in
-    let n2 : at + 2 ≡ suc (suc at) = omega arith in
-    let n3 : at + 3 ≡ suc (suc (suc at)) = omega arith in
-    let n4 : at + 4 ≡ suc (suc (suc (suc at))) = omega arith in
-    let n5 : at + 5 ≡ suc (suc (suc (suc (suc at)))) = omega arith in
-    let n6 : at + 6 ≡ suc (suc (suc (suc (suc (suc at))))) = omega arith in
-    let n7 : at + 7 ≡ suc (suc (suc (suc (suc (suc (suc at)))))) = omega arith in
-    rw (ea, eb, ec, ed, ee, ef, eg, eh, n1, n2, n3, n4, n5, n6, n7, div-one x)
+  pub rest-turn : rest / base ≡ n / base ^ (k + 1)
+  rest-turn = rw (add-one k, pow-suc base k, r) (div-div-eq-div-mul n (base ^ k) base)
+
+-- a whole list over what stands there
+pub paste-sets : (out bytes : List ℕ) (at : ℕ) → at + length bytes ≤ length out → paste out at bytes (length bytes) ≡ sets out at bytes
+paste-sets out bytes at h = rw (take-length bytes) (sym (sets-eq bytes out at h))

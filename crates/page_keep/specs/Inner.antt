@@ -1,11 +1,11 @@
 -- What the code computes on its way. proofs/Keeping.antt: it is what the crate page_file says.
-use Rattle.std.specs.Prelude.{ℕ, ◌/◌, ◌%◌, max, Bool, cond, List, [], ◌∷◌, ◌++◌, length, ltb}
+use Rattle.std.specs.Prelude.{ℕ, max, Bool, cond, List, ◌++◌, length, ltb}
 use Rattle.ledger.specs.declared.Page.{Page}
 use Rattle.page_file.specs.File.{Content, line, name_of, mark_of, greatest}
 use Rattle.page_file.specs.File as file
 use Rattle.page_file.specs.Inner.{form_if}
 use Rattle.answer.specs.Bytes.{bytes}
-use Rattle.parsing.specs.Digits.{digit, groups}
+use Rattle.parsing.specs.Digits.{groups}
 
 -- whether form 2 is due
 abbrev pub is_long : Page → List ℕ → Bool
@@ -13,10 +13,6 @@ is_long page arrived = ltb 65536 (max (greatest page) (length arrived))
 
 abbrev pub decimal : Bool → ℕ → List ℕ
 decimal two n = file.decimal (form_if two) n
-
--- the digits of a number before its last five
-abbrev pub front : Bool → ℕ → List ℕ
-front two n = cond two (digit (n / 1000000 % 10) ∷ digit (n / 100000 % 10) ∷ []) []
 
 -- the first lines of a file
 abbrev pub form_line : Bool → List ℕ

@@ -16,7 +16,6 @@ ghost use Rattle.page_keep.specs.Inner.{form_line, head_of, content_by, is_long}
 
 use answer::{Answer, Refusal};
 use codec::Kind;
-use editor::Mark;
 use ledger::Page;
 use records::Judged;
 
@@ -39,10 +38,10 @@ fn width_of(two: bool) -> usize
     5
 }
 
-fn mark_size(two: bool, mark: Mark) -> usize
+fn mark_size(two: bool, mark: Option<usize>) -> usize
     ensures { (result ≡ length (mark_of (form_if two) mark)) × (result ≤ 7) }
 {
-    let Mark::At(_) = mark else {
+    let Some(_) = mark else {
         return 4;
     };
     width_of(two)
@@ -83,12 +82,12 @@ fn put_kind(kind: Kind, out: &mut [u8], at: usize) -> usize
     }
 }
 
-fn put_saved(two: bool, mark: Mark, out: &mut [u8], at: usize) -> usize
+fn put_saved(two: bool, mark: Option<usize>, out: &mut [u8], at: usize) -> usize
     requires { at + length (line "saved" (mark_of (form_if two) mark)) ≤ length out.old }
     ensures { (result ≡ at + length (line "saved" (mark_of (form_if two) mark)))
         × (out.new ≡ sets out.old at (line "saved" (mark_of (form_if two) mark))) }
 {
-    let Mark::At(n) = mark else {
+    let Some(n) = mark else {
         return put::put_bytes(b"saved=none\n", &mut *out, at);
     };
     put::put_number(two, b"saved=", n, &mut *out, at)

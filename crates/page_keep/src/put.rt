@@ -4,7 +4,7 @@ ghost use Rattle.std.proofs.lemmas.List.Edits.{sets};
 ghost use Rattle.answer.specs.Bytes.{bytes as text};
 ghost use Rattle.parsing.specs.Digits.{digit, digits, groups, LF};
 ghost use Rattle.page_file.specs.Inner.{form_if};
-ghost use Rattle.page_keep.specs.Inner.{decimal, front};
+ghost use Rattle.page_keep.specs.Inner.{decimal};
 
 // These bytes.
 pub fn put_bytes(bytes: &[u8], out: &mut [u8], at: usize) -> usize
@@ -12,12 +12,9 @@ pub fn put_bytes(bytes: &[u8], out: &mut [u8], at: usize) -> usize
     ensures { (result ≡ at + length bytes.now)
         × (out.new ≡ sets out.old at bytes.now) }
 {
-    let mut i: usize = 0;
-    while i < bytes.len() {
-        out[at + i] = bytes[i];
-        i += 1;
-    }
-    at + i
+    let end = at + bytes.len();
+    out[at..end].copy_from_slice(bytes);
+    end
 }
 
 // The digit of a value.
@@ -31,37 +28,17 @@ fn digit_of(d: u8) -> u8
     55 + d
 }
 
-fn put_decimal(n: usize, out: &mut [u8], at: usize)
-    requires { at + 5 ≤ length out.old }
-    ensures { out.new ≡ sets out.old at (digits 10 5 n) }
+// The K lowest digits of a number, the highest first.
+fn put_digits<const BASE: usize, const K: usize>(n: usize, out: &mut [u8], at: usize) -> usize
+    requires { (at + K ≤ length out.old) × (0 < BASE) × (BASE ≤ 16) }
+    ensures { (result ≡ at + K) × (out.new ≡ sets out.old at (digits BASE K n)) }
 {
-    out[at] = digit_of((n / 10000 % 10) as u8);
-    out[at + 1] = digit_of((n / 1000 % 10) as u8);
-    out[at + 2] = digit_of((n / 100 % 10) as u8);
-    out[at + 3] = digit_of((n / 10 % 10) as u8);
-    out[at + 4] = digit_of((n % 10) as u8);
-}
-
-fn put_pair(b: u8, out: &mut [u8], at: usize)
-    requires { at + 2 ≤ length out.old }
-    ensures { out.new ≡ sets out.old at (digits 16 2 b) }
-{
-    out[at] = digit_of(b / 16 % 16);
-    out[at + 1] = digit_of(b % 16);
-}
-
-fn put_eight(w: u32, out: &mut [u8], at: usize)
-    requires { at + 8 ≤ length out.old }
-    ensures { out.new ≡ sets out.old at (digits 16 8 w) }
-{
-    out[at] = digit_of((w / 268435456 % 16) as u8);
-    out[at + 1] = digit_of((w / 16777216 % 16) as u8);
-    out[at + 2] = digit_of((w / 1048576 % 16) as u8);
-    out[at + 3] = digit_of((w / 65536 % 16) as u8);
-    out[at + 4] = digit_of((w / 4096 % 16) as u8);
-    out[at + 5] = digit_of((w / 256 % 16) as u8);
-    out[at + 6] = digit_of((w / 16 % 16) as u8);
-    out[at + 7] = digit_of((w % 16) as u8);
+    let mut rest = n;
+    for k in (0..K).rev() {
+        out[at + k] = digit_of((rest % BASE) as u8);
+        rest /= BASE;
+    }
+    at + K
 }
 
 // Bytes as pairs of hex digits.
@@ -70,12 +47,10 @@ fn put_pairs(bytes: &[u8], out: &mut [u8], at: usize) -> usize
     ensures { (result ≡ at + length bytes.now * 2)
         × (out.new ≡ sets out.old at (groups 2 bytes.now)) }
 {
-    let mut i: usize = 0;
-    while i < bytes.len() {
-        put_pair(bytes[i], &mut *out, at + i * 2);
-        i += 1;
+    for (i, b) in bytes.iter().enumerate() {
+        put_digits::<16, 2>(*b as usize, &mut *out, at + i * 2);
     }
-    at + i * 2
+    at + bytes.len() * 2
 }
 
 // Words as groups of eight hex digits.
@@ -84,26 +59,10 @@ fn put_groups(words: &[u32], out: &mut [u8], at: usize) -> usize
     ensures { (result ≡ at + length words.now * 8)
         × (out.new ≡ sets out.old at (groups 8 words.now)) }
 {
-    let mut i: usize = 0;
-    while i < words.len() {
-        put_eight(words[i], &mut *out, at + i * 8);
-        i += 1;
+    for (i, w) in words.iter().enumerate() {
+        put_digits::<16, 8>(*w as usize, &mut *out, at + i * 8);
     }
-    at + i * 8
-}
-
-// The digits before the last five, if there are any.
-fn put_front(two: bool, n: usize, out: &mut [u8], at: usize) -> usize
-    requires { at + (form_if two).width ≤ length out.old }
-    ensures { (result + 5 ≡ at + (form_if two).width)
-        × (out.new ≡ sets out.old at (front two n)) }
-{
-    if !two {
-        return at;
-    }
-    out[at] = digit_of((n / 1000000 % 10) as u8);
-    out[at + 1] = digit_of((n / 100000 % 10) as u8);
-    at + 2
+    at + words.len() * 8
 }
 
 // A key with its '=', a number, and LF.
@@ -113,10 +72,13 @@ pub fn put_number(two: bool, key: &[u8], n: usize, out: &mut [u8], at: usize) ->
         × (out.new ≡ sets out.old at (key.now ++ (decimal two n ++ LF))) }
 {
     let value = put_bytes(key, &mut *out, at);
-    let last = put_front(two, n, &mut *out, value);
-    put_decimal(n, &mut *out, last);
-    out[last + 5] = b'\n';
-    last + 6
+    let end = if two {
+        put_digits::<10, 7>(n, &mut *out, value)
+    } else {
+        put_digits::<10, 5>(n, &mut *out, value)
+    };
+    out[end] = b'\n';
+    end + 1
 }
 
 // A key with its '=', bytes, and LF.

@@ -1,22 +1,20 @@
 -- What reading a file answers, and what it leaves. Assumes nothing.
-use Prim.Native.Nat.{ℕ, ◌+◌, ◌-◌, ◌*◌, ◌≤◌, ◌<◌}
+use Prim.Native.Nat.{ℕ, ◌≤◌, ◌<◌}
 use mathlib.Core.Path.{◌≡◌, refl, sym, ap, ◌∙◌}
-use mathlib.Core.Bool.{Bool, true, false, cond, ◌||◌}
-use mathlib.Core.List.{List, [], ◌∷◌, ◌++◌}
-use mathlib.Core.Option.{Option, none, some}
+use mathlib.Core.Bool.{Bool, true, false, cond}
+use mathlib.Core.List.{List}
+use Rattle.std.specs.Prelude.{Option, None, Some}
 use native.Mathlib.Omega.{arith}
-use lib.ListN.{length, take, drop, replicate, length-append, length-drop}
-use lib.Seq.{take_at, length_front}
+use lib.ListN.{length, take, drop, length-append, length-drop}
+use lib.Seq.{take_at}
 use borrow.Author.Tests.{lt-ltb, le-ltb}
 use Rattle.answer.specs.Answer.{numbered, in_numbers, too_long}
 use Rattle.answer.specs.declared.Answer.{Answer}
-use Rattle.answer.specs.declared.Answer.TheVariants.{Accepted, Refused}
-use Rattle.answer.specs.declared.Refusal.TheVariants.{NoRoom, Unsound, NotTheText, BadPageFile}
 use Rattle.answer.specs.Output.{filled}
 use Rattle.codec.specs.declared.Kind.TheVariants.{Utf7Header}
 use Rattle.ledger.specs.declared.Edited.{Edited}
 use Rattle.ledger.specs.Words.{Parted, pad}
-use Rattle.ledger.specs.Page.{State, Outcome, state_of, records, keeps}
+use Rattle.ledger.specs.Page.{records, keeps}
 use Rattle.ledger.specs.Calls.{over, no_page}
 use Rattle.ledger.proofs.Words.{Whole}
 use Rattle.ledger.proofs.Sound as sound
@@ -26,7 +24,7 @@ use Rattle.page_file.specs.Reading.{parse}
 use Rattle.page_file.specs.Calls.{unread, state_from, given, read_parted, read_fitting, read_parsed, read_of}
 use Rattle.page_file.specs.Inner.{belongs_by}
 use Rattle.page_file.proofs.Belonging.{belongs-by}
-use Rattle.page_read.specs.Inner.{is_some}
+use Rattle.std.specs.Option.{is_some}
 
 -- elements in front, and zeros behind them
 module _ (l out₀ out₁ : List ℕ) (n : ℕ) (e : length l ≡ n) (h : n ≤ length out₀) (f : out₁ ≡ filled l out₀) where
@@ -35,9 +33,6 @@ module _ (l out₀ out₁ : List ℕ) (n : ℕ) (e : length l ≡ n) (h : n ≤ 
 
   front : take n out₁ ≡ l
   front = ap (take n) f ∙ take_at l (drop (length l) out₀) n e
-
-  pub pads-bytes : {out : List ℕ} → out ≡ take n out₁ ++ replicate (length out₁ - n) 0 → out ≡ pad (length out₀) l
-  pads-bytes g = g ∙ rw (front, same_length, e)
 
   pub pads-words : {out : List ℕ} → out ≡ pad (length out₁) (take n out₁) → out ≡ pad (length out₀) l
   pads-words g = g ∙ rw (front, same_length)
@@ -56,8 +51,8 @@ module _ (arrived text history : List ℕ) (c : Content) where
   parted-by : (x : Option Parted) → is_some x ≡ false → read_parted arrived text history c x ≡ unread arrived text
       history (numbered 14 0)
   unfolding read_parted
-  parted-by none e = refl
-  parted-by (some v) e = let z : ◌≡◌ {A = ℕ} 0 1 = cc in absurd (omega arith)
+  parted-by None e = refl
+  parted-by (Some v) e = let z : ◌≡◌ {A = ℕ} 0 1 = cc in absurd (omega arith)
 
   pub is-unsound : false ≡ is_some (records (state_from arrived text history c)) → read_parted arrived text history c
       (records (state_from arrived text history c)) ≡ unread arrived text history (numbered 14 0)
@@ -70,8 +65,8 @@ module _ (arrived text history : List ℕ) (c : Content) where
       ≡ cond (belongs_by c.page c.text c.arrived) (given arrived text history c)
       (unread arrived text history (numbered 15 0))
   unfolding read_parted
-  sound-by none e w h = let z : ◌≡◌ {A = ℕ} 0 1 = cc in absurd (omega arith)
-  sound-by (some v) e w h =
+  sound-by None e w h = let z : ◌≡◌ {A = ℕ} 0 1 = cc in absurd (omega arith)
+  sound-by (Some v) e w h =
       ap (λ (t : Bool). cond t (given arrived text history c) (unread arrived text history (numbered 15 0)))
       (belongs-by c v.standing w.end w.reach h)
 

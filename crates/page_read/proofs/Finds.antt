@@ -1,7 +1,7 @@
 -- What code found, line by line. Assumes nothing.
-use Prim.Native.Nat.{ℕ, ◌+◌, ◌*◌, ◌≤◌, ◌<◌, max}
+use Prim.Native.Nat.{ℕ, ◌+◌, ◌≤◌, ◌<◌, max}
 use Prim.Native.String.{String}
-use mathlib.Core.Path.{◌≡◌, refl, sym, ap, ◌∙◌, subst}
+use mathlib.Core.Path.{◌≡◌, refl, sym, ap, ◌∙◌}
 use mathlib.Core.Bool.{Bool, true, false, cond, not, false≢true}
 use mathlib.Core.List.{List, [], ◌∷◌, ◌++◌}
 use native.Mathlib.Omega.{arith}
@@ -11,15 +11,11 @@ use lib.Dec.{eqb, leb}
 use borrow.Author.Tests.{le-leb, lt-leb}
 use Rattle.answer.proofs.Below.{cond-case}
 use Rattle.answer.specs.Bytes.{bytes}
-use Rattle.codec.specs.declared.Kind.{Kind}
-use Rattle.codec.specs.declared.Kind.TheVariants.{Utf7Header, Utf7Body, Jp2}
-use Rattle.editor.specs.declared.Mark.{Mark}
-use Rattle.editor.specs.declared.Mark.TheVariants.{None, At}
 use Rattle.parsing.specs.Parsing.{Parsed, found, failed, Parser, on_parsed, done, either, literal, whole, broken}
 use Rattle.parsing.specs.Parsing.{wholly}
-use Rattle.parsing.specs.Digits.{number, list, LF}
+use Rattle.parsing.specs.Digits.{list, LF}
 use Rattle.scan.specs.declared.Found.{Found}
-use Rattle.scan.specs.Found.{found_as, passed_in, found_in}
+use Rattle.scan.specs.Found.{found_as}
 use Rattle.ledger.specs.declared.Page.{Page}
 use Rattle.page_file.specs.File.{Content, form1, form2, greatest}
 use Rattle.page_file.specs.Reading.{keyed, line_of, list_of, least, lines_of, parse}

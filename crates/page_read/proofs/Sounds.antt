@@ -1,31 +1,25 @@
 -- Buffers that begin with a page's lists and hold zeros past them, and whether the page is sound with them. Assumes
 -- nothing.
-use Prim.Native.Nat.{ℕ, zero, suc, ◌+◌, ◌-◌, ◌≤◌, ◌<◌}
+use Prim.Native.Nat.{ℕ, zero, suc, ◌-◌, ◌≤◌, ◌<◌}
 use mathlib.Core.Path.{◌≡◌, refl, sym, ap, ◌∙◌}
-use mathlib.Core.Bool.{Bool, true, false, ◌&&◌}
-use mathlib.Core.List.{List, [], ◌∷◌, ◌++◌}
-use mathlib.Core.Option.{Option, none, some}
+use mathlib.Core.Bool.{Bool, true, false}
+use mathlib.Core.List.{List}
+use Rattle.std.specs.Prelude.{Option, None, Some, is_some}
 use native.Mathlib.Omega.{arith}
 use lib.ListN.{length, take, drop, replicate, length-append, length-replicate}
 use lib.Seq.{slice, take-take, take_at, drop_at}
 use borrow.Author.Tests.{le-leb, lt-leb}
 use Rattle.ledger.specs.declared.Page.{Page}
 use Rattle.ledger.specs.Words.{Parted, zeros, pad}
-use Rattle.ledger.specs.Page.{state_of, framed, records}
+use Rattle.ledger.specs.Page.{state_of, framed}
 use Rattle.ledger.specs.Parts.{mark_within, cut_in, bounded}
-use Rattle.records.specs.declared.Walk.{Walk}
-use Rattle.records.specs.declared.Judged.TheVariants.{Sound}
-use Rattle.records.specs.Walking.{walk_cut, unsound, judged_as}
-use Rattle.page_read.specs.Inner.{is_some, Frames}
+use Rattle.records.specs.Walking.{Walk, walk_cut, last_of}
+use Rattle.page_read.specs.Inner.{Frames}
 
--- what a judgement tells
-pub none-judged : (done : ℕ) (x : Option Parted) → judged_as done x ≡ unsound → false ≡ is_some x
-none-judged done none e = refl
-none-judged done (some v) e = let z : ◌≡◌ {A = ℕ} 0 1 = cc in absurd (omega arith)
-
-pub some-judged : (done : ℕ) (x : Option Parted) (l : ℕ) → judged_as done x ≡ Sound l → true ≡ is_some x
-some-judged done none l e = let z : ◌≡◌ {A = ℕ} 0 1 = cc in absurd (omega arith)
-some-judged done (some v) l e = refl
+-- what the survey of a page tells
+pub some_of_last : (done : ℕ) (x : Option Parted) → is_some (last_of done x) ≡ is_some x
+some_of_last done None = refl
+some_of_last done (Some v) = refl
 
 module _ {p : Page} {room : ℕ} {words t h : List ℕ} (f : Frames p room words t h) where
   words_same : (from to : ℕ) → to ≤ p.used → slice from to words ≡ slice from to h

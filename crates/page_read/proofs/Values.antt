@@ -1,16 +1,15 @@
 -- Numbers by hex digits, one after another. Assumes nothing.
-use Prim.Native.Nat.{ℕ, zero, suc, ◌+◌, ◌-◌, ◌*◌, ◌/◌, ◌%◌, ◌^◌, ◌<◌, ◌≤◌}
-use mathlib.Core.Path.{◌≡◌, refl, sym, ap, ◌∙◌}
-use mathlib.Core.List.{List, [], ◌∷◌, ◌++◌, append_assoc, append-nil}
+use Prim.Native.Nat.{ℕ, zero, suc, ◌+◌, ◌*◌, ◌/◌, ◌%◌, ◌^◌, ◌<◌, ◌≤◌}
+use mathlib.Core.Path.{◌≡◌, refl, ap, ◌∙◌}
+use mathlib.Core.List.{List, ◌∷◌}
 use native.Mathlib.Omega.{arith}
 use native.Mathlib.Numerals.{add-one}
 use native.Mathlib.Nat.{add-zero, zero-mul, suc-mul, pow-suc, mod-lt}
-use lib.ListN.{length, get_or, take, drop, set, replicate, drop_of_length-le, length-set, length-append, length-replicate}
-use lib.ListN.{replicate-append-replicate}
-use lib.Seq.{drop-cons, take_all, take-suc-set}
+use lib.ListN.{length, get_or, drop, set, drop_of_length-le}
+use lib.Seq.{drop-cons}
 use lib.Dec.{lit<}
 use Rattle.answer.specs.Output.{filled}
-use Rattle.answer.proofs.Put.{Put, put-start, put_as, put_next, put-lt, put-done}
+use Rattle.answer.proofs.Put.{Put, put-start, put_as, put_next, put-done}
 use Rattle.reading.specs.Reading.{Rule, Does}
 use Rattle.scan.specs.Inner.{nibble, hex_at, hexes_at}
 
@@ -77,40 +76,3 @@ module _ (s : List ℕ) where
   pub read-start : (from k n : ℕ) (out : List ℕ) → n ≤ length out → Put (hexes_at s from k n) out out 0
       (hexes_at s from k n)
   read-start from k n out h = put-start (hexes_at s from k n) out (omega (arith, length-hexes from k n))
-
--- elements cleared from a place on
-pub record Cleared (out₀ out : List ℕ) (from i : ℕ) : Type 0 where
-  pub reach : from ≤ i
-  pub upto : i ≤ length out₀
-  pub same : length out ≡ length out₀
-  pub front : take i out ≡ take from out₀ ++ replicate (i - from) 0
-
-pub clear-start : (out : List ℕ) (from : ℕ) → from ≤ length out → Cleared out out from from
-clear-start out from h =
-    let z : from - from ≡ 0 = omega arith in
-    record { reach = omega arith; upto = h; same = refl; front = rw (z, append-nil) }
-
-pub clear_next : {out₀ out : List ℕ} {from i : ℕ} → Cleared out₀ out from i → i < length out → Cleared out₀
-    (set out i 0) from (i + 1)
-clear_next {out₀} {out} {from} {i} p h =
-    let n : i + 1 - from ≡ i - from + 1 = omega (arith, p.reach) in
-    record {
-      reach = omega (arith, p.reach);
-      upto = omega (arith, p.same);
-      same = simp length-set p.same;
-      front = rw (
-        add-one i,
-        take-suc-set out i 0 h,
-        p.front,
-        ← add-one i,
-        n,
-        ← replicate-append-replicate {A = ℕ}
-            (i - from) 1 0,
-      ) (append_assoc (take from out₀) (replicate (i - from) 0) (0 ∷ []));
-    }
-
-pub clear-end : {out₀ out : List ℕ} {from i : ℕ} → Cleared out₀ out from i → length out ≤ i → out ≡ take from out₀ ++
-    replicate (length out₀ - from) 0
-clear-end {out₀} {out} {from} {i} p h =
-    let e : i ≡ length out₀ = omega (arith, p.upto, p.same) in
-    sym (take_all i out h) ∙ p.front ∙ rw e

@@ -1,12 +1,11 @@
 -- What the code finds on its way, over the definitions of the crate page_file.
-use Rattle.std.specs.Prelude.{ℕ, ◌+◌, ◌*◌, ◌≤◌, ◌≡◌, Bool, true, false, cond, List, length, take, drop, eqb}
-use Rattle.std.proofs.Math.Option.{Option, none, some}
+use Rattle.std.specs.Prelude.{ℕ, ◌+◌, ◌*◌, ◌≤◌, ◌≡◌, Bool, true, cond, List, length, take, drop, eqb}
 use Rattle.codec.specs.declared.Kind.{Kind}
 use Rattle.codec.specs.declared.Kind.TheVariants.{Utf7Header, Utf7Body, Jp2}
 use Rattle.ledger.specs.declared.Page.{Page}
-use Rattle.ledger.specs.Words.{Parted, zeros}
+use Rattle.ledger.specs.Words.{zeros}
 use Rattle.parsing.specs.Parsing.{Parsed, found, failed, Parser, done, ◌>>=◌, ◌>>◌, literal, Whole, whole, broken}
-use Rattle.parsing.specs.Digits.{number, list, LF}
+use Rattle.parsing.specs.Digits.{list, LF}
 use Rattle.scan.specs.declared.Found.{Found}
 use Rattle.scan.specs.Found.{found_as}
 use Rattle.scan.specs.Inner.{hexes_at}
@@ -17,7 +16,7 @@ use Rattle.page_read.specs.declared.lines.Head.{Head}
 use Rattle.page_read.specs.declared.lines.Listed.{Listed}
 use Rattle.page_read.specs.declared.lines.FoundMark.{FoundMark}
 use Rattle.page_read.specs.declared.lines.Plan.{Plan}
-use Rattle.editor.specs.declared.Mark.{Mark}
+use Rattle.editor.specs.Marks.{Mark}
 
 -- kinds by number
 abbrev pub kind_of : ℕ → Kind
@@ -83,10 +82,6 @@ pub record Lists (s : List ℕ) (p : Plan) : Type 0 where
 
 abbrev pub Planned : List ℕ → Plan → Type 0
 Planned s p = p.ok ≡ true → Lists s p
-
-abbrev pub is_some : Option Parted → Bool
-is_some none = false
-is_some (some v) = true
 
 -- buffers of a page whose history begins with these words, with zeros past the ends
 pub record Frames (page : Page) (room : ℕ) (words t h : List ℕ) : Type 0 where

@@ -40,10 +40,8 @@ pub fn read_bytes(s: &[u8], from: usize, n: usize, out: &mut [u8])
     requires { (from + n * 2 ≤ length s.now) × (n ≤ length out.old) }
     ensures { out.new ≡ filled (hexes_at s.now from 2 n) out.old }
 {
-    let mut i: usize = 0;
-    while i < n {
+    for i in 0..n {
         out[i] = byte_at(s, from + i * 2);
-        i += 1;
     }
 }
 
@@ -52,22 +50,7 @@ pub fn read_words(s: &[u8], from: usize, n: usize, out: &mut [u32])
     requires { (from + n * 8 ≤ length s.now) × (n ≤ length out.old) }
     ensures { out.new ≡ filled (hexes_at s.now from 8 n) out.old }
 {
-    let mut i: usize = 0;
-    while i < n {
+    for i in 0..n {
         out[i] = word_at(s, from + i * 8);
-        i += 1;
-    }
-}
-
-// Sets every byte from a place on to 0.
-pub fn clear_bytes(out: &mut [u8], from: usize)
-    requires { from ≤ length out.old }
-    ensures { out.new ≡ take from out.old
-        ++ replicate (length out.old - from) 0 }
-{
-    let mut i = from;
-    while i < out.len() {
-        out[i] = 0;
-        i += 1;
     }
 }

@@ -18,7 +18,6 @@ ghost use Rattle.page_read.specs.Inner.{content_in, Lists};
 
 use answer::{Answer, Refusal};
 use codec::Kind;
-use editor::Mark;
 use ledger::{Edited, Page};
 use lines::Plan;
 
@@ -27,7 +26,7 @@ fn unread(answer: Answer) -> Edited
     ensures { result ≡ record { answer = answer; page = no_page Utf7Header } }
 {
     let kind = Kind::Utf7Header;
-    let saved = Mark::None;
+    let saved = None;
     Edited {
         answer,
         page: Page {
@@ -46,7 +45,7 @@ fn fill_bytes(file: &[u8], from: usize, n: usize, out: &mut [u8])
     ensures { out.new ≡ pad (length out.old) (hexes_at file.now from 2 n) }
 {
     hex::read_bytes(file, from, n, &mut *out);
-    hex::clear_bytes(&mut *out, n);
+    out[n..].fill(0);
 }
 
 fn fill_words(file: &[u8], from: usize, n: usize, out: &mut [u32])

@@ -11,7 +11,6 @@ ghost use Rattle.page_read.specs.Inner.{kind_of, kind_in, mark_in, key_line, key
 ghost use Rattle.page_read.specs.Inner.{listed_in, list_lines, head_then, plan_in, Lies, Planned};
 
 use codec::Kind;
-use editor::Mark;
 use ledger::Page;
 use scan::Found;
 
@@ -19,7 +18,7 @@ use scan::Found;
 #[derive(Clone, Copy)]
 pub struct FoundMark {
     pub ok: bool,
-    pub mark: Mark,
+    pub mark: Option<usize>,
     pub at: usize,
 }
 
@@ -153,7 +152,7 @@ fn kind_of(value: usize) -> Kind
 fn no_mark(at: usize) -> FoundMark
     ensures { (result.ok ≡ false) × (result.at ≡ at) }
 {
-    let mark = Mark::None;
+    let mark = None;
     FoundMark {
         ok: false,
         mark,
@@ -167,7 +166,7 @@ fn mark_value(file: &[u8], from: usize, two: bool) -> FoundMark
 {
     let none = scan::word(file, from, b"none");
     if none.ok {
-        let mark = Mark::None;
+        let mark = None;
         return FoundMark {
             ok: true,
             mark,
@@ -176,7 +175,7 @@ fn mark_value(file: &[u8], from: usize, two: bool) -> FoundMark
     }
     let value = scan::decimal(file, from, two);
     if value.ok {
-        let mark = Mark::At(value.value);
+        let mark = Some(value.value);
         return FoundMark {
             ok: true,
             mark,
@@ -211,7 +210,7 @@ fn no_head(at: usize) -> Head
     ensures { (result.ok ≡ false) × (result.at ≡ at) }
 {
     let kind = Kind::Utf7Header;
-    let saved = Mark::None;
+    let saved = None;
     Head {
         ok: false,
         two: false,
@@ -233,7 +232,7 @@ fn head_of(
     length: usize,
     used: usize,
     done: usize,
-    saved: Mark,
+    saved: Option<usize>,
     two: bool,
     at: usize,
 ) -> Head

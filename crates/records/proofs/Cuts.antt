@@ -4,7 +4,6 @@ use Prim.Native.Nat.{ℕ, ◌+◌, ◌-◌, ◌≤◌}
 use mathlib.Core.Path.{◌≡◌, refl, sym, ap, ◌∙◌}
 use mathlib.Core.Bool.{Bool, true, false, cond, ◌&&◌, ◌||◌}
 use mathlib.Core.List.{List, [], ◌∷◌, ◌++◌, map, map-append}
-use mathlib.Core.Option.{Option, none, some}
 use native.Mathlib.Omega.{arith}
 use native.Mathlib.Nat.{add-zero}
 use lib.ListN.{length, take, drop, length-take, length-drop, take-append-drop}
@@ -12,36 +11,36 @@ use lib.Seq.{slice, take_at, drop_at, take-take, drop-drop, length-take-le}
 use lib.Dec.{leb, ltb, eqb}
 use borrow.Author.Tests.{leb-true, eqb-true, ltb-false}
 use Rattle.answer.proofs.Below.{both, cond-case}
-use Rattle.editor.specs.declared.Mark.{Mark}
-use Rattle.editor.specs.declared.Mark.TheVariants.{None, At}
+use Rattle.std.specs.Prelude.{None, Some, Option}
+use Rattle.editor.specs.Marks.{Mark}
 use Rattle.editor.specs.Ledger.{weight_of}
 use Rattle.editor.specs.Records.{step_of, ends_at}
 use Rattle.editor.proofs.Marks.{ends-zero, ends-beyond}
-use Rattle.ledger.specs.Words.{Entry, in_words, size_of, sizes, records_in, lengths_fit, reached}
+use Rattle.ledger.specs.Words.{Entry, in_words, size_of, sizes, records_in, lengths_fit}
 use Rattle.ledger.specs.Parts.{cut_in, ends, ending_at}
 use Rattle.ledger.proofs.Words.{Whole, drop-take, words, length-words, words_append, records-words, exact, lengths-append}
 use Rattle.ledger.proofs.Words.{reached-append, reached-fits}
 use Rattle.ledger.proofs.Marks.{weight-sizes}
 use Rattle.ledger.proofs.Parts.{same-options}
-use Rattle.records.specs.declared.Walk.{Walk}
-use Rattle.records.specs.declared.Walk.TheVariants.{Broken, Led}
-use Rattle.records.specs.Walking.{last_from, walk_of, walk_in, walk_cut}
+use Rattle.records.specs.Walking.{Walk, last_from, walk_of, walk_in, walk_cut}
 use Rattle.records.proofs.Walks.{records-enough}
 
 -- what a walk tells of its test
-pub led : (t : Bool) (a b n l : ℕ) → cond t (Led a b) Broken ≡ Led n l → (t ≡ true) × (a ≡ n) × (b ≡ l)
-led true a b n l e = (refl, (cc), (cc))
+pub led : (t : Bool) (a b n l : ℕ) → cond {A = Walk} t (Some (a, b)) None ≡ Some (n, l) → (t ≡ true) × (a ≡ n) × (b ≡ l)
+led true a b n l e =
+    let p : ◌≡◌ {A = ℕ × ℕ} (a, b) (n, l) = cc in
+    (refl, ap (λ (q : ℕ × ℕ). q.0) p, ap (λ (q : ℕ × ℕ). q.1) p)
 led false a b n l e = let z : ◌≡◌ {A = ℕ} 0 1 = cc in absurd (omega arith)
 
-pub broken : (t : Bool) (a b : ℕ) → cond t (Led a b) Broken ≡ Broken → t ≡ false
+pub broken : (t : Bool) (a b : ℕ) → cond {A = Walk} t (Some (a, b)) None ≡ None → t ≡ false
 broken true a b e = let z : ◌≡◌ {A = ℕ} 0 1 = cc in absurd (omega arith)
 broken false a b e = refl
 
 -- records in two parts
 abbrev both_of : Option (List Entry) → Option (List Entry) → Option (List Entry)
-both_of none fs = none
-both_of (some es) none = none
-both_of (some es) (some fs) = some (es ++ fs)
+both_of None fs = None
+both_of (Some es) None = None
+both_of (Some es) (Some fs) = Some (es ++ fs)
 
 -- records cut at an end of theirs
 record Cut (es : List Entry) (k : ℕ) : Type 0 where
@@ -95,17 +94,17 @@ module _ (k : ℕ) (ws : List ℕ) (h : k ≤ length ws) where
   both-ending :
       (x y : Option (List Entry)) → Whole (λ es. words es ≡ take k ws) x → Whole (λ fs. words fs ≡ drop k ws) y →
       Whole Ending (both_of x y)
-  both-ending none y p q = tt
-  both-ending (some es) none p q = tt
-  both-ending (some es) (some fs) p q =
+  both-ending None y p q = tt
+  both-ending (Some es) None p q = tt
+  both-ending (Some es) (Some fs) p q =
       let n : sizes es ≡ k = omega (arith, length-words es, ap length p, length-take-le k ws h) in
       (words_append es fs ∙ rw (p, q) (take-append-drop k ws), rw n at (ends-append es fs))
 
   only_ending : (x : Option (List Entry)) → Whole (λ es. words es ≡ ws) x → Whole Ending (ending_at k x)
-  only_ending none p = tt
-  only_ending (some es) p = cond-case (Whole Ending) (ends es k) (λ t. (p, t)) (λ _. tt)
+  only_ending None p = tt
+  only_ending (Some es) p = cond-case (Whole Ending) (ends es k) (λ t. (p, t)) (λ _. tt)
 
-  ending-cut : (es : List Entry) → Ending es → both_of front back ≡ some es
+  ending-cut : (es : List Entry) → Ending es → both_of front back ≡ Some es
   ending-cut es e =
       let c = cut-ends es k e.1 in
       let all : words c.first ++ words c.rest ≡ ws =
@@ -117,11 +116,11 @@ module _ (k : ℕ) (ws : List ℕ) (h : k ≤ length ws) where
       ap (drop k) (sym all) ∙ drop_at (words c.first) (words c.rest) k n in
       let m : length (words c.rest) ≤ length ws - k = omega (arith, ap length (sym tail), length-drop k ws) in
       rw (first, tail, records-words k c.first (omega arith), records-words (length ws - k) c.rest m)
-      (ap some c.is)
+      (ap Some c.is)
 
-  ending-only : (es : List Entry) → Ending es → ending_at k (records_in (length ws) ws) ≡ some es
+  ending-only : (es : List Entry) → Ending es → ending_at k (records_in (length ws) ws) ≡ Some es
   ending-only es e =
-      let found : records_in (length ws) ws ≡ some es =
+      let found : records_in (length ws) ws ≡ Some es =
       rw e.0 at (records-words (length ws) es (omega (arith, ap length e.0))) in
       rw (found, e.1)
 
@@ -137,23 +136,23 @@ module _ (k : ℕ) (ws : List ℕ) (h : k ≤ length ws) where
     abbrev walk : Option (List Entry) → Walk
     walk x = walk_of room at len last x
 
-    both-broken : (x y : Option (List Entry)) → walk x ≡ Broken → walk (both_of x y) ≡ Broken
-    both-broken none y b = refl
-    both-broken (some es) none b = refl
-    both-broken (some es) (some fs) b = rw (lengths-append, broken (lengths_fit room len es) _ _ b)
+    both-broken : (x y : Option (List Entry)) → walk x ≡ None → walk (both_of x y) ≡ None
+    both-broken None y b = refl
+    both-broken (Some es) None b = refl
+    both-broken (Some es) (Some fs) b = rw (lengths-append, broken (lengths_fit room len es) _ _ b)
 
     both-led :
-        (x y : Option (List Entry)) (n l : ℕ) → Whole (λ es. sizes es ≡ k) x → walk x ≡ Led n l →
+        (x y : Option (List Entry)) (n l : ℕ) → Whole (λ es. sizes es ≡ k) x → walk x ≡ Some (n, l) →
         walk (both_of x y) ≡ walk_of room (at + k) n l y
-    both-led none y n l w e = let z : ◌≡◌ {A = ℕ} 0 1 = cc in absurd (omega arith)
-    both-led (some es) none n l w e = refl
-    both-led (some es) (some fs) n l w e =
+    both-led None y n l w e = let z : ◌≡◌ {A = ℕ} 0 1 = cc in absurd (omega arith)
+    both-led (Some es) None n l w e = refl
+    both-led (Some es) (Some fs) n l w e =
         let p = led (lengths_fit room len es) _ _ n l e in
         rw (lengths-append, p.0, reached-append, last-append, p.1, p.2, w)
 
     front-sizes : (x : Option (List Entry)) → Whole (λ es. words es ≡ take k ws) x → Whole (λ es. sizes es ≡ k) x
-    front-sizes none w = tt
-    front-sizes (some es) w = omega (arith, length-words es, ap length w, length-take-le k ws h)
+    front-sizes None w = tt
+    front-sizes (Some es) w = omega (arith, length-words es, ap length w, length-take-le k ws h)
 
     is_front : walk_in room at len last (take k ws) ≡ walk front
     is_front =
@@ -163,11 +162,11 @@ module _ (k : ℕ) (ws : List ℕ) (h : k ≤ length ws) where
     is-back n l =
         rw (records-enough (length (drop k ws)) (length ws - k) (drop k ws) (omega arith) (omega (arith, length-drop k ws)))
 
-    pub cut-broken : walk_in room at len last (take k ws) ≡ Broken → walk_cut room at len last k ws ≡ Broken
+    pub cut-broken : walk_in room at len last (take k ws) ≡ None → walk_cut room at len last k ws ≡ None
     cut-broken b = ap walk cut_at ∙ both-broken front back (sym is_front ∙ b)
 
     pub cut-led :
-        (n l : ℕ) → walk_in room at len last (take k ws) ≡ Led n l →
+        (n l : ℕ) → walk_in room at len last (take k ws) ≡ Some (n, l) →
         walk_cut room at len last k ws ≡ walk_in room (at + k) n l (drop k ws)
     cut-led n l e =
         ap walk cut_at ∙ both-led front back n l (front-sizes front (exact k (take k ws))) (sym is_front ∙ e)
@@ -175,20 +174,20 @@ module _ (k : ℕ) (ws : List ℕ) (h : k ≤ length ws) where
 
 -- a walk leads to no length over the room
 led-fits :
-    (room at len last n l : ℕ) (x : Option (List Entry)) → len ≤ room → walk_of room at len last x ≡ Led n l → n ≤ room
-led-fits room at len last n l none h e = let z : ◌≡◌ {A = ℕ} 0 1 = cc in absurd (omega arith)
-led-fits room at len last n l (some es) h e =
+    (room at len last n l : ℕ) (x : Option (List Entry)) → len ≤ room → walk_of room at len last x ≡ Some (n, l) → n ≤ room
+led-fits room at len last n l None h e = let z : ◌≡◌ {A = ℕ} 0 1 = cc in absurd (omega arith)
+led-fits room at len last n l (Some es) h e =
     let p = led (lengths_fit room len es) _ _ n l e in
     omega (arith, p.1, reached-fits room len es h p.0)
 
 pub walk-fits :
-    (room at len last n l : ℕ) (ws : List ℕ) → len ≤ room → walk_in room at len last ws ≡ Led n l → n ≤ room
+    (room at len last n l : ℕ) (ws : List ℕ) → len ≤ room → walk_in room at len last ws ≡ Some (n, l) → n ≤ room
 walk-fits room at len last n l ws h e = led-fits room at len last n l (records_in (length ws) ws) h e
 
 -- a mark cuts words between the first and the last of them
 pub cut-between : (m : Mark) (from to : ℕ) → from ≤ to → (from ≤ cut_in m from to) × (cut_in m from to ≤ to)
 cut-between None from to h = (omega arith, h)
-cut-between (At n) from to h =
+cut-between (Some n) from to h =
     cond-case (λ (k : ℕ). (from ≤ k) × (k ≤ to)) (ltb n from) (λ _. (omega arith, h))
     (λ q. cond-case (λ (k : ℕ). (from ≤ k) × (k ≤ to)) (ltb to n) (λ _. (omega arith, h))
     (λ r. (ltb-false n from q, ltb-false to n r)))
@@ -208,12 +207,12 @@ module _ (h : List ℕ) (from cut to : ℕ) (a : from ≤ cut) (b : cut ≤ to) 
   enough = rw (drop-take from to h) (simp (length-take, length-drop) (omega arith))
 
   pub marked-broken :
-      walk_in room from start last (slice from cut h) ≡ Broken →
-      walk_cut room from start last (cut - from) (slice from to h) ≡ Broken
+      walk_in room from start last (slice from cut h) ≡ None →
+      walk_cut room from start last (cut - from) (slice from to h) ≡ None
   marked-broken e = cut-broken (cut - from) (slice from to h) enough room from start last (rw first_part e)
 
   pub marked-led :
-      (n l : ℕ) → walk_in room from start last (slice from cut h) ≡ Led n l →
+      (n l : ℕ) → walk_in room from start last (slice from cut h) ≡ Some (n, l) →
       walk_cut room from start last (cut - from) (slice from to h) ≡ walk_in room cut n l (slice cut to h)
   marked-led n l e =
       let k : from + (cut - from) ≡ cut = omega arith in

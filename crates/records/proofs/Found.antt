@@ -3,7 +3,7 @@ use Prim.Native.Nat.{ℕ, ◌≤◌}
 use mathlib.Core.Path.{◌≡◌, refl, sym, ap, ◌∙◌}
 use mathlib.Core.Bool.{Bool, true, false, cond, ◌||◌}
 use mathlib.Core.List.{List, reverse_aux}
-use mathlib.Core.Option.{Option, none, some}
+use Rattle.std.specs.Prelude.{Option, None, Some}
 use native.Mathlib.Omega.{arith}
 use lib.ListN.{length, length-take}
 use borrow.Author.Tests.{ltb-false}
@@ -28,7 +28,7 @@ pub record Fit (s : State) (last : ℕ) : Type 0 where
   pub short-text : length s.text ≤ limit
   pub short-history : length s.history ≤ limit
   pub parted : Parted
-  pub found : records s ≡ some parted
+  pub found : records s ≡ Some parted
   pub sound : Sound s parted
   pub begins : last ≡ last_begin s.page.done parted.standing
   pub frame : Frame s.page s.text s.history
@@ -49,8 +49,8 @@ module _ (s : State) where
       (last : ℕ) (t : Bool) (x : Option Parted) → (over s.text || over s.history) ≡ t → records s ≡ x → Whole (Sound s) x →
       cond t (judged.Unfit (Refused OverLimit limit)) (judged_as s.page.done x) ≡ judged.Sound last → Fit s last
   fit-cases last true x q r w e = let z : ◌≡◌ {A = ℕ} 0 1 = cc in absurd (omega arith)
-  fit-cases last false none q r w e = let z : ◌≡◌ {A = ℕ} 0 1 = cc in absurd (omega arith)
-  fit-cases last false (some v) q r w e =
+  fit-cases last false None q r w e = let z : ◌≡◌ {A = ℕ} 0 1 = cc in absurd (omega arith)
+  fit-cases last false (Some v) q r w e =
       let p = or_parts (over s.text) (over s.history) q in
       record {
         short = q;
@@ -73,13 +73,13 @@ module _ (s : State) where
       {R : Type 0}
       (refuse : Verdict → R)
       (call : Option Parted → R)
-      (none-refused : call none ≡ refuse (numbered 14 0)) where
+      (none-refused : call None ≡ refuse (numbered 14 0)) where
     unfit-cases :
         (t : Bool) (x : Option Parted) → cond t (judged.Unfit (Refused OverLimit limit)) (judged_as s.page.done x) ≡ judged.Unfit a →
         cond t (refuse too_long) (call x) ≡ refuse (in_numbers a)
     unfit-cases true x e = let z : Refused OverLimit limit ≡ a = cc in ap (λ (b : Answer). refuse (in_numbers b)) z
-    unfit-cases false none e = let z : Refused Unsound 0 ≡ a = cc in none-refused ∙ ap (λ (b : Answer). refuse (in_numbers b)) z
-    unfit-cases false (some v) e = let z : ◌≡◌ {A = ℕ} 0 1 = cc in absurd (omega arith)
+    unfit-cases false None e = let z : Refused Unsound 0 ≡ a = cc in none-refused ∙ ap (λ (b : Answer). refuse (in_numbers b)) z
+    unfit-cases false (Some v) e = let z : ◌≡◌ {A = ℕ} 0 1 = cc in absurd (omega arith)
 
     pub unfit :
         {j : Judged} → j ≡ judge_of s → j ≡ judged.Unfit a →

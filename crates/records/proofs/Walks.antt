@@ -3,7 +3,7 @@ use Prim.Native.Nat.{ℕ, zero, suc, ◌+◌, ◌-◌, ◌≤◌, ◌<◌}
 use mathlib.Core.Path.{◌≡◌, refl, sym, ap, ◌∙◌}
 use mathlib.Core.Bool.{Bool, true, false, cond, ◌&&◌}
 use mathlib.Core.List.{List, [], ◌∷◌}
-use mathlib.Core.Option.{Option, none, some}
+use Rattle.std.specs.Prelude.{Option, None, Some}
 use native.Mathlib.Omega.{arith}
 use native.Mathlib.Numerals.{add-one}
 use lib.ListN.{length, get_or, take, drop, length-drop, drop_of_length-le}
@@ -12,9 +12,7 @@ use lib.Dec.{leb}
 use lib.Bits.{bit_or, or_add_and, or_comm, and_le_r}
 use borrow.Author.Tests.{le-leb, lt-leb, eq-eqb, ne_eqb}
 use Rattle.ledger.specs.Words.{Entry, size_of, onto, records_in, length_after, lengths_fit, reached, zeros}
-use Rattle.records.specs.declared.Walk.{Walk}
-use Rattle.records.specs.declared.Walk.TheVariants.{Broken, Led}
-use Rattle.records.specs.Walking.{walk_of, walk_in}
+use Rattle.records.specs.Walking.{Walk, walk_of, walk_in}
 
 -- elements that are all 0, from a place on
 module _ (s : List ℕ) (i : ℕ) where
@@ -57,7 +55,7 @@ records-enough (suc n) (suc m) (x ∷ y ∷ []) p q = refl
 records-enough (suc n) (suc m) (x ∷ r ∷ a ∷ ws) p q =
     rw (records-enough n m (drop (r + a) ws) (omega (arith, length-drop (r + a) ws)) (omega (arith, length-drop (r + a) ws)))
 
-broken-both : (t : Bool) → cond t Broken Broken ≡ Broken
+broken-both : (t : Bool) → ◌≡◌ {A = Walk} (cond t None None) None
 broken-both true = refl
 broken-both false = refl
 
@@ -69,14 +67,14 @@ cond-and false u x y = refl
 onto-walk :
     (room at len last : ℕ) (e : Entry) (x : Option (List Entry)) →
     walk_of room at len last (onto e x)
-    ≡ cond (leb (e.place + length e.removed) len && leb (length_after len e) room) (walk_of room (at + size_of e) (length_after len e) at x) Broken
+    ≡ cond (leb (e.place + length e.removed) len && leb (length_after len e) room) (walk_of room (at + size_of e) (length_after len e) at x) None
 unfolding lengths_fit reached
-onto-walk room at len last e none = sym (broken-both (leb (e.place + length e.removed) len && leb (length_after len e) room))
-onto-walk room at len last e (some es) =
+onto-walk room at len last e None = sym (broken-both (leb (e.place + length e.removed) len && leb (length_after len e) room))
+onto-walk room at len last e (Some es) =
     cond-and (leb (e.place + length e.removed) len && leb (length_after len e) room) (lengths_fit room (length_after len e) es) _ _
 
 -- fewer words than a record's first three
-pub words-cut : (room at len last : ℕ) (ws : List ℕ) → 0 < length ws → length ws < 3 → walk_in room at len last ws ≡ Broken
+pub words-cut : (room at len last : ℕ) (ws : List ℕ) → 0 < length ws → length ws < 3 → walk_in room at len last ws ≡ None
 unfolding records_in
 words-cut room at len last [] p q = absurd (omega arith)
 words-cut room at len last (x ∷ []) p q = refl
@@ -84,14 +82,14 @@ words-cut room at len last (x ∷ y ∷ []) p q = refl
 words-cut room at len last (x ∷ y ∷ z ∷ ws) p q = absurd (omega arith)
 
 module _ (room at len last p r a : ℕ) (ws : List ℕ) where
-  pub words-past : length ws < r + a → walk_in room at len last (p ∷ r ∷ a ∷ ws) ≡ Broken
+  pub words-past : length ws < r + a → walk_in room at len last (p ∷ r ∷ a ∷ ws) ≡ None
   unfolding records_in
   words-past q = rw (lt-leb (r + a) (length ws) q)
 
   pub words-here :
       r + a ≤ length ws →
       walk_in room at len last (p ∷ r ∷ a ∷ ws)
-      ≡ cond (leb (p + r) len && leb (len - r + a) room) (walk_in room (at + (3 + r + a)) (len - r + a) at (drop (r + a) ws)) Broken
+      ≡ cond (leb (p + r) len && leb (len - r + a) room) (walk_in room (at + (3 + r + a)) (len - r + a) at (drop (r + a) ws)) None
   unfolding records_in
   words-here q =
       let lr : length (take r ws) ≡ r = length-take-le r ws (omega arith) in
@@ -108,11 +106,11 @@ module _ (h : List ℕ) (to room at len last : ℕ) (fits : to ≤ length h) whe
   abbrev here : Walk
   here = walk_in room at len last (slice at to h)
 
-  pub walk_end : to ≤ at → here ≡ Led len last
+  pub walk_end : to ≤ at → here ≡ Some (len, last)
   unfolding records_in lengths_fit reached
   walk_end q = rw (drop_of_length-le (take to h) {i = at} (omega (arith, length-take-le to h fits)))
 
-  pub walk-cut : at < to → to - at < 3 → here ≡ Broken
+  pub walk-cut : at < to → to - at < 3 → here ≡ None
   walk-cut p q = words-cut room at len last (slice at to h) (omega (arith, length-slice at to h fits)) (omega (arith, length-slice at to h fits))
 
   next_word : (k : ℕ) → k < to → slice k to h ≡ get_or h k 0 ∷ slice (k + 1) to h
@@ -132,7 +130,7 @@ module _ (h : List ℕ) (to room at len last : ℕ) (fits : to ≤ length h) whe
     length_rest : length rest ≡ to - at - 3
     length_rest = omega (arith, length-slice (at + 3) to h fits)
 
-    pub walk-past : to - at < 3 + removed + added → here ≡ Broken
+    pub walk-past : to - at < 3 + removed + added → here ≡ None
     walk-past q = rw first_three (words-past room at len last place removed added rest (omega (arith, length_rest)))
 
     module _ (whole : 3 + removed + added ≤ to - at) where
@@ -147,13 +145,13 @@ module _ (h : List ℕ) (to room at len last : ℕ) (fits : to ≤ length h) whe
           let n : at + 3 + (removed + added) ≡ next = omega arith in
           drop-drop (removed + added) (at + 3) (take to h) ∙ ap (λ (k : ℕ). slice k to h) n
 
-      stepped : here ≡ cond (leb (place + removed) len && leb after room) (walk_in room next after at (slice next to h)) Broken
+      stepped : here ≡ cond (leb (place + removed) len && leb after room) (walk_in room next after at (slice next to h)) None
       stepped = rw (first_three, ← rest-next) (words-here room at len last place removed added rest (omega (arith, length_rest)))
 
-      pub walk-beyond : len < place + removed → here ≡ Broken
+      pub walk-beyond : len < place + removed → here ≡ None
       walk-beyond q = stepped ∙ rw (lt-leb (place + removed) len q)
 
-      pub walk-long : place + removed ≤ len → room < after → here ≡ Broken
+      pub walk-long : place + removed ≤ len → room < after → here ≡ None
       walk-long q t = stepped ∙ rw (le-leb (place + removed) len q, lt-leb after room t)
 
       pub walk-next : place + removed ≤ len → after ≤ room → here ≡ walk_in room next after at (slice next to h)

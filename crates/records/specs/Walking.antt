@@ -1,6 +1,5 @@
 -- What the code finds of a page's records, over their definition in the crate ledger.
-use Rattle.std.specs.Prelude.{ℕ, ◌+◌, ◌-◌, cond, ◌||◌, List, [], ◌∷◌, length}
-use Rattle.std.proofs.Math.Option.{Option, none, some}
+use Rattle.std.specs.Prelude.{ℕ, ◌+◌, ◌-◌, cond, ◌||◌, List, [], ◌∷◌, length, Option, None, Some}
 use Rattle.std.proofs.Math.Seq.{slice}
 use Rattle.answer.specs.Answer.{limit}
 use Rattle.answer.specs.declared.Refusal.TheVariants.{Unsound, OverLimit}
@@ -10,10 +9,12 @@ use Rattle.ledger.specs.Parts.{ending_at}
 use Rattle.ledger.specs.Page.{State, records}
 use Rattle.ledger.specs.Calls.{over}
 use Rattle.records.specs.declared.Spot.{Spot}
-use Rattle.records.specs.declared.Walk.{Walk}
-use Rattle.records.specs.declared.Walk.TheVariants.{Broken, Led}
 use Rattle.records.specs.declared.Judged.{Judged}
 use Rattle.records.specs.declared.Judged.TheVariants.{Unfit, Sound}
+
+-- the length that records lead to, and the word where the last of them begins; none where they do not fit
+abbrev pub Walk : Type 0
+Walk = Option (ℕ × ℕ)
 
 -- where the last of some records begins, the first of them at a word; `last` where there are none
 abbrev pub last_from : ℕ → ℕ → List Entry → ℕ
@@ -22,8 +23,8 @@ last_from at last (e ∷ es) = last_from (at + size_of e) at es
 
 -- a walk over records from a word, a length and a last record on
 abbrev pub walk_of : ℕ → ℕ → ℕ → ℕ → Option (List Entry) → Walk
-walk_of room at len last none = Broken
-walk_of room at len last (some es) = cond (lengths_fit room len es) (Led (reached len es) (last_from at last es)) Broken
+walk_of room at len last None = None
+walk_of room at len last (Some es) = cond (lengths_fit room len es) (Some (reached len es, last_from at last es)) None
 
 abbrev pub walk_in : ℕ → ℕ → ℕ → ℕ → List ℕ → Walk
 walk_in room at len last words = walk_of room at len last (records_in (length words) words)
@@ -41,13 +42,18 @@ abbrev pub last_begin : ℕ → List Entry → ℕ
 last_begin done [] = done
 last_begin done (e ∷ back) = done - size_of e
 
+-- where the last standing record of a sound page begins
+abbrev pub last_of : ℕ → Option Parted → Option ℕ
+last_of done None = None
+last_of done (Some v) = Some (last_begin done v.standing)
+
 -- 14, or where the last standing record begins
-abbrev pub unsound : Judged
-unsound = Unfit (Refused Unsound 0)
+abbrev pub judged_of : Option ℕ → Judged
+judged_of None = Unfit (Refused Unsound 0)
+judged_of (Some last) = Sound last
 
 abbrev pub judged_as : ℕ → Option Parted → Judged
-judged_as done none = unsound
-judged_as done (some v) = Sound (last_begin done v.standing)
+judged_as done x = judged_of (last_of done x)
 
 -- 16 comes first
 unfoldable pub judge_of : State → Judged

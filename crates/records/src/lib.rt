@@ -7,18 +7,10 @@ ghost use Rattle.answer.specs.Answer.{limit};
 ghost use Rattle.ledger.specs.Words.{zeros};
 ghost use Rattle.ledger.specs.Page.{state_of, records};
 ghost use Rattle.ledger.specs.Parts.{mark_within, cut_in, bounded};
-ghost use Rattle.records.specs.Walking.{walk_in, walk_cut, walk_from, unsound, judged_as, judge_of};
+ghost use Rattle.records.specs.Walking.{walk_in, walk_cut, walk_from, last_of, judge_of};
 
 use answer::{Answer, Refusal};
-use editor::Mark;
 use ledger::Page;
-
-// Where records one after another lead: the length reached, and the word where the last of them begins. Or they do not fit.
-#[derive(Clone, Copy)]
-pub enum Walk {
-    Broken,
-    Led(usize, usize),
-}
 
 // Where a walk over records stands: at a word, with a length, and where the last record passed begins.
 #[derive(Clone, Copy)]
@@ -126,7 +118,8 @@ fn past_alike(
     Spot { at, len, last }
 }
 
-// The records from one word to another, from a length on, where the record before begins at a word. No length may exceed the room.
+// The records from one word to another, from a length on, where the record before begins at a word: the length that they
+// lead to, and the word where the last of them begins. None where they do not fit; no length may exceed the room.
 fn walk_records(
     history: &[u32],
     from: usize,
@@ -134,7 +127,7 @@ fn walk_records(
     start: usize,
     before: usize,
     room: usize,
-) -> Walk
+) -> Option<(usize, usize)>
     requires { (from ≤ to) × (to ≤ length history.now) × (length history.now ≤ limit) × (start ≤ room) × (room ≤ limit) }
     ensures { result ≡ walk_in room from start before (slice from to history.now) }
 {
@@ -143,21 +136,21 @@ fn walk_records(
     let mut last = before;
     while at < to {
         if to - at < 3 {
-            return Walk::Broken;
+            return None;
         }
         let place = wide(history[at]);
         let removed = wide(history[at + 1]);
         let added = wide(history[at + 2]);
         let size = 3 + removed + added;
         if to - at < size {
-            return Walk::Broken;
+            return None;
         }
         if len < place + removed {
-            return Walk::Broken;
+            return None;
         }
         let after = len - removed + added;
         if room < after {
-            return Walk::Broken;
+            return None;
         }
         let end = at + size;
         let next = Spot {
@@ -170,23 +163,17 @@ fn walk_records(
         len = run.len;
         last = run.last;
     }
-    Walk::Led(len, last)
+    Some((len, last))
 }
 
 // The word at which the mark cuts those from one to another: its own if it is among them, else the first.
-pub fn cut_in(mark: Mark, from: usize, to: usize) -> usize
+pub fn cut_in(mark: Option<usize>, from: usize, to: usize) -> usize
     ensures { result ≡ cut_in mark from to }
 {
-    let Mark::At(n) = mark else {
-        return from;
-    };
-    if n < from {
-        return from;
+    match mark {
+        Some(n) if from <= n && n <= to => n,
+        _ => from,
     }
-    if to < n {
-        return from;
-    }
-    n
 }
 
 // The records from one word to another, where a mark among those words is the end of one of them: the walk is cut there.
@@ -196,94 +183,67 @@ fn walk_marked(
     to: usize,
     start: usize,
     room: usize,
-    mark: Mark,
-) -> Walk
+    mark: Option<usize>,
+) -> Option<(usize, usize)>
     requires { (from ≤ to) × (to ≤ length history.now) × (length history.now ≤ limit) × (start ≤ room) × (room ≤ limit) }
     ensures { result ≡ walk_cut room from start from (cut_in mark from to - from) (slice from to history.now) }
 {
     let cut = cut_in(mark, from, to);
-    let first = walk_records(history, from, cut, start, from, room);
-    let Walk::Led(len, last) = first else {
-        return Walk::Broken;
-    };
+    let (len, last) = walk_records(history, from, cut, start, from, room)?;
     walk_records(history, cut, to, len, last, room)
 }
 
 // Whether the mark is of the words used.
-pub fn mark_within(mark: Mark, used: usize) -> bool
+pub fn mark_within(mark: Option<usize>, used: usize) -> bool
     ensures { result ≡ mark_within used mark }
 {
-    let Mark::At(n) = mark else {
-        return true;
-    };
-    n <= used
+    match mark {
+        Some(n) => n <= used,
+        None => true,
+    }
 }
 
 // Whether the lengths fit, everything past the ends is 0, and the words done and the mark are of those used.
+#[tactic(auto, unfolding(ledger::specs::Page::framed))]
 fn within(page: Page, text: &[u32], history: &[u32]) -> bool
     ensures { result ≡ bounded (state_of page text.now history.now) }
 {
-    if text.len() < page.opening {
-        return false;
-    }
-    if text.len() < page.length {
-        return false;
-    }
-    if history.len() < page.used {
-        return false;
-    }
-    if !zero_from(text, page.length) {
-        return false;
-    }
-    if !zero_from(history, page.used) {
-        return false;
-    }
-    if page.used < page.done {
-        return false;
-    }
-    let saved = page.saved;
-    mark_within(saved, page.used)
+    page.opening <= text.len()
+        && page.length <= text.len()
+        && page.used <= history.len()
+        && zero_from(text, page.length)
+        && zero_from(history, page.used)
+        && page.done <= page.used
+        && mark_within(page.saved, page.used)
 }
 
-fn not_sound() -> Judged
-    ensures { result ≡ unsound }
-{
-    Judged::Unfit(Answer::Refused(Refusal::Unsound, 0))
-}
-
-// The records that stand lead to the page's length, and those undone follow from there; the mark is among the ends of both.
-fn survey(page: Page, text: &[u32], history: &[u32]) -> Judged
+// Where the last standing record begins. The records that stand lead to the page's length, and those undone follow from
+// there; the mark is among the ends of both. None where the page is not sound.
+fn survey(page: Page, text: &[u32], history: &[u32]) -> Option<usize>
     requires { (length text.now ≤ limit) × (length history.now ≤ limit) }
-    ensures { result ≡ judged_as page.done (records (state_of page text.now history.now)) }
+    ensures { result ≡ last_of page.done (records (state_of page text.now history.now)) }
 {
     if !within(page, text, history) {
-        return not_sound();
+        return None;
     }
     let room = text.len();
-    let saved = page.saved;
-    let standing = walk_marked(history, 0, page.done, page.opening, room, saved);
-    let Walk::Led(reached, last) = standing else {
-        return not_sound();
-    };
+    let (reached, last) = walk_marked(history, 0, page.done, page.opening, room, page.saved)?;
     if reached != page.length {
-        return not_sound();
+        return None;
     }
-    let undone = walk_marked(history, page.done, page.used, page.length, room, saved);
-    let Walk::Led(_, _) = undone else {
-        return not_sound();
-    };
-    Judged::Sound(last)
+    walk_marked(history, page.done, page.used, page.length, room, page.saved)?;
+    Some(last)
 }
 
 // 16, then 14, then where the last standing record begins.
 pub fn judge(page: Page, text: &[u32], history: &[u32]) -> Judged
     ensures { result ≡ judge_of (state_of page text.now history.now) }
 {
-    if answer::over_limit(text.len()) {
+    if answer::over_limit(text.len()) || answer::over_limit(history.len()) {
         return Judged::Unfit(answer::too_long());
     }
-    if answer::over_limit(history.len()) {
-        return Judged::Unfit(answer::too_long());
+    match survey(page, text, history) {
+        Some(last) => Judged::Sound(last),
+        None => Judged::Unfit(Answer::Refused(Refusal::Unsound, 0)),
     }
-    survey(page, text, history)
 }

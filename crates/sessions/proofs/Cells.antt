@@ -3,7 +3,7 @@ use Prim.Native.Nat.{ℕ, zero, suc, ◌+◌, ◌<◌, ◌^◌}
 use mathlib.Core.Path.{◌≡◌, ◌∙◌}
 use mathlib.Core.Bool.{true, ◌||◌, false≢true}
 use mathlib.Core.List.{List, [], ◌∷◌, ◌++◌}
-use mathlib.Core.Option.{Option, none, some}
+use Rattle.std.specs.Prelude.{Option, None, Some}
 use native.Mathlib.Omega.{arith}
 use lib.ListN.{length, take, drop, length-append, length-take, length-drop}
 use lib.Dec.{ltb}
@@ -116,8 +116,8 @@ module _ (place count : ℕ) (cells : List ℕ) where
 
     call-shows : (found : Option Editor) → Outcomes (call_on layout s (replace place count cells) found)
     unfolding call_on
-    call-shows none = λ ok. absurd (false≢true ok)
-    call-shows (some e) = turn-shows (layout.space_in s) e
+    call-shows None = λ ok. absurd (false≢true ok)
+    call-shows (Some e) = turn-shows (layout.space_in s) e
 
     replace-shows : Outcomes (outcome_of layout s (replace place count cells))
     unfolding outcome_of

@@ -3,7 +3,7 @@ use Prim.Native.Nat.{ℕ, ◌+◌, ◌≤◌, ◌<◌, ◌^◌}
 use mathlib.Core.Path.{◌≡◌, refl, ap, subst}
 use mathlib.Core.Bool.{true}
 use mathlib.Core.List.{List, [], ◌∷◌, ◌++◌, reverse_aux, reverse, reverse_aux-eq, cons≢nil}
-use mathlib.Core.Option.{Option, none, some}
+use Rattle.std.specs.Prelude.{Option, None, Some}
 use native.Mathlib.Omega.{arith}
 use lib.ListN.{length}
 use lib.Dec.{lit<}
@@ -118,16 +118,16 @@ module _ {arrived : List ℕ} {s : State} {l : Ledger} (k : Kept page-lays arriv
 
   -- the records that are found are the editor's
   found_some :
-      (x : Option Parted) → editor_for s x ≡ some here → (v : Parted) × (x ≡ some v) × (v.standing ≡ here.standing)
-  found_some none e =
+      (x : Option Parted) → editor_for s x ≡ Some here → (v : Parted) × (x ≡ Some v) × (v.standing ≡ here.standing)
+  found_some None e =
       let z : ◌≡◌ {A = ℕ} 0 1 = cc in
       absurd (omega arith)
-  found_some (some v) e =
+  found_some (Some v) e =
       let f = some_is _ _ e in
       (v, refl, ap (λ (e : Editor). e.standing) f)
     where
-      some_is : (a b : Editor) → some a ≡ some b → a ≡ b
+      some_is : (a b : Editor) → Some a ≡ Some b → a ≡ b
       some_is a b e = cc
 
-  pub found_here : (v : Parted) × (records s ≡ some v) × (v.standing ≡ here.standing)
+  pub found_here : (v : Parted) × (records s ≡ Some v) × (v.standing ≡ here.standing)
   found_here = found_some (records s) (page-lays.sees k.lies)

@@ -5,7 +5,7 @@ use mathlib.Core.Bool.{true}
 use mathlib.Core.List.{List, map}
 use Rattle.codec.proofs.Bounds.{cells-read}
 use Rattle.codec.specs.declared.Kind.{Kind}
-use Rattle.editor.specs.Ledger.{Ledger, opened}
+use Rattle.editor.specs.Ledger.{opened}
 use Rattle.editor.specs.Layout.{taken}
 use Rattle.editor.proofs.Promises.{promised}
 use Rattle.ledger.specs.Page.{State}

@@ -3,7 +3,7 @@ use Prim.Native.Nat.{ℕ, ◌+◌, ◌≤◌}
 use mathlib.Core.Path.{◌≡◌, sym, ap, subst}
 use mathlib.Core.Bool.{Bool, true, ◌&&◌}
 use mathlib.Core.List.{List, [], ◌∷◌}
-use mathlib.Core.Option.{some}
+use Rattle.std.specs.Prelude.{Some}
 use native.Mathlib.Omega.{arith}
 use lib.ListN.{length, length-append, length-take, length-drop}
 use lib.Dec.{leb}
@@ -19,8 +19,8 @@ use Rattle.ledger.proofs.Words.{words, records-words}
 pub same-words : (es fs : List Entry) → words es ≡ words fs → es ≡ fs
 same-words es fs e =
     let n : ℕ = length (words es) in
-    let here : records_in n (words es) ≡ some es = records-words n es (omega arith) in
-    let there : records_in n (words fs) ≡ some fs = records-words n fs (omega (arith, ap length e)) in
+    let here : records_in n (words es) ≡ Some es = records-words n es (omega arith) in
+    let there : records_in n (words fs) ≡ Some fs = records-words n fs (omega (arith, ap length e)) in
     cc
 
 -- steps that fit one room, whose records fit another, fit that

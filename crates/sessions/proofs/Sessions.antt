@@ -17,7 +17,6 @@ use Rattle.ledger.specs.Words.{in_words}
 use Rattle.ledger.specs.Page.{State, Outcome}
 use Rattle.ledger.specs.Layout.{page}
 use Rattle.ledger.specs.Calls.{over, outcome_of}
-use Rattle.ledger.specs.Running as calls
 use Rattle.ledger.proofs.Lying.{page-lays}
 use Rattle.parsing.specs.Parsing.{literal}
 use Rattle.page_file.specs.Reading.{parse}

@@ -1,29 +1,20 @@
 -- Laws of moving, copying and clearing part of a list, a turn of a loop at a time, and of the edit made of them. Assumes nothing.
-use Prim.Native.Nat.{ℕ, zero, suc, ◌+◌, ◌-◌, ◌≤◌, ◌<◌}
+use Prim.Native.Nat.{ℕ, zero, suc, ◌+◌, ◌-◌, ◌≤◌}
 use mathlib.Core.Path.{◌≡◌, refl, sym, ap, ◌∙◌}
 use mathlib.Core.Bool.{true, false, ◌&&◌}
-use mathlib.Core.List.{List, [], ◌∷◌, ◌++◌, append_assoc, append-nil}
-use native.Mathlib.Nat.{sub-zero, zero-sub, suc-sub-suc, add-zero, le_of_suc-le-suc}
-use native.Mathlib.Numerals.{add-one}
+use mathlib.Core.List.{List, ◌++◌, append_assoc, append-nil}
+use native.Mathlib.Nat.{sub-zero, zero-sub, suc-sub-suc, le_of_suc-le-suc}
 use native.Mathlib.Omega.{arith}
-use lib.ListN.{length, get_or, take, drop, set, replicate, length-take, length-drop, length-append, length-replicate, get_or-replicate, get_or-append, drop_of_length-le, take-append-drop}
-use lib.Seq.{take-take, take-add, drop-drop, take-length, take-append-le, take_at, drop_at, paste, paste-zero, paste-suc, drop-paste, get_or-drop, get_or-take, take-suc, drop-cons, set_at, length-take-le}
+use lib.ListN.{length, take, drop, replicate, length-take, length-drop, length-append, length-replicate, drop_of_length-le}
+use lib.Seq.{take-take, drop-drop, take-length, take-append-le, take_at, drop_at, paste, length-take-le}
 use lib.Dec.{leb}
 use borrow.Author.Tests.{le-leb, leb-true}
+use Rattle.std.proofs.lemmas.Slice.{put_mid-paste}
+use borrow.Rule.Slice.PartMut.{put_mid}
 use Rattle.answer.proofs.Below.{both}
 use Rattle.ledger.specs.Words.{pad}
 use Rattle.ledger.proofs.Words.{drop-take, zeros-are}
 use Rattle.splice.specs.Splice.{Filled, spliced, cleared, fitting, used_after, spliced_in, shifted_left}
-
--- elements moved to a place that is not after theirs, from the first on
-module _ (l s : List ℕ) (from to j : ℕ) (e : s ≡ paste l to (drop from l) j) where
-  pub left-turn : to ≤ from → from + j < length l → set s (to + j) (get_or s (from + j) 0) ≡ paste l to (drop from l) (j + 1)
-  left-turn h g =
-      let gap : to + j + (from - to) ≡ from + j = omega arith in
-      let short : j ≤ length (drop from l) = omega (arith, length-drop from l) in
-      let read : get_or s (from + j) 0 ≡ get_or (drop from l) j 0 =
-      rw (e, ← gap, ← get_or-drop (to + j) (paste l to (drop from l) j) (from - to) 0, drop-paste l to (drop from l) j (omega arith) short, get_or-drop (to + j) l (from - to) 0, gap, get_or-drop from l j 0) in
-      rw (read, e, add-one) (paste-suc l to (drop from l) j 0 (omega arith) (omega (arith, length-drop from l)))
 
 -- elements that are all there, to a place that is not after theirs
 pub shifted_in :
@@ -31,79 +22,18 @@ pub shifted_in :
 unfolding shifted_left
 shifted_in l from to n h k = rw (le-leb to from h, le-leb (from + n) (length l) k)
 
--- a paste that starts one place before
-paste-front : (l s : List ℕ) (at m v : ℕ) → at < length l → set (paste l (suc at) s m) at v ≡ paste l at (v ∷ s) (suc m)
-paste-front l s at m v h =
-    let more : suc at + m ≡ at + suc m = omega arith in
-    rw (take-suc l at 0 h, append_assoc, append_assoc, set_at (take at l) (get_or l at 0) (take m s ++ drop (suc at + m) l) v at (length-take-le at l (omega arith)), more, append_assoc)
-
--- elements moved to a place that is not before theirs, from the last on
-pub right-start : (l : List ℕ) (from to n : ℕ) → l ≡ paste l (to + n) (drop (from + n) l) (n - n)
-right-start l from to n =
-    let none : n - n ≡ 0 = omega arith in
-    rw none (paste-zero l (to + n) (drop (from + n) l))
-
-module _ (l : List ℕ) (from to n : ℕ) where
-  right-step :
-      (k : ℕ) → from ≤ to → to + n ≤ length l → k < n → (s : List ℕ) → s ≡ paste l (to + suc k) (drop (from + suc k) l) (n - suc k) →
-      set s (to + k) (get_or s (from + k) 0) ≡ paste l (to + k) (drop (from + k) l) (n - k)
-  right-step k h g lt s e =
-      let front : List ℕ = take (to + suc k) l in
-      let mid : List ℕ = take (n - suc k) (drop (from + suc k) l) in
-      let inside : from + k < length front = omega (arith, length-take-le (to + suc k) l (omega arith)) in
-      let read : get_or s (from + k) 0 ≡ get_or l (from + k) 0 =
-      ap (λ (x : List ℕ). get_or x (from + k) 0) e
-      ∙ get_or-append (front ++ mid) (drop (to + suc k + (n - suc k)) l) 0 (from + k) (omega (arith, length-append front mid))
-      ∙ get_or-append front mid 0 (from + k) inside
-      ∙ get_or-take (to + suc k) l (from + k) 0 (omega arith) in
-      let at : to + suc k ≡ suc (to + k) = omega arith in
-      let next : from + suc k ≡ suc (from + k) = omega arith in
-      let count : suc (n - suc k) ≡ n - k = omega arith in
-      ap (set s (to + k)) read
-      ∙ (λ i. set ((e ∙ (λ j. paste l (at j) (drop (next j) l) (n - suc k))) i) (to + k) (get_or l (from + k) 0))
-      ∙ paste-front l (drop (suc (from + k)) l) (to + k) (n - suc k) (get_or l (from + k) 0) (omega arith)
-      ∙ (λ i. paste l (to + k) (sym (drop-cons l (from + k) 0 (omega arith)) i) (count i))
-
-  module _ (s : List ℕ) (k : ℕ) (e : s ≡ paste l (to + k) (drop (from + k) l) (n - k)) where
-    pub right-turn :
-        from ≤ to → to + n ≤ length l → 0 < k → k ≤ n →
-        set s (to + (k - 1)) (get_or s (from + (k - 1)) 0) ≡ paste l (to + (k - 1)) (drop (from + (k - 1)) l) (n - (k - 1))
-    right-turn h g pos le =
-        let same : k ≡ suc (k - 1) = omega arith in
-        right-step (k - 1) h g (omega arith) s (e ∙ ap (λ (m : ℕ). paste l (to + m) (drop (from + m) l) (n - m)) same)
-
-    pub right_end : k ≡ 0 → s ≡ paste l to (drop from l) n
-    right_end z = e ∙ rw (z, add-zero, add-zero, sub-zero)
-
--- elements that stand there already
-pub move_same : (l : List ℕ) (at n : ℕ) → paste l at (drop at l) n ≡ l
-move_same l at n = rw (← take-add at n l) (take-append-drop (at + n) l)
-
-pub copy-turn :
-    (l s cells : List ℕ) (at j : ℕ) → s ≡ paste l at cells j → at + j < length l → j < length cells → set s (at + j) (get_or cells j 0) ≡ paste l at cells (j + 1)
-copy-turn l s cells at j e h g = rw (e, add-one) (paste-suc l at cells j 0 h g)
-
 -- zeros put from a place on
 take-replicate : (n m : ℕ) → n ≤ m → take n (replicate m 0) ≡ replicate {A = ℕ} n 0
 take-replicate zero m h = refl
 take-replicate (suc n) zero h = absurd (omega arith)
 take-replicate (suc n) (suc m) h = rw (take-replicate n m (le_of_suc-le-suc h))
 
-pub clear-start : (l : List ℕ) (at : ℕ) → l ≡ cleared at at l
-clear-start l at =
-    let none : at - at ≡ 0 = omega arith in
-    rw none (paste-zero l at (replicate (length l) 0))
-
-module _ (l s : List ℕ) (at i : ℕ) (e : s ≡ cleared at i l) (h : at ≤ i) where
-  pub clear-turn : i < length l → set s i 0 ≡ cleared at (i + 1) l
-  clear-turn g =
-      let zs : List ℕ = replicate (length l) 0 in
-      let place : at + (i - at) ≡ i = omega arith in
-      let blank : ◌≡◌ {A = ℕ} (get_or zs (i - at) 0) 0 = get_or-replicate (length l) (i - at) 0 0 (omega arith) in
-      let count : suc (i - at) ≡ i + 1 - at = omega arith in
-      (λ j. set (e j) (sym place j) (sym blank j))
-      ∙ paste-suc l at zs (i - at) 0 (omega arith) (omega (arith, length-replicate {A = ℕ} (length l) 0))
-      ∙ ap (paste l at zs) count
+pub cleared-is :
+    (l ys : List ℕ) (at to : ℕ) → to ≤ length l → ys ≡ replicate (to - at) 0 →
+    put_mid at (to - at) l ys ≡ cleared at to l
+cleared-is l ys at to h e =
+    put_mid-paste at (to - at) l ys (replicate (to - at) 0) (to - at) e refl (sym (length-replicate (to - at) 0))
+    ∙ rw (take-replicate (to - at) (to - at) (omega arith), take-replicate (to - at) (length l) (omega arith))
 
 -- all from a place on
 pub clear-all : (l : List ℕ) (at : ℕ) → cleared at (length l) l ≡ pad (length l) (take at l)

@@ -6,68 +6,14 @@ ghost use Rattle.std.proofs.Math.Seq.{paste};
 ghost use Rattle.ledger.specs.Words.{pad};
 ghost use Rattle.splice.specs.Splice.{spliced, cleared, fitting, used_after, spliced_in, shifted_left};
 
-// Moves n elements to a place that is not after theirs.
-fn move_left(s: &mut [u32], from: usize, to: usize, n: usize)
-    requires { (to ≤ from) × (from + n ≤ length s.old) }
-    ensures { s.new ≡ paste s.old to (drop from s.old) n }
-{
-    let mut j = 0;
-    while j < n {
-        s[to + j] = s[from + j];
-        j += 1;
-    }
-}
-
 // Moves n elements to a place that is not after theirs. Where they are not all there, or the place is after theirs,
 // nothing is changed.
+#[tactic(auto, unfolding(crate::specs::Splice::shifted_left))]
 pub fn shift_left(s: &mut [u32], from: usize, to: usize, n: usize)
     ensures { s.new ≡ shifted_left from to n s.old }
 {
-    if from < to {
-        return;
-    }
-    if s.len() < from {
-        return;
-    }
-    if s.len() - from < n {
-        return;
-    }
-    move_left(&mut *s, from, to, n);
-}
-
-// Moves n elements to a place that is not before theirs, the last one first.
-fn move_right(s: &mut [u32], from: usize, to: usize, n: usize)
-    requires { (from ≤ to) × (to + n ≤ length s.old) }
-    ensures { s.new ≡ paste s.old to (drop from s.old) n }
-{
-    let mut k = n;
-    while 0 < k {
-        k -= 1;
-        s[to + k] = s[from + k];
-    }
-}
-
-// Moves n elements. Where they stand there already, as for a step that puts as many cells as it takes, nothing is to be done.
-fn move_part(s: &mut [u32], from: usize, to: usize, n: usize)
-    requires { (from + n ≤ length s.old) × (to + n ≤ length s.old) }
-    ensures { s.new ≡ paste s.old to (drop from s.old) n }
-{
-    if to < from {
-        move_left(&mut *s, from, to, n);
-    } else if from < to {
-        move_right(&mut *s, from, to, n);
-    }
-}
-
-// Puts cells at a place, over what stands there.
-fn copy_at(s: &mut [u32], at: usize, cells: &[u32])
-    requires { at + length cells.now ≤ length s.old }
-    ensures { s.new ≡ paste s.old at cells.now (length cells.now) }
-{
-    let mut j = 0;
-    while j < cells.len() {
-        s[at + j] = cells[j];
-        j += 1;
+    if to <= from && from <= s.len() && n <= s.len() - from {
+        s.copy_within(from..from + n, to);
     }
 }
 
@@ -76,10 +22,8 @@ fn clear_part(s: &mut [u32], at: usize, to: usize)
     requires { to ≤ length s.old }
     ensures { s.new ≡ cleared at to s.old }
 {
-    let mut i = at;
-    while i < to {
-        s[i] = 0;
-        i += 1;
+    if at < to {
+        s[at..to].fill(0);
     }
 }
 
@@ -92,22 +36,11 @@ pub fn clear_from(s: &mut [u32], at: usize)
 }
 
 // Whether so many cells can be put for `count` at a place of the elements in use, in a buffer of this length.
+#[tactic(auto, unfolding(crate::specs::Splice::fitting))]
 fn is_fitting(used: usize, place: usize, count: usize, new: usize, room: usize) -> bool
     ensures { result ≡ fitting used place count new room }
 {
-    if used < count {
-        return false;
-    }
-    if used - count < place {
-        return false;
-    }
-    if room < used {
-        return false;
-    }
-    if room - (used - count) < new {
-        return false;
-    }
-    true
+    count <= used && place <= used - count && used <= room && new <= room - (used - count)
 }
 
 // The tail is moved once, the cells are copied in, and what was in use past the new end is cleared.
@@ -124,10 +57,9 @@ fn splice_fitting(
 {
     let from = place + count;
     let to = place + cells.len();
-    let tail = used - from;
-    move_part(&mut *buffer, from, to, tail);
-    copy_at(&mut *buffer, place, cells);
-    let end = to + tail;
+    buffer.copy_within(from..used, to);
+    buffer[place..to].copy_from_slice(cells);
+    let end = to + (used - from);
     clear_part(&mut *buffer, end, used);
     end
 }

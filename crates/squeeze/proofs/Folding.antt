@@ -1,19 +1,18 @@
 -- The oldest records of a sound page, as its words have them, and what a squeeze comes to there. Assumes nothing.
 use Prim.Native.Nat.{ℕ, ◌+◌, ◌-◌, ◌≤◌, ◌<◌}
-use mathlib.Core.Path.{◌≡◌, refl, sym, ap, ◌∙◌, subst₂}
+use mathlib.Core.Path.{◌≡◌, refl, sym, ap, ◌∙◌}
 use mathlib.Core.Bool.{Bool, true, false, cond, ◌||◌}
-use mathlib.Core.List.{List, [], ◌∷◌, ◌++◌, map, reverse_aux, reverse, reverse_aux-eq, reverse-append, append-nil}
-use mathlib.Core.Option.{some}
+use mathlib.Core.List.{List, [], ◌∷◌, ◌++◌, reverse_aux, reverse, reverse_aux-eq, reverse-append, append-nil}
+use Rattle.std.specs.Prelude.{Some}
 use native.Mathlib.Omega.{arith}
 use native.Mathlib.Nat.{zero-add}
-use lib.ListN.{length, take, drop, length-append, length-reverse, length-drop, length-take, take-append-drop}
+use lib.ListN.{length, take, drop, length-reverse, length-drop, length-take, take-append-drop}
 use lib.Seq.{slice, take_at, drop_at, take-take, length-take-le}
 use lib.Dec.{ltb, leb}
 use borrow.Author.Tests.{le-ltb, lt-ltb, le-leb, lt-leb}
 use Rattle.answer.specs.Answer.{limit, numbered, in_numbers}
 use Rattle.answer.specs.declared.Answer.{Answer}
 use Rattle.answer.specs.Output.{filled}
-use Rattle.answer.proofs.Below.{cond-case}
 use Rattle.editor.specs.Marks.{folded_mark}
 use Rattle.editor.specs.Ledger.{squeeze}
 use Rattle.editor.specs.Records.{Entry, text_before}
@@ -21,7 +20,7 @@ use Rattle.editor.specs.Editor as editor
 use Rattle.editor.specs.Editor.{Editor, Turn, oldest, later, squeeze_to, squeeze_oldest}
 use Rattle.editor.specs.Layout.{refusing, laid, call_on, outcome_of}
 use Rattle.editor.proofs.Lengths.{text_from, before-from, length_from, reached-fits}
-use Rattle.editor.proofs.Folded.{fits-old, fits-new, reach-new, length-added, length_removed}
+use Rattle.editor.proofs.Folded.{fits-old, fits-new, reach-new}
 use Rattle.editor.proofs.Held.{Legal}
 use Rattle.ledger.specs.Words.{Parted, in_words, words_of, size_of, sizes, records_in, lengths_fit, reached}
 use Rattle.ledger.specs.Page.{State, text_in, records, keeps}
@@ -59,7 +58,7 @@ module _
     (small : room ≤ limit)
     (fits : lengths_fit room n es ≡ true)
     (reach : length text ≡ reached n es) where
-  found : records_in (length (slice from to history)) (slice from to history) ≡ some es
+  found : records_in (length (slice from to history)) (slice from to history) ≡ Some es
   found = rw (← tiles) (records-words (length (words es)) es (omega arith))
 
   pub entries-are : entries_in from to history ≡ es
@@ -268,7 +267,7 @@ module _
     (v : Parted)
     (h : Sound s v)
     (short : (over s.text || over s.history) ≡ false)
-    (found : records s ≡ some v)
+    (found : records s ≡ Some v)
     (small : length s.text ≤ limit)
     (k : ℕ)
     (work : List ℕ) where

@@ -1,6 +1,6 @@
 -- Cells put over what stands in a buffer, a part after another. Assumes nothing.
 use Prim.Native.Nat.{ℕ, ◌+◌, ◌-◌, ◌≤◌}
-use mathlib.Core.Path.{◌≡◌, refl, sym, ap, ◌∙◌}
+use mathlib.Core.Path.{◌≡◌, sym, ap, ◌∙◌}
 use mathlib.Core.Bool.{true}
 use mathlib.Core.List.{List, [], ◌∷◌, ◌++◌, append-nil, append_assoc}
 use native.Mathlib.Omega.{arith}
@@ -9,7 +9,6 @@ use lib.ListN.{length, take, drop, replicate, length-append, length-take, length
 use lib.Seq.{paste, paste-zero, take-paste, drop-paste, length-paste, take-add, take-take, take-length, drop-drop}
 use lib.Seq.{length-take-le}
 use lib.Seq.{take-append_seam, drop-append_seam, drop-append-add}
-use lib.Dec.{leb}
 use borrow.Author.Tests.{le-leb}
 use Rattle.answer.specs.Output.{filled}
 use Rattle.ledger.specs.Words.{words_of}

@@ -1,26 +1,24 @@
 -- The text before records, followed through them a stretch of cells at a time. Assumes nothing.
-use Prim.Native.Nat.{ℕ, suc, ◌+◌, ◌-◌, ◌≤◌, ◌<◌}
+use Prim.Native.Nat.{ℕ, suc, ◌+◌, ◌-◌, ◌≤◌, ◌<◌, min}
 use mathlib.Core.Path.{◌≡◌, refl, sym, ap, ◌∙◌, subst}
 use mathlib.Core.Bool.{Bool, true, false, ◌&&◌}
 use mathlib.Core.List.{List, [], ◌∷◌, ◌++◌, reverse, reverse-reverse, append_assoc}
-use mathlib.Core.Option.{Option, none, some}
+use Rattle.std.specs.Prelude.{Option, Some}
 use native.Mathlib.Omega.{arith}
 use native.Mathlib.Nat.{add-zero}
-use lib.ListN.{length, get_or, take, drop, length-append, length-take, length-drop, take-append-drop}
+use lib.ListN.{length, get_or, take, drop, length-append, length-drop, take-append-drop}
 use lib.Seq.{slice, length-slice, take-take, drop-drop, drop_at, drop-append-le, drop-append-add, take-append-le}
 use lib.Seq.{length-take-le, take-nil}
 use lib.Dec.{ltb, leb}
 use borrow.Author.Tests.{le-leb, leb-true, ltb-true, ltb-false}
 use Rattle.answer.specs.Answer.{limit}
 use Rattle.answer.proofs.Below.{both, cond-case}
-use Rattle.reading.specs.Stepping.{least}
-use Rattle.editor.specs.Records.{Entry, applied, turned, text_before}
+use Rattle.editor.specs.Records.{Entry, applied, turned}
 use Rattle.editor.proofs.Lengths.{fits-here, fits_next, text_from, before-from, length_from}
 use Rattle.ledger.specs.Words.{words_of, size_of, sizes, records_in, length_after, lengths_fit, reached}
 use Rattle.ledger.proofs.Words.{Whole, drop-take, At, words-at, words, length-record, records-words, exact}
 use Rattle.squeeze.specs.declared.Head.{Head}
 use Rattle.squeeze.specs.declared.Trail.{Trail}
-use Rattle.squeeze.specs.declared.Stretch.{Stretch}
 use Rattle.squeeze.specs.Folding.{fold_from}
 use Rattle.squeeze.specs.Tracing.{head_in, kept_in, passed, held_by, entries_in, text_since, Leads, On, Follows}
 
@@ -132,7 +130,7 @@ module _ (at to : ℕ) (history text : List ℕ) where
           ∙ ap (drop (size_of e)) words-here
           ∙ drop_at (words_of e) (words rest) (size_of e) (length-record e)
 
-      found-next : records_in (length (words rest)) (words rest) ≡ some rest
+      found-next : records_in (length (words rest)) (words rest) ≡ Some rest
       found-next = records-words (length (words rest)) rest (omega arith)
 
       entries_next : entries_in (at + size_of e) to history ≡ rest
@@ -405,10 +403,8 @@ pub not-kept : (h : Head) (cell : ℕ) → kept_in h cell ≡ false → h.place 
 not-kept h cell t q =
     omega (arith, ltb-false (cell - h.place) h.removed (rw (le-leb h.place cell q) at t))
 
-pub least-below : (a b : ℕ) → 0 < a → 0 < b → (0 < least a b) × (least a b ≤ a) × (least a b ≤ b)
-least-below a b p q =
-    cond-case (λ (n : ℕ). (0 < n) × (n ≤ a) × (n ≤ b)) (ltb b a)
-    (λ t. (q, omega (arith, ltb-true b a t), omega arith)) (λ t. (p, omega arith, omega (arith, ltb-false b a t)))
+pub least-below : (a b : ℕ) → 0 < a → 0 < b → (0 < min a b) × (min a b ≤ a) × (min a b ≤ b)
+least-below a b p q = (omega arith, omega arith, omega arith)
 
 -- past a record that did not remove the cell
 pub on-passed :
@@ -423,5 +419,5 @@ on-passed {at} {to} {history} {text} {h} x {from} {start} {most} {cell} {count} 
     (λ q.
     let less : cell < h.place = ltb-true cell h.place q in
     let c = least-below count (h.place - cell) o.some (omega arith) in
-    (refl, on-front x o less (least count (h.place - cell)) c.0 c.1 c.2))
+    (refl, on-front x o less (min count (h.place - cell)) c.0 c.1 c.2))
     (λ q. (refl, on-past x o (not-kept h cell n (ltb-false cell h.place q)))))

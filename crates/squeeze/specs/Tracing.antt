@@ -1,10 +1,9 @@
 -- The text before some of a page's records, as its words and the present text have it: what the code follows, a stretch
 -- of cells at a time.
-use Rattle.std.specs.Prelude.{ℕ, ◌+◌, ◌-◌, ◌≤◌, ◌<◌, ◌≡◌, Bool, true, false, cond, ◌&&◌, List, [], reverse, length, get_or, take, drop, ltb, leb}
-use Rattle.std.proofs.Math.Option.{Option, none, some}
+use Rattle.std.specs.Prelude.{ℕ, ◌+◌, ◌-◌, ◌≤◌, ◌<◌, ◌≡◌, Bool, true, false, cond, ◌&&◌, List, [], reverse, length, get_or, take, drop, ltb, leb, min}
+use Rattle.std.specs.Prelude.{Option, None, Some}
 use Rattle.std.proofs.Math.Seq.{slice}
 use Rattle.answer.specs.Answer.{limit}
-use Rattle.reading.specs.Stepping.{least}
 use Rattle.editor.specs.Records.{Entry, text_before}
 use Rattle.ledger.specs.Words.{records_in, lengths_fit, reached}
 use Rattle.squeeze.specs.declared.Head.{Head}
@@ -13,8 +12,8 @@ use Rattle.squeeze.specs.declared.Stretch.{Stretch}
 
 -- the records in the words from one to another
 abbrev pub held_by : Option (List Entry) → List Entry
-held_by none = []
-held_by (some es) = es
+held_by None = []
+held_by (Some es) = es
 
 abbrev pub entries_in : ℕ → ℕ → List ℕ → List Entry
 entries_in from to history = held_by (records_in (length (slice from to history)) (slice from to history))
@@ -29,7 +28,7 @@ pub record Leads (from to : ℕ) (history text : List ℕ) : Type 0 where
   pub small : room ≤ limit
   pub order : from ≤ to
   pub within : to ≤ length history
-  pub found : records_in (length (slice from to history)) (slice from to history) ≡ some (entries_in from to history)
+  pub found : records_in (length (slice from to history)) (slice from to history) ≡ Some (entries_in from to history)
   pub fits : lengths_fit room (length (text_since from to history text)) (entries_in from to history) ≡ true
   pub reach : reached (length (text_since from to history text)) (entries_in from to history) ≡ length text
 
@@ -60,7 +59,7 @@ kept_in h cell = leb h.place cell && ltb (cell - h.place) h.removed
 -- the walk behind a record that did not
 abbrev pub passed : Head → ℕ → ℕ → Trail
 passed h cell count =
-    cond (ltb cell h.place) (record { at = h.end; cell = cell; count = least count (h.place - cell) })
+    cond (ltb cell h.place) (record { at = h.end; cell = cell; count = min count (h.place - cell) })
     (record { at = h.end; cell = cell - h.removed + h.added; count = count })
 
 -- where the cells of a stretch are

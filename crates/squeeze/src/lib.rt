@@ -18,7 +18,6 @@ ghost use Rattle.squeeze.specs.Tracing.{cells_in, Follows};
 ghost use Rattle.squeeze.specs.Folding.{fold_from, fold_of, Foldable, folded_to, squeezed_page};
 
 use answer::{Answer, Refusal};
-use editor::Mark;
 use ledger::{Edited, Page};
 use records::Judged;
 
@@ -102,13 +101,11 @@ fn oldest(history: &[u32], text: &[u32], done: usize, opening: usize, k: usize) 
 fn is_kept(head: Head, cell: usize) -> bool
     ensures { result ≡ kept_in head cell }
 {
-    if cell < head.place {
-        return false;
-    }
-    cell - head.place < head.removed
+    head.place <= cell && cell - head.place < head.removed
 }
 
 // Past a record that did not remove the cell: as many as go the same way, before its place or behind what it removed.
+#[tactic(auto, unfolding(answer::specs::Answer::limit))]
 fn past(head: Head, from: Trail) -> Trail
     requires { (kept_in head from.cell ≡ false) × (from.cell + head.added ≤ limit + head.removed) }
     ensures { result ≡ passed head from.cell from.count }
@@ -117,7 +114,7 @@ fn past(head: Head, from: Trail) -> Trail
         return Trail {
             at: head.end,
             cell: from.cell,
-            count: reading::lesser(from.count, head.place - from.cell),
+            count: from.count.min(head.place - from.cell),
         };
     }
     Trail {
@@ -195,7 +192,7 @@ fn follow(
             return Stretch {
                 kept: true,
                 at: at + 3 + behind,
-                count: reading::lesser(count, head.removed - behind),
+                count: count.min(head.removed - behind),
             };
         }
         let next = past(head, Trail { at, cell, count });
@@ -219,14 +216,9 @@ fn put(work: &mut [u32], at: usize, s: Stretch, history: &[u32], text: &[u32]) -
         ≡ paste work.old at
         (drop s.at (cells_in s.kept history.now text.now)) s.count) }
 {
-    let first = s.at;
-    if s.kept {
-        let last = first + s.count;
-        splice::splice_in(&mut *work, at, at, 0, &history[first..last])
-    } else {
-        let last = first + s.count;
-        splice::splice_in(&mut *work, at, at, 0, &text[first..last])
-    }
+    let cells = if s.kept { history } else { text };
+    let end = s.at + s.count;
+    splice::splice_in(&mut *work, at, at, 0, &cells[s.at..end])
 }
 
 // Puts the text before the records at a place, over what stands there.
@@ -275,20 +267,15 @@ fn write_record(
 }
 
 // The mark, where so many words are folded into so many.
-fn mark_left(mark: Mark, old: usize, new: usize) -> Mark
+fn mark_left(mark: Option<usize>, old: usize, new: usize) -> Option<usize>
     requires { new ≤ old }
     ensures { result ≡ folded_mark old new mark }
 {
-    let Mark::At(n) = mark else {
-        return Mark::None;
-    };
-    if n == 0 {
-        return Mark::At(0);
+    match mark {
+        Some(0) => Some(0),
+        Some(n) if old <= n => Some(n - old + new),
+        _ => None,
     }
-    if n < old {
-        return Mark::None;
-    }
-    Mark::At(n - old + new)
 }
 
 // What is given back where so many words are folded into so many.
@@ -296,18 +283,14 @@ fn shrunk(page: Page, old: usize, new: usize) -> Edited
     requires { (new ≤ old) × (old ≤ page.done) × (page.done ≤ page.used) }
     ensures { result ≡ squeezed_page page old new }
 {
-    let kind = page.kind;
-    let saved = page.saved;
     let used = page.used - old + new;
     Edited {
         answer: Answer::Accepted(used),
         page: Page {
-            kind,
-            opening: page.opening,
-            length: page.length,
             used,
             done: page.done - old + new,
-            saved: mark_left(saved, old, new),
+            saved: mark_left(page.saved, old, new),
+            ..page
         },
     }
 }

@@ -6,8 +6,8 @@ use Rattle.bench_calls.specs.Leaving.{leaves_of, edited_to}
 use Rattle.bench_calls.specs.Steps.{changed, Fits}
 use Rattle.bench_calls.proofs.move_at.Goals as goal
 
-pub offset_bounds-history-from : goal.offset_bounds-history-from
-offset_bounds-history-from c =
+pub offset_bounds-history-change : goal.offset_bounds-history-change
+offset_bounds-history-change c =
     let a = c.args in
     let found = c.change_at-change.ensures ∙ found_in a.forward a.history.now a.at c.requires.words in
     let m : Fits a.b c.change_at-change.result a.text.now a.history.now = rw found c.requires.fits in

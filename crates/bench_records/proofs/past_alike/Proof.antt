@@ -39,13 +39,13 @@ returns c = c.loop-at.invariant
 returns-2 : tie.Need-returns-then-h-like-2 invariant-loop decreases-loop
 returns-2 c = c.loop-at.invariant
 
-pass-one-requires : tie.Need-pass_one-found-requires invariant-loop decreases-loop
+pass-one-requires : tie.Need-pass_one-requires invariant-loop decreases-loop
 pass-one-requires c κs =
     let l = c.loop-at in
     let h = c.head_at-h in
     (l.invariant.2, omega arith, omega arith, h.ensures.1)
 
-enum-known-found : tie.Need-enum_known-found invariant-loop decreases-loop
+enum-known-found : tie.Need-enum_known-next invariant-loop decreases-loop
 enum-known-found c = search rules
 
 enum_told : tie.Need-enum_told-1 invariant-loop decreases-loop
@@ -73,8 +73,8 @@ loop-again c =
     let h = c.head_at-h in
     let r = c.if-h-like.false in
     let d = c.if-h-like-2.false in
-    let f = c.pass_one-found in
-    let g = c.in-Through.is in
+    let f = c.pass_one in
+    let g = c.in-Some.is in
     let next =
     turn-alike a.room a.standing a.mine s.requires.3 a.history.now a.used s.requires.1 l.at l.pass
     (omega arith) h.result h.ensures.0 (omega arith) f.result f.ensures l.invariant.2 _ g (size_at a.like)

@@ -13,9 +13,9 @@ returns : tie.Need-returns-in-None
 unfolding mark_number
 returns c = rw c.in-None.is
 
-returns-2 : tie.Need-returns-in-At
+returns-2 : tie.Need-returns-in-Some
 unfolding mark_number
-returns-2 c = rw c.in-At.is
+returns-2 c = rw c.in-Some.is
 
 pub mark_number_spec : {M : Type 1} → statement M
 mark_number_spec = tie.close (tie.spec enum_told enum-known-mark returns returns-2)

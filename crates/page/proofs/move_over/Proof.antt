@@ -26,7 +26,7 @@ returns c =
 change-at-requires : tie.Need-change_at-change-requires
 change-at-requires c κs = search rules
 
-mul-accept : tie.Need-offset_bounds-history-from
+mul-accept : tie.Need-offset_bounds-history-change
 mul-accept c =
     let a = c.args in
     let s : State = state_of a.page a.text.now a.history.now in

@@ -1,5 +1,5 @@
-use mathlib.Core.Path.{sym, ap, ◌∙◌}
-use Rattle.ledger.specs.Page.{State, state_of, replies}
+use mathlib.Core.Path.{sym}
+use Rattle.ledger.specs.Page.{State, state_of}
 use Rattle.records.proofs.Found.{fit}
 use Rattle.page.proofs.Asking.{asked-unfit, asked-fit}
 use borrow.Author.Rules.{rules}

@@ -1,6 +1,5 @@
 use mathlib.Core.Path.{sym, ◌∙◌}
 use native.Mathlib.Omega.{arith}
-use borrow.Author.Tests.{not-true, not-false}
 use Rattle.page_file.specs.File.{file_of}
 use Rattle.page_keep.specs.Inner.{content_by}
 use Rattle.page_keep.proofs.Keeping.{no_room, has_room}

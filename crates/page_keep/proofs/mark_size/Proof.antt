@@ -19,7 +19,7 @@ width-of-requires c κs = search rules
 returns-2 : tie.Need-returns
 returns-2 c =
     let width-of' = c.width_of in (
-      width-of'.ensures.0 ∙ rw c.in-At.is (sym (length_digits 10 _ c.in-At.field-0)),
+      width-of'.ensures.0 ∙ rw c.in-Some.is (sym (length_digits 10 _ c.in-Some.field-0)),
       width-of'.ensures.1,
     )
 

@@ -9,7 +9,6 @@ use Rattle.page_file.specs.Inner.{form_if}
 use Rattle.page_keep.specs.Inner.{decimal, form_line}
 use Rattle.page_keep.proofs.Puts.{sets_then}
 use Rattle.page_keep.proofs.Keeping.{head-size, form-size, line-size, number_size, saved-room}
-use borrow.Author.Rules.{rules}
 use Rattle.page_keep.proofs.put_head.Statement.{statement}
 use Rattle.page_keep.proofs.put_head.Tie as tie
 

@@ -27,7 +27,7 @@ put-number-requires : tie.Need-put_number-requires
 put-number-requires c κs =
     let pre' = c.requires in
     let a = c.args in
-    omega (arith, rw c.in-At.is at (pre'), number_size a.two "saved" c.in-At.n)
+    omega (arith, rw c.in-Some.is at (pre'), number_size a.two "saved" c.in-Some.n)
 
 same-length-2 : tie.Need-shape_of-out
 same-length-2 c = search rules
@@ -36,7 +36,7 @@ returns-2 : tie.Need-returns
 returns-2 c =
     let put-number' = c.put_number in
     let a = c.args in
-    rw c.in-At.is (omega (arith, number_size a.two "saved" c.in-At.n), put-number'.ensures.1)
+    rw c.in-Some.is (omega (arith, number_size a.two "saved" c.in-Some.n), put-number'.ensures.1)
 
 pub put_saved_spec : {M : Type 1} → statement M
 put_saved_spec =

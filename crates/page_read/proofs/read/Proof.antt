@@ -1,10 +1,9 @@
-use mathlib.Core.Path.{◌≡◌, sym, ap, ◌∙◌}
-use native.Mathlib.Omega.{arith}
+use mathlib.Core.Path.{sym, ap, ◌∙◌}
 use lib.ListN.{length}
-use borrow.Author.Tests.{ltb-false, not-true, not-false}
-use Rattle.answer.specs.Answer.{limit, Verdict}
+use borrow.Author.Tests.{ltb-false}
+use Rattle.answer.specs.Answer.{limit}
 use Rattle.page_file.specs.Calls.{unread}
-use Rattle.page_read.specs.Inner.{content_in, plan_in}
+use Rattle.page_read.specs.Inner.{content_in}
 use Rattle.page_read.proofs.Finds.{not_yes, not-no, plan-no, plan-yes}
 use Rattle.page_read.proofs.Answers.{refused_as, long-arrived, long-text, long-history, bad-file, good-file}
 use borrow.Author.Rules.{rules}

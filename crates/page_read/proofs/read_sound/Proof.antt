@@ -1,11 +1,7 @@
-use mathlib.Core.Path.{◌≡◌, sym, ◌∙◌}
-use mathlib.Core.Bool.{true, false}
+use mathlib.Core.Path.{sym, ◌∙◌}
 use native.Mathlib.Omega.{arith}
 use lib.ListN.{length}
-use borrow.Author.Tests.{not-true, not-false}
-use Rattle.ledger.specs.Page.{records}
-use Rattle.page_file.specs.Calls.{state_from}
-use Rattle.page_read.specs.Inner.{content_in, is_some}
+use Rattle.page_read.specs.Inner.{content_in}
 use Rattle.page_read.proofs.Values.{length-hexes}
 use Rattle.page_read.proofs.Sounds.{padded}
 use Rattle.page_read.proofs.Answers.{refused_as, is-unsound, is-sound}

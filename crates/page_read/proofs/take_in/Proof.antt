@@ -1,5 +1,4 @@
 use native.Mathlib.Omega.{arith}
-use mathlib.Core.Path.{refl}
 use Rattle.page_read.proofs.Values.{length-hexes}
 use borrow.Author.Rules.{rules}
 use Rattle.page_read.proofs.take_in.Statement.{statement}

@@ -1,5 +1,4 @@
 use mathlib.Core.Path.{sym, ◌∙◌}
-use borrow.Author.Tests.{not-true, not-false}
 use Rattle.splice.proofs.Splices.{fits-so, fit-left, unfit-left}
 use borrow.Author.Rules.{rules}
 use Rattle.splice.proofs.splice_in.Statement.{statement}

@@ -1,8 +1,7 @@
 use native.Mathlib.Omega.{arith}
 use borrow.Author.Rules.{rules}
-use Prim.Native.Nat.{◌+◌, ◌-◌, ◌≤◌}
+use Prim.Native.Nat.{◌-◌, min}
 use mathlib.Core.Path.{refl, sym, ◌∙◌}
-use Rattle.reading.specs.Stepping.{least}
 use Rattle.squeeze.specs.Tracing.{On}
 use Rattle.squeeze.proofs.Tracing.{seen, whole-next, kept-within, least-below}
 use Rattle.squeeze.proofs.Tracing.{at-kept, at-end, on-passed, on-further}
@@ -66,7 +65,7 @@ sub-lesser c =
     (sym c.is_kept.ensures ∙ c.if-is_kept.true) in
     omega (arith, k.1)
 
-lesser-requires : tie.Need-lesser-requires invariant-loop decreases-loop
+lesser-requires : tie.Need-min-requires invariant-loop decreases-loop
 lesser-requires c κs = search rules
 
 returns : tie.Need-returns-then-is_kept invariant-loop decreases-loop
@@ -80,8 +79,8 @@ returns c =
     (sym c.is_kept.ensures ∙ c.if-is_kept.true) in
     let m = h.result.removed - (l.cell - h.result.place) in
     let n = least-below l.count m l.invariant.some (omega (arith, k.1)) in
-    rw c.lesser.ensures
-    (at-kept x l.invariant k.0 (least l.count m) n.0 n.1 (omega (arith, k.1, n.2)))
+    rw c.min.ensures
+    (at-kept x l.invariant k.0 (min l.count m) n.0 n.1 (omega (arith, k.1, n.2)))
 
 past-requires : tie.Need-past-next-requires invariant-loop decreases-loop
 past-requires c κs =

@@ -1,8 +1,7 @@
 use native.Mathlib.Omega.{arith}
 use borrow.Author.Rules.{rules}
-use Prim.Native.Nat.{◌+◌, ◌-◌, ◌≤◌}
+use Prim.Native.Nat.{◌-◌, ◌≤◌}
 use mathlib.Core.Path.{refl, sym, ◌∙◌}
-use Rattle.answer.proofs.Once.{limit-small}
 use Rattle.squeeze.specs.Tracing.{On}
 use Rattle.squeeze.proofs.Tracing.{seen, on-passed, read_alike}
 use Rattle.squeeze.proofs.past_alike.Statement.{statement}

@@ -1,5 +1,4 @@
 use Rattle.page_read.specs.Inner.{kind_of}
-use Rattle.codec.specs.declared.Kind.TheVariants.{Jp2}
 use Rattle.page_read.proofs.Finds.{found-if, failed-if, handed, end-as}
 use borrow.Author.Rules.{rules}
 use Rattle.page_read.proofs.lines.kind_line.Statement.{statement}

@@ -1,5 +1,4 @@
 use borrow.Author.Tests.{eq-eqb, ne_eqb}
-use borrow.Author.Rules.{rules}
 use Rattle.page_read.proofs.lines.kind_of.Statement.{statement}
 use Rattle.page_read.proofs.lines.kind_of.Tie as tie
 

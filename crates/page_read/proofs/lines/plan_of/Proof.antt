@@ -4,7 +4,6 @@ use lib.ListN.{drop}
 use Rattle.scan.specs.Inner.{hexes_at}
 use Rattle.page_file.specs.Reading.{least}
 use Rattle.page_file.specs.Inner.{form_if}
-use Rattle.page_read.specs.Inner.{content_in}
 use Rattle.page_read.proofs.Finds.{is_found, is-failed, not_yes, not-no, never, list-is, head-failed, head-found}
 use Rattle.page_read.proofs.Finds.{ends-here, goes_on}
 use borrow.Author.Rules.{rules}

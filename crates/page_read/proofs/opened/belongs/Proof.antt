@@ -1,6 +1,4 @@
-use native.Mathlib.Omega.{arith}
 use borrow.Author.Tests.{eq-eqb, ne_eqb}
-use borrow.Author.Rules.{rules}
 use Rattle.page_read.proofs.opened.belongs.Statement.{statement}
 use Rattle.page_read.proofs.opened.belongs.Tie as tie
 

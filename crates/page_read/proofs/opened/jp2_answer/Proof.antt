@@ -1,7 +1,6 @@
 use Prim.Native.Nat.{◌-◌}
-use mathlib.Core.Path.{◌≡◌, sym, ap, ◌∙◌}
+use mathlib.Core.Path.{sym, ◌∙◌}
 use native.Mathlib.Omega.{arith}
-use lib.ListN.{length}
 use Rattle.scan.specs.Inner.{hexes_at}
 use Rattle.reading.proofs.Laws.{Left, left-start, left-give, left-go, left-bad, left_end}
 use Rattle.jp2.specs.Rule.{jp2}

@@ -1,0 +1,11 @@
+use Rattle.std.proofs.Common.{◌∙◌}
+use Rattle.splice.proofs.Splices.{used-after, filled-after}
+use Rattle.page.proofs.accept.Goals as goal
+
+pub returns : goal.returns
+returns c =
+    let a = c.args in
+    let p = c.requires in
+    let e = c.splice_in-length.ensures in
+    let n = e.0 ∙ used-after a.text.now a.cells.now a.page.length a.place a.count p.0 p.1.fits p.2 in
+    (rw n, e.1 ∙ filled-after a.text.now a.cells.now a.page.length a.place a.count p.0 p.1.fits p.2 p.1)

@@ -1,0 +1,7 @@
+use Rattle.std.proofs.Common.{◌≡◌, take}
+use Rattle.std.proofs.lemmas.List.Edits.{sets}
+use Rattle.parsing.specs.Digits.{groups}
+use Rattle.page_keep.proofs.put.put_groups.Given as goal
+
+abbrev pub invariant-loop-i : goal.invariant-loop-i
+invariant-loop-i l = l.out ≡ sets l.initial.out l.at (groups 8 (take l.i l.words))
