@@ -3,7 +3,7 @@ use Prim.Native.Nat.{ℕ}
 use mathlib.Core.Path.{◌≡◌, refl}
 use mathlib.Core.Bool.{true, false}
 use mathlib.Core.List.{List, [], ◌∷◌, map}
-use mathlib.Core.Option.{none, some}
+use Rattle.std.specs.Prelude.{Some, None}
 use lib.ListN.{length}
 use Rattle.answer.specs.Answer.{limit, numbered}
 use Rattle.answer.specs.Output.{refusing, deliver}
@@ -62,9 +62,9 @@ pub record Cases : Type 0 where
   -- `shows`
   pub longer : Says (115 ∷ 104 ∷ 111 ∷ 119 ∷ 115 ∷ []) Unknown 5
   -- `utf7h`, `jp2`, `jp`
-  pub header : kind_named (117 ∷ 116 ∷ 102 ∷ 55 ∷ 104 ∷ []) ≡ some Utf7Header
-  pub jp2 : kind_named (106 ∷ 112 ∷ 50 ∷ []) ≡ some Jp2
-  pub no_kind : kind_named (106 ∷ 112 ∷ []) ≡ none
+  pub header : kind_named (117 ∷ 116 ∷ 102 ∷ 55 ∷ 104 ∷ []) ≡ Some Utf7Header
+  pub jp2 : kind_named (106 ∷ 112 ∷ 50 ∷ []) ≡ Some Jp2
+  pub no_kind : kind_named (106 ∷ 112 ∷ []) ≡ None
   -- `page`, `pages`
   pub page : page_named (112 ∷ 97 ∷ 103 ∷ 101 ∷ []) ≡ true
   pub no-page : page_named (112 ∷ 97 ∷ 103 ∷ 101 ∷ 115 ∷ []) ≡ false

@@ -1,14 +1,14 @@
 -- The words of a line: where a stretch ends, and two lists of bytes compared from their start. Assumes nothing.
 use Prim.Native.Nat.{ℕ, suc, ◌+◌, ◌-◌, ◌<◌, ◌≤◌}
-use mathlib.Core.Path.{◌≡◌, refl, ap, ◌∙◌}
-use mathlib.Core.Bool.{Bool, true, false, cond, not, ◌&&◌, and-false}
+use mathlib.Core.Path.{◌≡◌, refl, sym, ap, ◌∙◌}
+use mathlib.Core.Bool.{Bool, true, false, beq, cond, not, ◌&&◌}
 use mathlib.Core.List.{List, [], ◌∷◌}
 use native.Mathlib.Omega.{arith}
 use native.Mathlib.Numerals.{add-one}
 use lib.ListN.{length, get_or, take, drop, length-drop, drop_of_length-le}
 use lib.Seq.{drop-cons}
 use lib.Dec.{eqb}
-use borrow.Author.Tests.{eq-eqb, ne_eqb}
+use Rattle.std.specs.Cmp.Lexicographic.{pointwise}
 use Rattle.answer.proofs.Below.{cond-case}
 use Rattle.commands.specs.Lines.{blank, stretch, same, verb_of, said_in}
 use Rattle.commands.specs.declared.Verb.{Verb}
@@ -16,6 +16,16 @@ use Rattle.commands.specs.declared.Verb.{Verb}
 -- a byte belongs to a stretch of blanks, or of bytes that are none
 abbrev pub belongs : Bool → ℕ → Bool
 belongs blanks b = cond blanks (blank b) (not (blank b))
+
+both : (r blanks : Bool) → cond blanks r (not r) ≡ not (not (beq r blanks))
+both true true = refl
+both true false = refl
+both false true = refl
+both false false = refl
+
+-- what the test of a byte says
+pub belongs-beq : (r blanks v : Bool) (b : ℕ) → r ≡ blank b → not (beq r blanks) ≡ v → belongs blanks b ≡ not v
+belongs-beq r blanks v b e h = ap (λ (x : Bool). cond blanks x (not x)) (sym e) ∙ (both r blanks ∙ ap not h)
 
 pub stretch-most : (blanks : Bool) (l : List ℕ) → stretch blanks l ≤ length l
 unfolding stretch
@@ -60,37 +70,10 @@ said-by line {from} {to} {rest} {verb} f t r v =
     let s : to - from ≡ stretch false (drop from line) = omega arith in
     rw (v, r, s, t, q)
 
--- a list of no bytes, and two lists of other lengths
-pub empty : (word : List ℕ) → length word ≡ 0 → true ≡ same word []
+-- what `==` computes
+pub same-pointwise : (word name : List ℕ) → pointwise eqb word name ≡ same word name
 unfolding same
-empty [] h = refl
-empty (x ∷ xs) h = absurd (omega arith)
-
-pub not_same : (word name : List ℕ) → (length word ≡ length name → ⊥) → false ≡ same word name
-unfolding same
-not_same [] [] h = absurd (h refl)
-not_same [] (y ∷ ys) h = refl
-not_same (x ∷ xs) [] h = refl
-not_same (x ∷ xs) (y ∷ ys) h = rw (← not_same xs ys (λ e. h (ap suc e)), and-false (eqb x y))
-
--- the first i bytes are the same
-pub record Agree (word name : List ℕ) (i : ℕ) : Type 0 where
-  pub so : same word name ≡ same (drop i word) (drop i name)
-
-pub agree-start : (word name : List ℕ) → Agree word name 0
-agree-start word name = record { so = refl }
-
-module _ {word name : List ℕ} {i : ℕ} (a : Agree word name i) where
-  module _ (h : i < length word) (k : i < length name) where
-    pub agree-not : (get_or word i 0 ≡ get_or name i 0 → ⊥) → false ≡ same word name
-    unfolding same
-    agree-not e = rw (a.so, drop-cons word i 0 h, drop-cons name i 0 k, ne_eqb (get_or word i 0) (get_or name i 0) e)
-
-    pub agree_on : get_or word i 0 ≡ get_or name i 0 → Agree word name (i + 1)
-    unfolding same
-    agree_on e =
-        record { so = a.so ∙ rw (drop-cons word i 0 h, drop-cons name i 0 k, eq-eqb (get_or word i 0) (get_or name i 0) e, add-one) }
-
-  pub agree-end : length word ≤ i → length name ≤ i → true ≡ same word name
-  unfolding same
-  agree-end h k = rw (a.so, drop_of_length-le word h, drop_of_length-le name k)
+same-pointwise [] [] = refl
+same-pointwise [] (y ∷ ys) = refl
+same-pointwise (x ∷ xs) [] = refl
+same-pointwise (x ∷ xs) (y ∷ ys) = ap (λ b. eqb x y && b) (same-pointwise xs ys)

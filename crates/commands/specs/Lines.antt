@@ -1,7 +1,6 @@
 -- A desk's line, as docs/DESK.md has it: `show`, `replace PLACE COUNT CELL..`, `undo`, `redo`, `save FILE`, `quit`,
 -- `squeeze K` or `keep FILE`.
-use Rattle.std.specs.Prelude.{ℕ, suc, ◌+◌, Bool, true, false, cond, not, ◌&&◌, ◌||◌, List, [], ◌∷◌, length, take, drop, eqb}
-use Rattle.std.proofs.Math.Option.{Option, none, some}
+use Rattle.std.specs.Prelude.{ℕ, suc, ◌+◌, Bool, true, false, cond, not, ◌&&◌, ◌||◌, List, [], ◌∷◌, length, take, drop, eqb, Option, Some, None}
 use Rattle.answer.specs.Bytes.{bytes}
 use Rattle.codec.specs.declared.Format.{Format}
 use Rattle.codec.specs.declared.Format.TheVariants as format
@@ -11,10 +10,6 @@ use Rattle.commands.specs.declared.Verb.{Verb}
 use Rattle.commands.specs.declared.Verb.TheVariants.{Nothing, Show, Replace, Undo, Redo, Save, Quit}
 use Rattle.commands.specs.declared.Verb.TheVariants.{Squeeze, Keep, Unknown}
 use Rattle.commands.specs.declared.Said.{Said}
-use Rattle.commands.specs.declared.Named.{Named}
-use Rattle.commands.specs.declared.Named.TheVariants.{Known, NoKind}
-use Rattle.commands.specs.declared.Called.{Called}
-use Rattle.commands.specs.declared.Called.TheVariants.{As, NoFormat}
 
 -- space, tab, CR and LF part the words of a line
 abbrev pub blank : ℕ → Bool
@@ -58,12 +53,8 @@ said_in line =
 -- "Kind is utf7h, utf7b or jp2", as document 02, order 6 names them
 unfoldable pub kind_named : List ℕ → Option Kind
 kind_named w =
-    cond (same w (117 ∷ 116 ∷ 102 ∷ 55 ∷ 104 ∷ [])) (some Utf7Header)
-    (cond (same w (117 ∷ 116 ∷ 102 ∷ 55 ∷ 98 ∷ [])) (some Utf7Body) (cond (same w (106 ∷ 112 ∷ 50 ∷ [])) (some Jp2) none))
-
-abbrev pub kind_in : Named → Option Kind
-kind_in (Known kind) = some kind
-kind_in NoKind = none
+    cond (same w (117 ∷ 116 ∷ 102 ∷ 55 ∷ 104 ∷ [])) (Some Utf7Header)
+    (cond (same w (117 ∷ 116 ∷ 102 ∷ 55 ∷ 98 ∷ [])) (Some Utf7Body) (cond (same w (106 ∷ 112 ∷ 50 ∷ [])) (Some Jp2) None))
 
 -- `page`, in a kind's place: a page that was kept
 abbrev pub page_named : List ℕ → Bool
@@ -72,9 +63,5 @@ page_named w = same w (112 ∷ 97 ∷ 103 ∷ 101 ∷ [])
 -- the names of texts, of whatever style, as same_letter takes them
 unfoldable pub format_named : List ℕ → Option Format
 format_named w =
-    cond (same w (bytes "utf7")) (some format.Utf7)
-    (cond (same w (bytes "jp2")) (some format.Jp2) (cond (same w (bytes "mailbox")) (some format.Mailbox) none))
-
-abbrev pub format_in : Called → Option Format
-format_in (As f) = some f
-format_in NoFormat = none
+    cond (same w (bytes "utf7")) (Some format.Utf7)
+    (cond (same w (bytes "jp2")) (Some format.Jp2) (cond (same w (bytes "mailbox")) (Some format.Mailbox) None))

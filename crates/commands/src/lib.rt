@@ -4,9 +4,8 @@
 
 pub mod numbers;
 
-ghost use Rattle.std.specs.Prelude.{◌≡◌, cond, not, ◌+◌, ◌≤◌, length, drop};
-ghost use Rattle.commands.specs.Lines.{blank, stretch, same, verb_of, said_in, kind_named, kind_in, page_named};
-ghost use Rattle.commands.specs.Lines.{format_named, format_in};
+ghost use Rattle.std.specs.Prelude.{◌≡◌, ◌+◌, ◌≤◌, length, drop};
+ghost use Rattle.commands.specs.Lines.{blank, stretch, same, verb_of, said_in, kind_named, page_named, format_named};
 
 use codec::{Format, Kind};
 
@@ -31,43 +30,10 @@ pub struct Said {
     pub rest: usize,
 }
 
-// The kind that a word names.
-#[derive(Clone, Copy)]
-pub enum Named {
-    Known(Kind),
-    NoKind,
-}
-
-// The format that a word names.
-#[derive(Clone, Copy)]
-pub enum Called {
-    As(Format),
-    NoFormat,
-}
-
 pub fn is_blank(b: u8) -> bool
     ensures { result ≡ blank b }
 {
-    if b == b' ' {
-        return true;
-    }
-    if b == b'\t' {
-        return true;
-    }
-    if b == b'\r' {
-        return true;
-    }
-    b == b'\n'
-}
-
-// A byte is a blank, or is none.
-fn belongs(b: u8, blanks: bool) -> bool
-    ensures { result ≡ cond blanks (blank b) (not (blank b)) }
-{
-    if blanks {
-        return is_blank(b);
-    }
-    !is_blank(b)
+    matches!(b, b' ' | b'\t' | b'\r' | b'\n')
 }
 
 // Where the blanks that begin at a place end, or the bytes that are none.
@@ -75,63 +41,37 @@ fn past(line: &[u8], from: usize, blanks: bool) -> usize
     requires { from ≤ length line.now }
     ensures { result ≡ from + stretch blanks (drop from line.now) }
 {
-    let mut at = from;
-    while at < line.len() {
-        if !belongs(line[at], blanks) {
+    for at in from..line.len() {
+        if is_blank(line[at]) != blanks {
             return at;
         }
-        at += 1;
     }
-    at
+    line.len()
 }
 
+// A word is a name, each byte of it.
 fn is_word(word: &[u8], name: &[u8]) -> bool
     ensures { result ≡ same word.now name.now }
 {
-    if word.len() != name.len() {
-        return false;
-    }
-    let mut i: usize = 0;
-    while i < word.len() {
-        if word[i] != name[i] {
-            return false;
-        }
-        i += 1;
-    }
-    true
+    word == name
 }
 
+#[tactic(auto, unfolding(crate::specs::Lines::verb_of))]
 fn verb_of(word: &[u8]) -> Verb
     ensures { result ≡ verb_of word.now }
 {
-    if word.len() == 0 {
-        return Verb::Nothing;
+    match word {
+        _ if is_word(word, b"") => Verb::Nothing,
+        _ if is_word(word, b"show") => Verb::Show,
+        _ if is_word(word, b"replace") => Verb::Replace,
+        _ if is_word(word, b"undo") => Verb::Undo,
+        _ if is_word(word, b"redo") => Verb::Redo,
+        _ if is_word(word, b"save") => Verb::Save,
+        _ if is_word(word, b"quit") => Verb::Quit,
+        _ if is_word(word, b"squeeze") => Verb::Squeeze,
+        _ if is_word(word, b"keep") => Verb::Keep,
+        _ => Verb::Unknown,
     }
-    if is_word(word, b"show") {
-        return Verb::Show;
-    }
-    if is_word(word, b"replace") {
-        return Verb::Replace;
-    }
-    if is_word(word, b"undo") {
-        return Verb::Undo;
-    }
-    if is_word(word, b"redo") {
-        return Verb::Redo;
-    }
-    if is_word(word, b"save") {
-        return Verb::Save;
-    }
-    if is_word(word, b"quit") {
-        return Verb::Quit;
-    }
-    if is_word(word, b"squeeze") {
-        return Verb::Squeeze;
-    }
-    if is_word(word, b"keep") {
-        return Verb::Keep;
-    }
-    Verb::Unknown
 }
 
 // The command of a line.
@@ -146,19 +86,16 @@ pub fn parse(line: &[u8]) -> Said
 }
 
 // The kind of a page by its name.
-pub fn kind_named(word: &[u8]) -> Named
-    ensures { kind_in result ≡ kind_named word.now }
+#[tactic(auto, unfolding(crate::specs::Lines::kind_named))]
+pub fn kind_named(word: &[u8]) -> Option<Kind>
+    ensures { result ≡ kind_named word.now }
 {
-    if is_word(word, b"utf7h") {
-        return Named::Known(Kind::Utf7Header);
+    match word {
+        _ if is_word(word, b"utf7h") => Some(Kind::Utf7Header),
+        _ if is_word(word, b"utf7b") => Some(Kind::Utf7Body),
+        _ if is_word(word, b"jp2") => Some(Kind::Jp2),
+        _ => None,
     }
-    if is_word(word, b"utf7b") {
-        return Named::Known(Kind::Utf7Body);
-    }
-    if is_word(word, b"jp2") {
-        return Named::Known(Kind::Jp2);
-    }
-    Named::NoKind
 }
 
 // Whether a word stands for a page that was kept, in a kind's place.
@@ -169,17 +106,14 @@ pub fn is_page(word: &[u8]) -> bool
 }
 
 // The format of a text by its name, for same_letter.
-pub fn format_named(word: &[u8]) -> Called
-    ensures { format_in result ≡ format_named word.now }
+#[tactic(auto, unfolding(crate::specs::Lines::format_named))]
+pub fn format_named(word: &[u8]) -> Option<Format>
+    ensures { result ≡ format_named word.now }
 {
-    if is_word(word, b"utf7") {
-        return Called::As(Format::Utf7);
+    match word {
+        _ if is_word(word, b"utf7") => Some(Format::Utf7),
+        _ if is_word(word, b"jp2") => Some(Format::Jp2),
+        _ if is_word(word, b"mailbox") => Some(Format::Mailbox),
+        _ => None,
     }
-    if is_word(word, b"jp2") {
-        return Called::As(Format::Jp2);
-    }
-    if is_word(word, b"mailbox") {
-        return Called::As(Format::Mailbox);
-    }
-    Called::NoFormat
 }

@@ -24,51 +24,34 @@ pub enum Move {
     Bad(Refusal),
 }
 
+#[tactic(auto, unfolding(crate::specs::Numbers::digit_value))]
 fn digit_value(b: u8) -> u32
     ensures { result ≡ digit_value b }
 {
-    if b < 48 {
-        return 16;
+    match b {
+        b'0'..=b'9' => b as u32 - 48,
+        b'A'..=b'F' => b as u32 - 55,
+        b'a'..=b'f' => b as u32 - 87,
+        _ => 16,
     }
-    if b <= 57 {
-        return b as u32 - 48;
-    }
-    if b < 65 {
-        return 16;
-    }
-    if b <= 70 {
-        return b as u32 - 55;
-    }
-    if b < 97 {
-        return 16;
-    }
-    if b <= 102 {
-        return b as u32 - 87;
-    }
-    16
 }
 
 // Decimal or hex.
 fn radix_of(seen: u32) -> u32
     ensures { result ≡ base seen }
 {
-    if seen < 2 {
-        return 10;
-    }
-    16
+    if seen < 2 { 10 } else { 16 }
 }
 
 // The numbers seen after one more, up to two.
 fn more(seen: u32) -> u32
     ensures { result ≡ following seen }
 {
-    if seen < 2 {
-        return seen + 1;
-    }
-    2
+    if seen < 2 { seen + 1 } else { 2 }
 }
 
 // A digit more of a number.
+#[tactic(auto, unfolding(crate::specs::Numbers::raised))]
 fn raise(seen: u32, value: u32, digit: u32) -> Move
     ensures { does_of result ≡ raised seen value digit }
 {
@@ -76,44 +59,32 @@ fn raise(seen: u32, value: u32, digit: u32) -> Move
     if radix <= digit {
         return Move::Bad(Refusal::StrayByte);
     }
-    let next = value as u64 * radix as u64 + digit as u64;
-    if 4294967295 < next {
-        return Move::Bad(Refusal::StrayByte);
+    match u32::try_from(value as u64 * radix as u64 + digit as u64) {
+        Ok(next) => Move::Go(State::Word(seen, next)),
+        Err(_) => Move::Bad(Refusal::StrayByte),
     }
-    Move::Go(State::Word(seen, next as u32))
 }
 
+#[tactic(auto, unfolding(crate::specs::Numbers::byte_does))]
 fn feed(st: State, b: u8) -> Move
     ensures { does_of result ≡ byte_does st b }
 {
     match st {
-        State::Gap(seen) => {
-            if is_blank(b) {
-                return Move::Go(st);
-            }
-            raise(seen, 0, digit_value(b))
-        }
-        State::Word(seen, value) => {
-            if is_blank(b) {
-                return Move::Give(value, State::Gap(more(seen)));
-            }
-            raise(seen, value, digit_value(b))
-        }
+        State::Gap(_) if is_blank(b) => Move::Go(st),
+        State::Gap(seen) => raise(seen, 0, digit_value(b)),
+        State::Word(seen, value) if is_blank(b) => Move::Give(value, State::Gap(more(seen))),
+        State::Word(seen, value) => raise(seen, value, digit_value(b)),
     }
 }
 
 // The answer of a text of some size that ends in a state, after some numbers.
+#[tactic(auto, unfolding(crate::specs::Numbers::ends_in))]
 fn finish(asked: u32, size: usize, count: usize, st: State) -> Answer
     ensures { in_numbers result ≡ closing (ends_in asked size st) count }
 {
     match st {
-        State::Gap(seen) => {
-            if seen == asked {
-                return Answer::Accepted(count);
-            }
-            Answer::Refused(Refusal::CutShort, size)
-        }
-        State::Word(_, _) => Answer::Refused(Refusal::CutShort, size),
+        State::Gap(seen) if seen == asked => Answer::Accepted(count),
+        _ => Answer::Refused(Refusal::CutShort, size),
     }
 }
 
@@ -121,26 +92,19 @@ fn finish(asked: u32, size: usize, count: usize, st: State) -> Answer
 fn count(asked: u32, text: &[u8]) -> Answer
     ensures { in_numbers result ≡ verdict_of (reading (numbers asked) text.now) }
 {
-    let mut at: usize = 0;
     let mut n: usize = 0;
     let mut st = State::Gap(0);
-    while at < text.len() {
-        match feed(st, text[at]) {
+    for (at, &b) in text.iter().enumerate() {
+        match feed(st, b) {
             Move::Give(_, state) => {
                 st = state;
                 n += 1;
-                at += 1;
             }
-            Move::Go(state) => {
-                st = state;
-                at += 1;
-            }
-            Move::Bad(why) => {
-                return Answer::Refused(why, at);
-            }
+            Move::Go(state) => st = state,
+            Move::Bad(why) => return Answer::Refused(why, at),
         }
     }
-    finish(asked, at, n, st)
+    finish(asked, text.len(), n, st)
 }
 
 // The numbers of a text go to the front of the output.
@@ -148,24 +112,17 @@ fn fill(asked: u32, text: &[u8], out: &mut [u32])
     requires { length (reading (numbers asked) text.now).cells ≤ length out.old }
     ensures { out.new ≡ filled (reading (numbers asked) text.now).cells out.old }
 {
-    let mut at: usize = 0;
     let mut n: usize = 0;
     let mut st = State::Gap(0);
-    while at < text.len() {
-        match feed(st, text[at]) {
+    for &b in text {
+        match feed(st, b) {
             Move::Give(value, state) => {
                 out[n] = value;
                 st = state;
                 n += 1;
-                at += 1;
             }
-            Move::Go(state) => {
-                st = state;
-                at += 1;
-            }
-            Move::Bad(_) => {
-                return;
-            }
+            Move::Go(state) => st = state,
+            Move::Bad(_) => return,
         }
     }
 }

@@ -16,23 +16,12 @@ fn last_end(text: &[u8], from: usize, to: usize) -> usize
     requires { (from ≤ to) × (to ≤ length text.now) }
     ensures { (from ≤ result) × (result ≤ to) × Ended text.now from result }
 {
-    let mut at = to;
-    while from < at {
-        if text[at - 1] == b'\n' {
-            return at;
+    for at in (from..to).rev() {
+        if text[at] == b'\n' {
+            return at + 1;
         }
-        at -= 1;
     }
-    at
-}
-
-fn is_end(b: u8) -> usize
-    ensures { result ≤ 1 }
-{
-    if b == b'\n' {
-        return 1;
-    }
-    0
+    from
 }
 
 // How many line ends stand between two places.
@@ -40,10 +29,8 @@ fn count_ends(text: &[u8], from: usize, to: usize) -> usize
     requires { to ≤ length text.now }
 {
     let mut n: usize = 0;
-    let mut k = from;
-    while k < to {
-        n += is_end(text[k]);
-        k += 1;
+    for k in from..to {
+        n += usize::from(text[k] == b'\n');
     }
     n
 }
@@ -78,17 +65,14 @@ fn past_ends(text: &[u8], from: usize, count: usize) -> usize
     requires { from ≤ length text.now }
     ensures { (from ≤ result) × (result ≤ length text.now) × Ended text.now from result }
 {
-    let passed = pass_blocks(text, from, count);
-    let mut left = passed.left;
-    let mut at = passed.at;
-    while at < text.len() {
-        if text[at] == b'\n' {
+    let Passed { at, mut left } = pass_blocks(text, from, count);
+    for end in at..text.len() {
+        if text[end] == b'\n' {
             if left <= 1 {
-                return at + 1;
+                return end + 1;
             }
             left -= 1;
         }
-        at += 1;
     }
     from
 }
@@ -125,10 +109,7 @@ fn same_blocks(format: Format, first: &[u8], second: &[u8]) -> bool
     while MOST < first.len() - a {
         let c = last_end(first, a, a + MOST);
         let d = past_ends(second, b, count_ends(first, a, c));
-        if c == a {
-            return false;
-        }
-        if d == b {
+        if c == a || d == b {
             return false;
         }
         if !same_block(format, &first[a..c], &second[b..d], &mut cells) {

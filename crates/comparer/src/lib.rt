@@ -14,8 +14,8 @@ use stepper::Place;
 
 #[derive(Clone, Copy)]
 pub enum Text {
-    First,
-    Second,
+    First = 1,
+    Second = 2,
 }
 
 #[derive(Clone, Copy)]
@@ -36,10 +36,8 @@ fn alike(first: &[u8], second: &[u8]) -> bool
         return false;
     }
     let mut same = true;
-    let mut k: usize = 0;
-    while k < first.len() {
-        same = same & (first[k] == second[k]);
-        k += 1;
+    for k in 0..first.len() {
+        same &= first[k] == second[k];
     }
     same
 }

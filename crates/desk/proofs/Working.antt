@@ -4,6 +4,7 @@ use mathlib.Core.Path.{◌≡◌, refl, sym, ap, ◌∙◌, subst}
 use mathlib.Core.Bool.{Bool, true, false, ◌||◌, false≢true}
 use mathlib.Core.List.{List}
 use native.Mathlib.Omega.{arith}
+use native.Mathlib.Numerals.{add-one}
 use lib.ListN.{length, take}
 use lib.Seq.{length-take-le}
 use lib.Dec.{eqb}
@@ -55,49 +56,41 @@ or-true : (a : Bool) → (a || true) ≡ true
 or-true true = refl
 or-true false = refl
 
--- the loop with some rounds left: so many turns were made, and none left the desk
-pub record Going (letter : List ℕ) (from : Desk) (hand : Hand) (text history : List ℕ) (rounds : ℕ) : Type 0 where
-  pub turns : ℕ
+-- the loop after some turns, of which none left the desk
+pub record Going (letter : List ℕ) (from : Desk) (hand : Hand) (text history : List ℕ) (turns : ℕ) : Type 0 where
   pub led : Turns letter from turns (desk_in hand text history)
   pub stays : hand.left ≡ false
-  pub count : rounds + turns ≡ 18446744073709551615
 
 pub going-begun :
     {letter : List ℕ} (h : Hand) {text history : List ℕ} → h.left ≡ false →
-    Going letter (desk_in h text history) h text history 18446744073709551615
-going-begun h e = record { turns = 0; led = none_yet; stays = e; count = refl }
+    Going letter (desk_in h text history) h text history 0
+going-begun h e = record { led = none_yet; stays = e }
 
 module _
-    {letter : List ℕ} {from : Desk} {before hand : Hand} {text history text' history' : List ℕ} {rounds : ℕ}
-    (g : Going letter from before text history rounds)
+    {letter : List ℕ} {from : Desk} {before hand : Hand} {text history text' history' : List ℕ} {turns : ℕ}
+    (g : Going letter from before text history turns)
     (turn : Turn letter (sitting before.page before.warned text history) (desk_in hand text' history')) where
-  pub going-again :
-      0 < rounds → closed hand ≡ false → Going letter from hand text' history' (rounds - 1)
-  going-again h e =
-      record {
-        turns = suc g.turns;
-        led = then g.led g.stays (sat-turn before turn);
-        stays = or-false hand.left _ e;
-        count = omega (arith, g.count);
-      }
+  pub going-again : closed hand ≡ false → Going letter from hand text' history' (turns + 1)
+  going-again e =
+      rw add-one (record { led = then g.led g.stays (sat-turn before turn); stays = or-false hand.left _ e })
 
   pub going-closed : closed hand ≡ true → Worked letter from (desk_in hand text' history') hand
   going-closed e =
       record {
-        turns = suc g.turns;
+        turns = suc turns;
         led = then g.led g.stays (sat-turn before turn);
-        until = ap (λ (b : Bool). b || eqb (suc g.turns) 18446744073709551615) e;
+        until = ap (λ (b : Bool). b || eqb (suc turns) 18446744073709551615) e;
       }
 
 pub going-over :
-    {letter : List ℕ} {from : Desk} {hand : Hand} {text history : List ℕ} {rounds : ℕ} →
-    Going letter from hand text history rounds → rounds ≤ 0 → Worked letter from (desk_in hand text history) hand
-going-over {hand = hand} g h =
+    {letter : List ℕ} {from : Desk} {hand : Hand} {text history : List ℕ} {turns : ℕ} →
+    Going letter from hand text history turns → turns ≡ 18446744073709551615 → Worked letter from (desk_in hand text history) hand
+going-over {hand = hand} {turns = turns} g h =
     record {
-      turns = g.turns;
+      turns = turns;
       led = g.led;
       until =
-          ap (λ (b : Bool). closed hand || b) (eq-eqb g.turns 18446744073709551615 (omega (arith, g.count)))
+          ap (λ (b : Bool). closed hand || b) (eq-eqb turns 18446744073709551615 h)
           ∙ or-true (closed hand);
     }
 

@@ -1,6 +1,6 @@
 -- What the desk's loop keeps: the bytes in hand lie in the buffer, which is no longer than a line may be.
 -- What it does from an open on, and when it ends.
-use Rattle.std.specs.Prelude.{ℕ, ◌+◌, ◌-◌, ◌≤◌, ◌≡◌, Bool, true, false, ◌&&◌, ◌||◌, List, length, take, drop, eqb}
+use Rattle.std.specs.Prelude.{ℕ, ◌+◌, ◌-◌, ◌≤◌, ◌≡◌, Bool, true, false, ◌&&◌, ◌||◌, List, length, take, drop, eqb, Option, Some, None}
 use Rattle.answer.specs.Answer.{in_numbers}
 use Rattle.codec.specs.declared.Kind.{Kind}
 use Rattle.ledger.specs.Page.{state_of, Outcome, leaves, keeps}
@@ -14,10 +14,6 @@ use Rattle.desk.specs.declared.lines.Hand.{Hand}
 use Rattle.desk.specs.declared.orders.Done.{Done}
 use Rattle.desk.specs.declared.Source.{Source}
 use Rattle.desk.specs.declared.Source.TheVariants.{Letter, Kept}
-use Rattle.desk.specs.declared.Found.{Found}
-use Rattle.desk.specs.declared.Found.TheVariants.{Made, Unmade}
-use Rattle.desk.specs.declared.Sat.{Sat}
-use Rattle.desk.specs.declared.Sat.TheVariants.{Through, Never}
 
 abbrev pub Holds : Hand → List ℕ → Type 0
 Holds h buf = (h.from ≤ h.to) × (h.to ≤ length buf) × (length buf ≤ line_room)
@@ -76,12 +72,12 @@ pub record ReadFrom (given : Edited) (n : ℕ) (letter text history letter' text
   pub ends : taken (keeps given text' history' letter') ≡ true → n ≡ (in_numbers given.answer).place
 
 -- what FILE gave: the page of an open, or of a reading, and a letter in its buffer
-abbrev pub Gave : Source → Found → (letter text history letter' text' history' : List ℕ) → Type 0
-Gave (Letter kind) (Made given n) letter text history letter' text' history' =
+abbrev pub Gave : Source → Option (Edited × ℕ) → (letter text history letter' text' history' : List ℕ) → Type 0
+Gave (Letter kind) (Some (given, n)) letter text history letter' text' history' =
     (n ≤ length letter') × (leaves given text' history' ≡ open_of kind (take n letter') text history)
-Gave Kept (Made given n) letter text history letter' text' history' =
+Gave Kept (Some (given, n)) letter text history letter' text' history' =
     (n ≤ length letter') × ReadFrom given n letter text history letter' text' history'
-Gave what Unmade letter text history letter' text' history' = Unit
+Gave what None letter text history letter' text' history' = Unit
 
 -- the desk sat through the commands at the page of a letter that was read, or of a page file
 pub record OpenedBy (kind : Kind) (letter text history : List ℕ) (to : Desk) (hand : Hand) : Type 0 where
@@ -93,11 +89,11 @@ pub record KeptBy (letter text history : List ℕ) (to : Desk) (hand : Hand) : T
   pub short : length file ≤ file_room
   pub resumed : Resumed file letter text history to hand
 
-abbrev pub OpenedAt : Sat → Kind → (text history letter' text' history' : List ℕ) → Type 0
-OpenedAt (Through hand) kind text history letter' text' history' =
+abbrev pub OpenedAt : Option Hand → Kind → (text history letter' text' history' : List ℕ) → Type 0
+OpenedAt (Some hand) kind text history letter' text' history' =
     OpenedBy kind letter' text history (desk_in hand text' history') hand
-OpenedAt Never kind text history letter' text' history' = Unit
+OpenedAt None kind text history letter' text' history' = Unit
 
-abbrev pub KeptAt : Sat → (letter text history text' history' : List ℕ) → Type 0
-KeptAt (Through hand) letter text history text' history' = KeptBy letter text history (desk_in hand text' history') hand
-KeptAt Never letter text history text' history' = Unit
+abbrev pub KeptAt : Option Hand → (letter text history text' history' : List ℕ) → Type 0
+KeptAt (Some hand) letter text history text' history' = KeptBy letter text history (desk_in hand text' history') hand
+KeptAt None letter text history text' history' = Unit

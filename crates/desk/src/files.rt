@@ -1,8 +1,7 @@
 // The letter that is opened, and the files that are saved.
-ghost use Rattle.std.specs.Prelude.{◌≤◌, ◌≡◌, length};
-ghost use Rattle.whole_file.specs.Got.{Within};
+ghost use Rattle.std.specs.Prelude.{◌≤◌, length, IfSome};
 
-use crate::look::Spot;
+use crate::look::{Barred, Old};
 use crate::{look, names, replies};
 use std::fs::{File, OpenOptions, Permissions};
 use std::io::{Error, ErrorKind, Write};
@@ -10,7 +9,6 @@ use std::os::unix::fs::{OpenOptionsExt, PermissionsExt, fchown};
 use std::random::RandomSource;
 use std::rt::HostRuntime;
 use std::{fs, io};
-use whole_file::Got;
 
 // How many bytes a page file may have: as many as there is room for on the stack beside a page.
 pub const PAGE_ROOM: usize = 1572864;
@@ -24,15 +22,12 @@ const EEXIST: i32 = 17;
 // How many names a new file is tried under, as mkstemp does.
 const TRIES: u32 = 238328;
 
-// Reads a file by its name. One that cannot be read is told of.
-pub fn read(rt: &HostRuntime, name: &[u8], buf: &mut [u8]) -> Got
-    ensures { Within result 0 buf.new }
+// Reads a file by its name, and says how many bytes came. One that cannot be read is told of.
+pub fn read(rt: &HostRuntime, name: &[u8], buf: &mut [u8]) -> Option<usize>
+    ensures { IfSome result (λ n. n ≤ length buf.new) }
 {
-    let got = whole_file::read(rt, name, buf);
-    if let Got::Failed(e) = got {
-        replies::fail(rt, name, e);
-    }
-    got
+    let read = whole_file::read(rt, name, buf);
+    read.inspect_err(|e| replies::fail(rt, name, *e)).ok()
 }
 
 // A mode whose group may do no more than all others may.
@@ -42,7 +37,8 @@ fn narrowed(mode: u32) -> u32 {
 
 // Gives a new file the owner, the group and the mode of an old one, as far as the system allows. Nobody may read it who
 // could not read the old one.
-fn liken(file: &File, owner: u32, group: u32, mode: u32) -> io::Result<()> {
+fn liken(file: &File, old: Old) -> io::Result<()> {
+    let Old { owner, group, mode } = old;
     if fchown(file, Some(owner), Some(group)).is_ok() {
         return file.set_permissions(Permissions::from_mode(mode & 0o7777));
     }
@@ -54,10 +50,10 @@ fn liken(file: &File, owner: u32, group: u32, mode: u32) -> io::Result<()> {
 
 // How a new file is made. One that is to replace another is its owner's alone at first; any other has the mode that the
 // system gives.
-fn how(spot: Spot) -> OpenOptions {
+fn how(old: Option<Old>) -> OpenOptions {
     let mut options = OpenOptions::new();
     options.write(true).create_new(true);
-    if let Spot::Old(_, _, _) = spot {
+    if old.is_some() {
         options.mode(0o600);
     }
     options
@@ -65,27 +61,24 @@ fn how(spot: Spot) -> OpenOptions {
 
 // Writes the bytes into a new file, makes it like the one that it is to replace, and waits until it is on its device.
 // The file is closed then: what a close says is not known here, and tells no more after a sync.
-fn fill(mut file: File, bytes: &[u8], spot: Spot) -> io::Result<()> {
+fn fill(mut file: File, bytes: &[u8], old: Option<Old>) -> io::Result<()> {
     file.write_all(bytes)?;
-    if let Spot::Old(owner, group, mode) = spot {
-        liken(&file, owner, group, mode)?;
+    if let Some(old) = old {
+        liken(&file, old)?;
     }
     file.sync_all()
 }
 
 // Waits until the names of a folder have reached the device.
 fn sync_folder(rt: &HostRuntime, folder: &[u8]) -> io::Result<()> {
-    let name = if folder.len() == 0 { b"." } else { folder };
+    let name = if folder.is_empty() { b"." } else { folder };
     fs::open(rt, whole_file::path(name)?)?.sync_all()
 }
 
 // Fills a new file and renames it into its place. Where its folder cannot be synced it is in its place all the same.
-fn finish(rt: &HostRuntime, file: File, new: &str, path: &str, bytes: &[u8], spot: Spot) -> bool {
+fn finish(rt: &HostRuntime, file: File, new: &str, path: &str, bytes: &[u8], old: Option<Old>) -> bool {
     let name = path.as_bytes();
-    let put = match fill(file, bytes, spot) {
-        Ok(()) => fs::rename(rt, new, path),
-        Err(e) => Err(e),
-    };
+    let put = fill(file, bytes, old).and_then(|()| fs::rename(rt, new, path));
     if let Err(e) = put {
         replies::fail(rt, name, e);
         let _ = fs::remove_file(rt, new);
@@ -104,11 +97,11 @@ fn put_under(
     folder: &[u8],
     path: &str,
     bytes: &[u8],
-    spot: Spot,
+    old: Option<Old>,
 ) -> io::Result<bool>
     requires { length folder.now ≤ 4080 }
 {
-    let options = how(spot);
+    let options = how(old);
     for _ in 0..TRIES {
         let mut dice = [0u8; 6];
         rt.fill_bytes(&mut dice)?;
@@ -116,7 +109,7 @@ fn put_under(
         let n = names::spell_new(folder, dice, &mut room);
         let new = whole_file::path(&room[..n])?;
         match options.open(rt, new) {
-            Ok(file) => return Ok(finish(rt, file, new, path, bytes, spot)),
+            Ok(file) => return Ok(finish(rt, file, new, path, bytes, old)),
             Err(e) if e.kind() == ErrorKind::AlreadyExists => {}
             Err(e) => return Err(e),
         }
@@ -125,14 +118,14 @@ fn put_under(
 }
 
 // Writes the whole of a file under a new name, and renames it into place, so that a fault midway loses nothing.
-fn put_beside(rt: &HostRuntime, path: &str, bytes: &[u8], spot: Spot) -> bool {
+fn put_beside(rt: &HostRuntime, path: &str, bytes: &[u8], old: Option<Old>) -> bool {
     let name = path.as_bytes();
     let folder = names::folder(name);
     if 4080 < folder.len() {
         replies::complain(rt, b"the name of the file is too long");
         return false;
     }
-    match put_under(rt, folder, path, bytes, spot) {
+    match put_under(rt, folder, path, bytes, old) {
         Ok(put) => put,
         Err(e) => {
             replies::fail_at(rt, name, b"no new file can be made beside it", e);
@@ -143,11 +136,9 @@ fn put_beside(rt: &HostRuntime, path: &str, bytes: &[u8], spot: Spot) -> bool {
 
 // What is at the name is looked at, and left alone where it must be.
 fn put_over(rt: &HostRuntime, path: &str, bytes: &[u8]) -> bool {
-    let spot = look::spot_at(rt, path);
-    match spot {
-        Spot::Free => put_beside(rt, path, bytes, spot),
-        Spot::Old(_, _, _) => put_beside(rt, path, bytes, spot),
-        Spot::Barred => false,
+    match look::old_at(rt, path) {
+        Ok(old) => put_beside(rt, path, bytes, old),
+        Err(Barred) => false,
     }
 }
 

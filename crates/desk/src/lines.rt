@@ -7,8 +7,8 @@ use crate::{orders, replies, rooms};
 use ledger::Page;
 use std::rt::HostRuntime;
 
-// A proved loop has to end, and nothing says that the input does: so it counts down from a number that no run uses up.
-const ROUNDS: u64 = 18446744073709551615;
+// A proved loop has to end, and nothing says that the input does: so it counts to a number that no run uses up.
+const ROUNDS: u64 = u64::MAX;
 
 // What the desk has in hand: the page, and the bytes from..to of the buffer, which came and were not yet taken.
 #[derive(Clone, Copy)]
@@ -31,14 +31,8 @@ fn line_end(buf: &[u8], from: usize, to: usize) -> usize
     requires { (from ≤ to) × (to ≤ length buf.now) }
     ensures { (from ≤ result) × (result ≤ to) }
 {
-    let mut at = from;
-    while at < to {
-        if buf[at] == b'\n' {
-            return at;
-        }
-        at += 1;
-    }
-    at
+    let end = buf[from..to].iter().position(|&b| b == b'\n');
+    end.map_or(to, |n| from + n)
 }
 
 // Moves the bytes from..to to the front, and says how many they are.
@@ -46,14 +40,8 @@ fn settle(buf: &mut [u8], from: usize, to: usize) -> usize
     requires { (from ≤ to) × (to ≤ length buf.old) }
     ensures { (result ≤ to) × (length buf.new ≡ length buf.old) }
 {
-    let mut at = from;
-    let mut n: usize = 0;
-    while at < to {
-        buf[n] = buf[at];
-        n += 1;
-        at += 1;
-    }
-    n
+    buf.copy_within(from..to, 0);
+    to - from
 }
 
 // Reads once behind the bytes in hand, and says how many there are then: no more at the end of the input.
@@ -198,13 +186,7 @@ fn turn(
 fn is_closed(hand: Hand) -> bool
     ensures { result ≡ closed hand }
 {
-    if hand.left {
-        return true;
-    }
-    if hand.ended {
-        return hand.from == hand.to;
-    }
-    false
+    hand.left || (hand.ended && hand.from == hand.to)
 }
 
 // Obeys line after line, until quit or the end of the input.
@@ -221,11 +203,8 @@ pub fn work(
     let mut space = rooms::lines();
     let buf: &mut [u8] = &mut space;
     let mut hand = holding(page, 0, false, false, false);
-    let mut rounds = ROUNDS;
-    while 0 < rounds {
-        rounds -= 1;
-        let next = turn(rt, hand, &mut *buf, letter, &mut *text, &mut *history);
-        hand = next;
+    for _turn in 0..ROUNDS {
+        hand = turn(rt, hand, &mut *buf, letter, &mut *text, &mut *history);
         if is_closed(hand) {
             return hand;
         }

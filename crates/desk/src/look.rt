@@ -9,14 +9,17 @@ use std::{fs, io};
 // The system's number for a file that is a running program.
 const ETXTBSY: i32 = 26;
 
-// What is at a name that is saved to: nothing; a file that may be replaced, with its owner, group and mode; or what a
-// save leaves alone, and that has been said.
+// A file that may be replaced.
 #[derive(Clone, Copy)]
-pub enum Spot {
-    Free,
-    Old(u32, u32, u32),
-    Barred,
+pub struct Old {
+    pub owner: u32,
+    pub group: u32,
+    pub mode: u32,
 }
+
+// What a save leaves alone, and that has been said.
+#[derive(Clone, Copy)]
+pub struct Barred;
 
 // Says what is at a name, where that is no regular file.
 fn refuse_kind(rt: &HostRuntime, name: &[u8], kind: FileType) {
@@ -48,12 +51,12 @@ fn may_write(rt: &HostRuntime, path: &str) -> io::Result<()> {
 }
 
 // What is at a name that has been looked at: only a regular file with no other name, which may be written, is replaced.
-fn judged(rt: &HostRuntime, path: &str, seen: &Metadata) -> Spot {
+fn judged(rt: &HostRuntime, path: &str, seen: &Metadata) -> Result<Option<Old>, Barred> {
     let name = path.as_bytes();
     let kind = seen.file_type();
     if !kind.is_file() {
         refuse_kind(rt, name, kind);
-        return Spot::Barred;
+        return Err(Barred);
     }
     if 1 < seen.nlink() {
         replies::refuse(
@@ -61,27 +64,31 @@ fn judged(rt: &HostRuntime, path: &str, seen: &Metadata) -> Spot {
             name,
             b"has other names too (hard links): save to another name",
         );
-        return Spot::Barred;
+        return Err(Barred);
     }
     if seen.permissions().readonly() {
         replies::refuse(rt, name, b"is read-only: save to another name");
-        return Spot::Barred;
+        return Err(Barred);
     }
     if let Err(e) = may_write(rt, path) {
         replies::fail(rt, name, e);
-        return Spot::Barred;
+        return Err(Barred);
     }
-    Spot::Old(seen.uid(), seen.gid(), seen.mode())
+    Ok(Some(Old {
+        owner: seen.uid(),
+        group: seen.gid(),
+        mode: seen.mode(),
+    }))
 }
 
-// What is at a name.
-pub fn spot_at(rt: &HostRuntime, path: &str) -> Spot {
+// What is at a name that is saved to: nothing, or a file that may be replaced.
+pub fn old_at(rt: &HostRuntime, path: &str) -> Result<Option<Old>, Barred> {
     match fs::symlink_metadata(rt, path) {
         Ok(seen) => judged(rt, path, &seen),
-        Err(e) if e.kind() == ErrorKind::NotFound => Spot::Free,
+        Err(e) if e.kind() == ErrorKind::NotFound => Ok(None),
         Err(e) => {
             replies::fail(rt, path.as_bytes(), e);
-            Spot::Barred
+            Err(Barred)
         }
     }
 }

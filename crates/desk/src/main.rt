@@ -10,22 +10,18 @@ mod orders;
 mod replies;
 mod rooms;
 
-ghost use Rattle.std.specs.Prelude.{length, ◌≤◌, ◌≡◌};
+ghost use Rattle.std.specs.Prelude.{length, ◌≤◌, ◌≡◌, IfSome};
 ghost use Rattle.ledger.specs.Page.{leaves};
 ghost use Rattle.codec.specs.declared.Kind.{Kind};
 ghost use Rattle.desk.specs.Hands.{desk_in, Sits, Gave, OpenedAt, KeptAt};
-ghost use Rattle.whole_file.specs.Got.{Within};
 ghost use Rattle.desk.specs.declared.Source.TheVariants.{Letter, Kept};
 
 use answer::Answer;
 use codec::Kind;
-use commands::Named;
 use ledger::Edited;
 use lines::Hand;
 use std::env::{Env, FillError};
-use std::io::Error;
 use std::rt::HostRuntime;
-use whole_file::Got;
 
 // What FILE is: a letter of some kind, or a page that was kept.
 #[derive(Clone, Copy)]
@@ -34,40 +30,17 @@ enum Source {
     Kept,
 }
 
-// The page that FILE gave, and how many bytes its letter has; or none, since FILE could not be read or is too long, and
-// that has been said.
-#[derive(Clone, Copy)]
-enum Found {
-    Made(Edited, usize),
-    Unmade,
-}
-
-// What the desk has in hand at its end; or nothing, where FILE gave no page.
-#[derive(Clone, Copy)]
-enum Sat {
-    Through(Hand),
-    Never,
-}
-
-// The system's numbers for an argument that is not there, and for one that is too long.
-const EINVAL: i32 = 22;
-
-const ENAMETOOLONG: i32 = 36;
-
 // Whether the program has an argument.
 fn has(rt: &HostRuntime, i: usize) -> bool {
     !matches!(rt.arg(i, &mut [0u8; 1]), Err(FillError::NotPresent))
 }
 
-// An argument of the program, and how many bytes it has; or why it is not there.
-fn argument(rt: &HostRuntime, i: usize, buf: &mut [u8]) -> Got
-    ensures { Within result 0 buf.new }
+// The name FILE, and how many bytes it has; where there is none, that is said.
+fn file_name(rt: &HostRuntime, path: &mut [u8]) -> Option<usize>
+    ensures { IfSome result (λ n. n ≤ length path.new) }
 {
-    match rt.arg(i, buf) {
-        Ok(n) => Got::Bytes(n),
-        Err(FillError::TooLong) => Got::Failed(Error::from_raw_os_error(ENAMETOOLONG)),
-        Err(FillError::NotPresent) => Got::Failed(Error::from_raw_os_error(EINVAL)),
-    }
+    let named = whole_file::argument(rt, 2, path);
+    named.inspect_err(|e| replies::fail(rt, b"FILE", *e)).ok()
 }
 
 // The kind and the file that the program was started with.
@@ -84,17 +57,14 @@ fn begin_with(rt: &HostRuntime) {
         return;
     }
     let mut word = [0u8; 8];
-    let n = match rt.arg(1, &mut word) {
-        Ok(n) => n,
-        Err(_) => 0,
-    };
+    let n = rt.arg(1, &mut word).unwrap_or(0);
     if commands::is_page(&word[..n]) {
         go_on(rt);
         return;
     }
     match commands::kind_named(&word[..n]) {
-        Named::Known(kind) => open(rt, kind),
-        Named::NoKind => replies::complain(
+        Some(kind) => open(rt, kind),
+        None => replies::complain(
             rt,
             b"KIND is utf7h, utf7b or jp2, or page for a page that was kept",
         ),
@@ -104,12 +74,8 @@ fn begin_with(rt: &HostRuntime) {
 // `desk KIND FILE`
 fn open(rt: &HostRuntime, kind: Kind) {
     let mut path = [0u8; 4096];
-    let n = match argument(rt, 2, &mut path) {
-        Got::Bytes(n) => n,
-        Got::Failed(e) => {
-            replies::fail(rt, b"FILE", e);
-            return;
-        }
+    let Some(n) = file_name(rt, &mut path) else {
+        return;
     };
     let mut letter = rooms::letter();
     let mut text = rooms::text();
@@ -120,12 +86,8 @@ fn open(rt: &HostRuntime, kind: Kind) {
 // `desk page FILE`
 fn go_on(rt: &HostRuntime) {
     let mut path = [0u8; 4096];
-    let n = match argument(rt, 2, &mut path) {
-        Got::Bytes(n) => n,
-        Got::Failed(e) => {
-            replies::fail(rt, b"FILE", e);
-            return;
-        }
+    let Some(n) = file_name(rt, &mut path) else {
+        return;
     };
     let mut letter = rooms::arrived();
     let mut text = rooms::text();
@@ -141,22 +103,13 @@ fn open_by(
     letter: &mut [u8],
     text: &mut [u32],
     history: &mut [u32],
-) -> Sat
+) -> Option<Hand>
     ensures { OpenedAt result kind text.old history.old
         letter.new text.new history.new }
 {
     let what = Source::Letter(kind);
-    let found = begin(rt, what, name, &mut *letter, &mut *text, &mut *history);
-    match found {
-        Found::Made(given, n) => Sat::Through(serve(
-            rt,
-            given,
-            &letter[..n],
-            &mut *text,
-            &mut *history,
-        )),
-        Found::Unmade => Sat::Never,
-    }
+    let (given, n) = begin(rt, what, name, &mut *letter, &mut *text, &mut *history)?;
+    Some(serve(rt, given, &letter[..n], &mut *text, &mut *history))
 }
 
 // Reads a page file by its name, and goes on with its page.
@@ -166,22 +119,13 @@ fn go_on_by(
     letter: &mut [u8],
     text: &mut [u32],
     history: &mut [u32],
-) -> Sat
+) -> Option<Hand>
     ensures { KeptAt result letter.old text.old history.old
         text.new history.new }
 {
     let what = Source::Kept;
-    let found = begin(rt, what, name, &mut *letter, &mut *text, &mut *history);
-    match found {
-        Found::Made(given, n) => Sat::Through(serve(
-            rt,
-            given,
-            &letter[..n],
-            &mut *text,
-            &mut *history,
-        )),
-        Found::Unmade => Sat::Never,
-    }
+    let (given, n) = begin(rt, what, name, &mut *letter, &mut *text, &mut *history)?;
+    Some(serve(rt, given, &letter[..n], &mut *text, &mut *history))
 }
 
 // Makes a page of FILE. The room that a page file takes is given back here, before the page is worked on: the stack
@@ -193,7 +137,7 @@ fn begin(
     letter: &mut [u8],
     text: &mut [u32],
     history: &mut [u32],
-) -> Found
+) -> Option<(Edited, usize)>
     ensures { Gave what result letter.old text.old history.old
         letter.new text.new history.new }
 {
@@ -220,18 +164,13 @@ fn open_letter(
     letter: &mut [u8],
     text: &mut [u32],
     history: &mut [u32],
-) -> Found
+) -> Option<(Edited, usize)>
     ensures { Gave (Letter kind) result letter.old text.old history.old
         letter.new text.new history.new }
 {
-    let got = files::read(rt, name, &mut *letter);
-    match got {
-        Got::Bytes(size) => Found::Made(
-            page::open(kind, &letter[..size], &mut *text, &mut *history),
-            size,
-        ),
-        Got::Failed(_) => Found::Unmade,
-    }
+    let size = files::read(rt, name, &mut *letter)?;
+    let given = page::open(kind, &letter[..size], &mut *text, &mut *history);
+    Some((given, size))
 }
 
 fn read_page(
@@ -241,29 +180,24 @@ fn read_page(
     letter: &mut [u8],
     text: &mut [u32],
     history: &mut [u32],
-) -> Found
+) -> Option<(Edited, usize)>
     ensures { Gave Kept result letter.old text.old history.old
         letter.new text.new history.new }
 {
-    let got = files::read(rt, name, &mut *file);
-    match got {
-        Got::Bytes(size) => {
-            if files::PAGE_ROOM < size {
-                replies::refuse(
-                    rt,
-                    name,
-                    b"is longer than 1572864 bytes, and there is no room for it",
-                );
-                return Found::Unmade;
-            }
-            let given = page_read::read(&file[..size], &mut *letter, &mut *text, &mut *history);
-            let answer = given.answer;
-            match answer {
-                Answer::Accepted(n) => Found::Made(given, n),
-                Answer::Refused(_, _) => Found::Made(given, 0),
-            }
-        }
-        Got::Failed(_) => Found::Unmade,
+    let size = files::read(rt, name, &mut *file)?;
+    if files::PAGE_ROOM < size {
+        replies::refuse(
+            rt,
+            name,
+            b"is longer than 1572864 bytes, and there is no room for it",
+        );
+        return None;
+    }
+    let given = page_read::read(&file[..size], &mut *letter, &mut *text, &mut *history);
+    let answer = given.answer;
+    match answer {
+        Answer::Accepted(n) => Some((given, n)),
+        Answer::Refused(_, _) => Some((given, 0)),
     }
 }
 

@@ -9,12 +9,8 @@ const LETTERS: [u8; 64] = *b"abcdefghijklmnopqrstuvwxyzABCDEFGHIJKLMNOPQRSTUVWXY
 pub fn folder(name: &[u8]) -> &[u8]
     ensures { length result.now ≤ length name.now }
 {
-    for end in (0..name.len()).rev() {
-        if name[end] == b'/' {
-            return &name[..end + 1];
-        }
-    }
-    &name[..0]
+    let end = name.iter().rposition(|&b| b == b'/');
+    &name[..end.map_or(0, |last| last + 1)]
 }
 
 // A letter or digit for a random byte.
@@ -38,18 +34,6 @@ pub fn spell_new(folder: &[u8], dice: [u8; 6], path: &mut [u8; PATH_MAX]) -> usi
     let n = folder.len();
     put_at(path, 0, folder);
     put_at(path, n, b"desk.new.");
-    let [a, b, c, d, e, f] = dice;
-    put_at(
-        path,
-        n + 9,
-        &[
-            letter(a),
-            letter(b),
-            letter(c),
-            letter(d),
-            letter(e),
-            letter(f),
-        ],
-    );
+    put_at(path, n + 9, &dice.map(letter));
     n + 15
 }

@@ -88,7 +88,7 @@ fn replace(rt: &HostRuntime, p: Page, words: &[u8], text: &mut [u32], history: &
 fn alone(rt: &HostRuntime, words: &[u8]) -> bool
     ensures { result ≡ eqb (length words.now) 0 }
 {
-    if words.len() == 0 {
+    if words.is_empty() {
         return true;
     }
     replies::complain(rt, b"nothing may follow this command");
@@ -152,14 +152,8 @@ fn show(rt: &HostRuntime, p: Page, words: &[u8], text: &[u32]) {
 fn name_end(words: &[u8]) -> usize
     ensures { result ≤ length words.now }
 {
-    let mut end = words.len();
-    while 0 < end {
-        if !commands::is_blank(words[end - 1]) {
-            return end;
-        }
-        end -= 1;
-    }
-    end
+    let end = words.iter().rposition(|&b| !commands::is_blank(b));
+    end.map_or(0, |last| last + 1)
 }
 
 // A command that is no quit, and whose file, if it is to have one, was not put.
@@ -278,11 +272,7 @@ pub fn may_leave(p: Page, warned: bool, text: &[u32], history: &[u32]) -> bool
     ensures { result
         ≡ (warned || (unchanged_of (state_of p text.now history.now)).unchanged) }
 {
-    if warned {
-        return true;
-    }
-    let asked = page::unchanged(p, text, history);
-    asked.unchanged
+    warned || page::unchanged(p, text, history).unchanged
 }
 
 // `quit`: a page that is not saved is left only by a second one.

@@ -1,6 +1,4 @@
 // What the desk says: answers on standard output, in the listers' style, and complaints on standard error.
-ghost use Rattle.std.specs.Prelude.{◌≤◌, ◌<◌};
-
 use answer::Answer;
 use std::io::{Error, Write};
 use std::rt::HostRuntime;
@@ -15,10 +13,10 @@ const PART: usize = 4096;
 pub fn tell(rt: &HostRuntime, given: Answer) {
     let mut lines = [0u8; 64];
     let told = listing::tell(given, &mut lines);
-    if let Answer::Accepted(size) = told {
-        if size <= 64 {
-            let _ = rt.stdout().write_all(&lines[..size]);
-        }
+    if let Answer::Accepted(size) = told
+        && size <= 64
+    {
+        let _ = rt.stdout().write_all(&lines[..size]);
     }
 }
 
@@ -32,45 +30,29 @@ fn list_part(
     lines: &mut [u8],
 ) -> bool {
     let listed = listing::list(Answer::Accepted(count), cells, &mut *lines);
-    if let Answer::Accepted(size) = listed {
-        if less <= size {
-            let to = size - less;
-            if from <= to {
-                if to <= lines.len() {
-                    return rt.stdout().write_all(&lines[from..to]).is_ok();
-                }
-            }
-        }
+    if let Answer::Accepted(size) = listed
+        && let Some(to) = size.checked_sub(less)
+        && let Some(part) = lines.get(from..to)
+    {
+        return rt.stdout().write_all(part).is_ok();
     }
     false
 }
 
-// Where a part of a text ends.
-fn part_end(from: usize, length: usize) -> usize
-    requires { from < length }
-    ensures { (from < result) × (result ≤ length) }
-{
-    if length - from < PART {
-        return length;
-    }
-    from + PART
-}
-
-// The cells of a text from a place on, each part behind a space. The lines before the cells, which are not written,
-// have 23 bytes; the LF is written behind the last part.
-fn show_from(rt: &HostRuntime, cells: &[u32], first: usize, lines: &mut [u8]) {
-    let n = cells.len();
-    let mut at = first;
-    while at < n {
-        let to = part_end(at, n);
-        let less: usize = if to < n { 1 } else { 0 };
+// More cells of a text, part by part, each behind a space. The lines before the cells, which are not written, have 23
+// bytes; the LF is written behind the last part.
+fn show_more(rt: &HostRuntime, cells: &[u32], lines: &mut [u8]) {
+    let mut rest = cells;
+    while !rest.is_empty() {
+        let (part, behind) = rest.split_at(rest.len().min(PART));
+        let less = usize::from(!behind.is_empty());
         if rt.stdout().write_all(b" ").is_err() {
             return;
         }
-        if !list_part(rt, 0, &cells[at..to], 23, less, &mut *lines) {
+        if !list_part(rt, 0, part, 23, less, &mut *lines) {
             return;
         }
-        at = to;
+        rest = behind;
     }
 }
 
@@ -82,7 +64,7 @@ pub fn show(rt: &HostRuntime, cells: &[u32]) {
         return;
     }
     if list_part(rt, cells.len(), &cells[..PART], 0, 1, &mut lines) {
-        show_from(rt, cells, PART, &mut lines);
+        show_more(rt, &cells[PART..], &mut lines);
     }
 }
 

@@ -3,11 +3,11 @@
 
 ghost use Rattle.std.specs.Prelude.{◌≡◌};
 ghost use Rattle.comparer.specs.Compare.{compared_as, compare_of};
-ghost use Rattle.host_compare.specs.Compared.{in_host, hears, text_number};
+ghost use Rattle.host_compare.specs.Compared.{in_host, hears};
 
 use answer::Answer;
 use codec::Format;
-use comparer::{Compared, Text};
+use comparer::Compared;
 use host_numbers::{Numbers, in_numbers};
 
 // The answer, which text is refused (0: none, 1, 2), whether they are the same (1) and else where they part: the cell's
@@ -21,15 +21,6 @@ pub struct HostCompared {
     pub index: usize,
     pub first: usize,
     pub second: usize,
-}
-
-fn text_number(which: Text) -> u32
-    ensures { result ≡ text_number which }
-{
-    match which {
-        Text::First => 1,
-        Text::Second => 2,
-    }
 }
 
 fn in_host(found: Compared) -> HostCompared
@@ -60,7 +51,7 @@ fn in_host(found: Compared) -> HostCompared
         },
         Compared::Refused(which, why, place) => {
             let answer = in_numbers(Answer::Refused(why, place));
-            let text = text_number(which);
+            let text = which as u32;
             HostCompared {
                 answer,
                 text,

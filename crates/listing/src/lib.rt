@@ -13,9 +13,10 @@ fn digit_of(d: u32) -> u8
     ensures { result ≡ digit d }
 {
     if d < 10 {
-        return 48 + d as u8;
+        b'0' + d as u8
+    } else {
+        b'A' + (d as u8 - 10)
     }
-    55 + d as u8
 }
 
 // How many digits a number has in decimal.
@@ -50,12 +51,8 @@ fn put_hex(v: u32, out: &mut [u8])
     requires { 8 ≤ length out.old }
     ensures { out.new ≡ filled (hex_in 8 v) out.old }
 {
-    let mut w: u32 = 8;
-    let mut at: usize = 0;
-    while 0 < w {
-        w -= 1;
-        out[at] = digit_of((v >> (4 * w)) % 16);
-        at += 1;
+    for at in 0..8 {
+        out[at] = digit_of((v >> (4 * (7 - at as u32))) % 16);
     }
 }
 
@@ -65,14 +62,12 @@ fn put_spaced(cells: &[u32], out: &mut [u8]) -> usize
     ensures { (result ≡ length (spaced cells.now))
         × (out.new ≡ filled (spaced cells.now) out.old) }
 {
-    let mut i: usize = 0;
     let mut at: usize = 0;
-    while i < cells.len() {
+    for &cell in cells {
         out[at] = b' ';
         at += 1;
-        put_hex(cells[i], &mut out[at..]);
+        put_hex(cell, &mut out[at..]);
         at += 8;
-        i += 1;
     }
     at
 }
@@ -96,13 +91,10 @@ fn put_name(name: &[u8], out: &mut [u8]) -> usize
     ensures { (result ≡ length (name.now ++ 61 ∷ []))
         × (out.new ≡ filled (name.now ++ 61 ∷ []) out.old) }
 {
-    let mut i: usize = 0;
-    while i < name.len() {
-        out[i] = name[i];
-        i += 1;
-    }
-    out[i] = b'=';
-    i + 1
+    let n = name.len();
+    out[..n].copy_from_slice(name);
+    out[n] = b'=';
+    n + 1
 }
 
 // A line that says a number.

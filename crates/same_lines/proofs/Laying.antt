@@ -14,7 +14,11 @@ use Rattle.answer.proofs.Put.{Put, put-lent, put-done}
 use Rattle.listing.specs.Listing.{decimal, say_into}
 use Rattle.listing.proofs.Digits.{decimal-few}
 use Rattle.listing.proofs.Lines.{line-size}
-use Rattle.same_lines.specs.Told.{says, laid}
+use denote.Enum.Declared.{tag_of}
+use Rattle.comparer.specs.contracts.Text.{the_type}
+use Rattle.comparer.specs.declared.Text.{Text}
+use Rattle.comparer.specs.declared.Text.TheVariants.{First, Second}
+use Rattle.same_lines.specs.Told.{says, text_number, laid}
 use Rattle.same_lines.specs.Inner.{Holds}
 use Rattle.same_lines.specs.declared.Lines.{Lines}
 
@@ -81,6 +85,11 @@ lines-room lines part y k h r e =
     let q = simp (length-append, length-take, length-drop) at (ap length e) in
     let m = simp (length-take, length-drop) at r in
     simp (length-append, length-take, length-drop) (omega arith)
+
+-- the number that the code has for a text
+pub number-of-text : (which : Text) → tag_of the_type which + 1 ≡ text_number which
+number-of-text First = refl
+number-of-text Second = refl
 
 pub holds-less : {lines : Lines} {most more : ℕ} → Holds lines most → most ≤ more → Holds lines more
 holds-less h l = record { room = h.room; few = omega (arith, h.few) }

@@ -3,12 +3,12 @@
 
 ghost use Rattle.std.specs.Prelude.{◌≡◌, List, ◌++◌, ℕ, ◌+◌, ◌-◌, ◌≤◌, length};
 ghost use Rattle.comparer.specs.Compare.{compared_as};
-ghost use Rattle.same_lines.specs.Told.{says, text_number, printed, laid};
+ghost use Rattle.same_lines.specs.Told.{says, printed, laid};
 ghost use Rattle.same_lines.specs.Inner.{Holds};
 ghost use Rattle.listing.specs.Listing.{status_name};
 
 use answer::Answer;
-use comparer::{Compared, Text};
+use comparer::Compared;
 
 // Lines: so many of the bytes.
 #[derive(Clone, Copy)]
@@ -28,15 +28,6 @@ fn with_line(lines: Lines, name: &[u8], n: usize) -> Lines
     let said = listing::say(name, n, &mut bytes[from..]);
     let size = from + answer::place(said);
     Lines { bytes, size }
-}
-
-fn text_number(which: Text) -> usize
-    ensures { result ≡ text_number which }
-{
-    match which {
-        Text::First => 1,
-        Text::Second => 2,
-    }
 }
 
 // The line of the number, which is the first.
@@ -62,7 +53,7 @@ pub fn print(found: Compared) -> Lines
         }
         Compared::Refused(which, why, place) => {
             let number = answer::number(Answer::Refused(why, place)) as usize;
-            let one = with_line(status(number), b"text", text_number(which));
+            let one = with_line(status(number), b"text", which as usize);
             with_line(one, b"place", place)
         }
     }

@@ -1,11 +1,11 @@
-// A file, or an input, read whole. A read that a signal interrupts is made again.
+// A file, or an input, read whole, and the arguments that name files. A read that a signal interrupts is made again.
 #![tactic(auto)]
 
-ghost use Rattle.std.specs.Prelude.{◌≤◌, ◌<◌, ◌≡◌, length, take, pos, Some, IfOk, OnOk, OnErr, MatchResult, IsUtf8};
+ghost use Rattle.std.specs.Prelude.{◌≤◌, ◌<◌, ◌≡◌, length, take, pos, Some, IfOk, IfErr, ◌⊎◌, OnOk, OnErr, MatchResult, IsUtf8};
 ghost use Rattle.std.specs.Io.KnownBytes.{Consumes, IsAtEnd, Keeps};
 ghost use Rattle.std.specs.IoError.{raw_os_error};
-ghost use Rattle.whole_file.specs.Got.{Within};
 
+use std::env::{Env, FillError};
 use std::io::{Error, ErrorKind, Read};
 use std::rt::Files;
 use std::{fs, io};
@@ -13,12 +13,10 @@ use std::{fs, io};
 // The system's number for bytes that are no text, "Invalid or incomplete multibyte or wide character".
 const EILSEQ: i32 = 84;
 
-// How many bytes of a file came; or none, since it could not be opened or read, and why.
-#[derive(Clone, Copy)]
-pub enum Got {
-    Bytes(usize),
-    Failed(Error),
-}
+// The system's numbers for an argument that is not there, and for one that is too long.
+const EINVAL: i32 = 22;
+
+const ENAMETOOLONG: i32 = 36;
 
 // Reads once, and again where a signal interrupted that before any byte came: none at the end of the input. What the
 // bytes are is known where those of the reader are.
@@ -39,34 +37,17 @@ pub fn read_some<R: Read>(input: &mut R, buf: &mut [u8]) -> io::Result<usize>
     Err(Error::from(ErrorKind::TimedOut))
 }
 
-// Reads once behind the first bytes of a buffer, and says how many there are then: no more at the end of the file.
-fn read_on<R: Read>(file: &mut R, buf: &mut [u8], at: usize) -> Got
-    requires { at ≤ length buf.old }
-    ensures { Within result at buf.new × (length buf.new ≡ length buf.old) }
+// An argument of the program, which names a file, and how many bytes it has; or the system's fault for one that is not
+// there, or longer than the buffer.
+pub fn argument<E: Env>(rt: &E, i: usize, buf: &mut [u8]) -> io::Result<usize>
+    ensures within { IfOk result (λ n. n ≤ length buf.new) }
+    ensures fault { IfErr result (λ e. (raw_os_error e ≡ Some (pos 22)) ⊎ (raw_os_error e ≡ Some (pos 36))) }
 {
-    match read_some(file, &mut buf[at..]) {
-        Ok(n) => Got::Bytes(at + n),
-        Err(e) => Got::Failed(e),
+    match rt.arg(i, buf) {
+        Ok(n) => Ok(n),
+        Err(FillError::NotPresent) => Err(Error::from_raw_os_error(EINVAL)),
+        Err(FillError::TooLong) => Err(Error::from_raw_os_error(ENAMETOOLONG)),
     }
-}
-
-// Reads to the end of a file, or until the buffer is full.
-fn read_all<R: Read>(file: &mut R, buf: &mut [u8]) -> Got
-    ensures { Within result 0 buf.new }
-{
-    let mut at: usize = 0;
-    while at < buf.len() {
-        match read_on(file, buf, at) {
-            Got::Failed(e) => return Got::Failed(e),
-            Got::Bytes(n) => {
-                if n <= at {
-                    return Got::Bytes(at);
-                }
-                at = n;
-            }
-        }
-    }
-    Got::Bytes(at)
 }
 
 // A file's name as the library takes it. One that is no UTF-8 text is refused with EILSEQ: the library opens no other.
@@ -74,25 +55,17 @@ pub fn path(name: &[u8]) -> io::Result<&str>
     ensures { MatchResult result (λ s. s.now ≡ name.now)
         (λ e. ¬ (IsUtf8 name.now) × (raw_os_error e ≡ Some (pos 84))) }
 {
-    match str::from_utf8(name) {
-        Ok(path) => Ok(path),
-        Err(_) => Err(Error::from_raw_os_error(EILSEQ)),
-    }
+    str::from_utf8(name).map_err(|_| Error::from_raw_os_error(EILSEQ))
 }
 
-// Reads a file by its name, to its end or until the buffer is full. A file that was only read is closed whatever the
-// close says.
-pub fn read<R: Files>(rt: &R, name: &[u8], buf: &mut [u8]) -> Got
-    ensures { Within result 0 buf.new }
+// Reads a file by its name, to its end or until the buffer is full, and says how many bytes came. A file that was only
+// read is closed whatever the close says.
+pub fn read<R: Files>(rt: &R, name: &[u8], buf: &mut [u8]) -> io::Result<usize>
+    ensures { IfOk result (λ n. n ≤ length buf.new) }
 {
-    let path = match path(name) {
-        Ok(path) => path,
-        Err(e) => return Got::Failed(e),
-    };
-    match fs::open(rt, path) {
-        Ok(mut file) => read_all(&mut file, buf),
-        Err(e) => Got::Failed(e),
-    }
+    let mut file = fs::open(rt, path(name)?)?;
+    let (n, all) = read_full(&mut file, buf);
+    all.map(|()| n)
 }
 
 // Reads until a buffer is full, the input ends or a read fails. It says how many bytes came, which are the next ones of

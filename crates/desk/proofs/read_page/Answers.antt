@@ -4,5 +4,5 @@ use Rattle.desk.proofs.read_page.Goals as goal
 pub returns-in-Accepted : goal.returns-in-Accepted
 returns-in-Accepted c =
     read-accepted c.read-given.result _ _ _ _ _ _ _
-    (few-of _ c.read-got.new.buf c.in-Bytes.ensures.1 c.if-size-gt-PAGE_ROOM.false)
+    (few-of _ c.read.new.buf c.in_ok-size.ensures c.if-size-gt-PAGE_ROOM.false)
     c.read-given.ensures c.in-Accepted.is
