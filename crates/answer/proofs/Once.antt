@@ -8,8 +8,8 @@ use borrow.Author.Tests.{ne_eqb}
 use Rattle.answer.specs.Answer.{limit, Verdict, number_of, in_numbers}
 use Rattle.answer.specs.declared.Refusal.{Refusal}
 use Rattle.answer.specs.declared.Refusal.TheVariants.{HighByte, LoneSign, StrayByte, LeftOverBits, UnknownEscape, EmptyG2, CutShort, NotAscii, NoRoom, Unwritable, BeyondLength, HistoryFull, NothingLeft, Unsound, NotTheText, OverLimit, NeedlessShift, BadPageFile, NoGain, NoSuchBench, BadWord}
-use Rattle.answer.specs.declared.Answer.{Answer}
-use Rattle.answer.specs.declared.Answer.TheVariants.{Accepted, Refused}
+use Rattle.answer.specs.Answer.{Answer, refused_at}
+use Rattle.std.specs.declared.result.Result.TheVariants.{Ok, Err}
 
 -- the refusal of a number of the table
 named : ℕ → Refusal
@@ -78,12 +78,12 @@ number-pos BadWord = lit< tt
 
 -- the answer of a number and a place
 pub answered : Verdict → Answer
-answered v = cond (eqb v.number 0) (Accepted v.place) (Refused (named v.number) v.place)
+answered v = cond (eqb v.number 0) (Ok v.place) (refused_at (named v.number) v.place)
 
 pub answered-back : (a : Answer) → answered (in_numbers a) ≡ a
 unfolding answered
-answered-back (Accepted count) = refl
-answered-back (Refused why place) = simp (ne_eqb (number_of why) 0 (λ e. omega (arith, number-pos why)), named-number why)
+answered-back (Ok count) = refl
+answered-back (Err deny) = simp (ne_eqb (number_of deny.0) 0 (λ e. omega (arith, number-pos deny.0)), named-number deny.0)
 
 -- two answers with one number and place are one answer
 pub numbers-once : (a b : Answer) → in_numbers a ≡ in_numbers b → a ≡ b

@@ -1,9 +1,9 @@
 -- Document 01, "Numbers given back": the table's numbers and places, and the limit.
-use Rattle.std.specs.Prelude.{ℕ}
+use Rattle.std.specs.Prelude.{ℕ, Ok, Err}
+use Rattle.std.specs.declared.result.Result.{Result}
 use Rattle.answer.specs.declared.Refusal.{Refusal}
 use Rattle.answer.specs.declared.Refusal.TheVariants.{HighByte, LoneSign, StrayByte, LeftOverBits, UnknownEscape, EmptyG2, CutShort, NotAscii, NoRoom, Unwritable, BeyondLength, HistoryFull, NothingLeft, Unsound, NotTheText, OverLimit, NeedlessShift, BadPageFile, NoGain, NoSuchBench, BadWord}
-use Rattle.answer.specs.declared.Answer.{Answer}
-use Rattle.answer.specs.declared.Answer.TheVariants.{Accepted, Refused}
+use Rattle.answer.specs.declared.Refused.{Refused}
 
 -- "16, over 65,536" (document 02, order 10: "Raise 65,536 to 1,048,576"): the most elements that may be lent
 unfoldable pub limit : ℕ
@@ -46,10 +46,17 @@ number_of NoSuchBench = 20
 -- document 02, order 14: bad word
 number_of BadWord = 21
 
+-- accepted with the count of elements, or refused
+abbrev pub Answer : Type 0
+Answer = Result ℕ Refused
+
+abbrev pub refused_at : Refusal → ℕ → Answer
+refused_at why place = Err (record { 0 = why; 1 = place })
+
 -- the number and the place of every answer: "0, accepted, the count of elements", and the refusals
 abbrev pub in_numbers : Answer → Verdict
-in_numbers (Accepted count) = numbered 0 count
-in_numbers (Refused why place) = numbered (number_of why) place
+in_numbers (Ok count) = numbered 0 count
+in_numbers (Err refused) = numbered (number_of refused.0) refused.1
 
 -- "16, over 65,536": its place is the limit
 abbrev pub too_long : Verdict

@@ -1,10 +1,8 @@
 -- Cases of what a call that fills an output answers and leaves, one table and what it states.
-use Rattle.std.specs.Prelude.{ℕ, ◌≡◌, List, [], ◌∷◌, length}
-use Rattle.answer.specs.Answer.{numbered}
+use Rattle.std.specs.Prelude.{ℕ, ◌≡◌, Ok, List, [], ◌∷◌, length}
+use Rattle.answer.specs.Answer.{Answer, numbered, refused_at}
 use Rattle.answer.specs.Lists.{Each}
 use Rattle.answer.specs.Output.{Outcome, leaves, deliver, written}
-use Rattle.answer.specs.declared.Answer.{Answer}
-use Rattle.answer.specs.declared.Answer.TheVariants.{Accepted, Refused}
 use Rattle.answer.specs.declared.Refusal.TheVariants.{NoRoom}
 
 pub data Case : Type 0 where
@@ -27,8 +25,8 @@ Holds (writes count first text out number place left) =
 abbrev pub cases : List Case
 cases =
     -- the output of a promise is all of it
-    tells (Accepted 1) (8 ∷ 9 ∷ []) 0 1 (8 ∷ 9 ∷ [])
-    ∷ tells (Refused NoRoom 3) (8 ∷ 9 ∷ []) 9 3 (8 ∷ 9 ∷ [])
+    tells (Ok 1) (8 ∷ 9 ∷ []) 0 1 (8 ∷ 9 ∷ [])
+    ∷ tells (refused_at NoRoom 3) (8 ∷ 9 ∷ []) 9 3 (8 ∷ 9 ∷ [])
     -- "9, too little room, elements needed": three into two places, and one into none
     ∷ delivers (1 ∷ 2 ∷ 3 ∷ []) (8 ∷ 9 ∷ []) 9 3 (8 ∷ 9 ∷ [])
     ∷ delivers (1 ∷ []) [] 9 1 []

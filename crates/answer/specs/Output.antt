@@ -1,7 +1,6 @@
 -- What a call that fills an output answers, and what the output then holds.
 use Rattle.std.specs.Prelude.{ℕ, cond, List, ◌++◌, length, drop, ltb}
-use Rattle.answer.specs.Answer.{Verdict, numbered, in_numbers, limit, too_long}
-use Rattle.answer.specs.declared.Answer.{Answer}
+use Rattle.answer.specs.Answer.{Answer, Verdict, numbered, in_numbers, limit, too_long}
 
 pub record Outcome : Type 0 where
   pub verdict : Verdict
