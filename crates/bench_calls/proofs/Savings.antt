@@ -3,14 +3,13 @@ use Prim.Native.Nat.{ℕ, zero, suc, ◌≤◌}
 use mathlib.Core.Path.{◌≡◌, refl, sym, ap, ◌∙◌}
 use mathlib.Core.Bool.{Bool, true, false}
 use mathlib.Core.List.{List, reverse}
+use Rattle.std.specs.declared.result.Result.TheVariants.{Ok, Err}
 use Rattle.std.specs.Prelude.{Option, None, Some}
 use native.Mathlib.Omega.{arith}
 use lib.ListN.{length, take}
 use lib.Dec.{eqb}
 use borrow.Author.Tests.{eqb-true, eqb-false, eq-eqb, ne_eqb}
-use Rattle.answer.specs.Answer.{Verdict, numbered, number_of, in_numbers, too_long}
-use Rattle.answer.specs.declared.Answer.{Answer}
-use Rattle.answer.specs.declared.Answer.TheVariants.{Accepted, Refused}
+use Rattle.answer.specs.Answer.{Verdict, numbered, number_of, in_numbers, too_long, Answer}
 use Rattle.answer.specs.Output as output
 use Rattle.answer.proofs.Once.{number-pos}
 use Rattle.editor.specs.Ledger.{save}
@@ -39,8 +38,8 @@ use Rattle.bench_calls.proofs.Turns.{Picked, picked, back-picked}
 
 -- the mark that the page gives back is the bench's
 pub saved-bench : (b : Bench) (a : Answer) → marked_as b (saved_page (page_of b) a).saved ≡ saved_bench b a
-saved-bench b (Accepted n) = refl
-saved-bench b (Refused why place) = refl
+saved-bench b (Ok n) = refl
+saved-bench b (Err deny) = refl
 
 -- a save of a bench: its bench, the answer and the output
 abbrev saved_at : State → Side → Bench → Verdict → List ℕ → Outcome
@@ -60,8 +59,8 @@ saved-as :
     (t : State) (s : Side) (e : Editor) (a : Answer) (out : List ℕ) →
     saved_at t s (saved_bench (at t.benches s) a) (in_numbers a) out
     ≡ laid (bench s) t (saved_as (space_in t s) e (output.leaves a out))
-saved-as t s e (Accepted n) out = refl
-saved-as t s e (Refused why place) out =
+saved-as t s e (Ok n) out = refl
+saved-as t s e (Err deny) out =
     rw (ne_eqb (number_of why) 0 (λ (z : number_of why ≡ 0). omega (arith, number-pos why)))
     (same-saved t s (numbered (number_of why) place) out)
 

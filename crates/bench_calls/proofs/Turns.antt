@@ -9,8 +9,7 @@ use lib.ListN.{length, take, drop, length-append, length-reverse, drop_of_length
 use lib.Seq.{take_at, drop_at}
 use lib.Dec.{leb, eqb}
 use borrow.Author.Tests.{leb-true, leb-false, le-leb, lt-leb, eq-eqb, ne_eqb}
-use Rattle.answer.specs.Answer.{Verdict, numbered, in_numbers}
-use Rattle.answer.specs.declared.Answer.{Answer}
+use Rattle.answer.specs.Answer.{Verdict, numbered, in_numbers, Answer}
 use Rattle.answer.proofs.Below.{both}
 use Rattle.editor.specs.Ledger.{undo, redo}
 use Rattle.editor.specs.Records.{Entry, applied, turned, length_after, lengths_fit, reached}

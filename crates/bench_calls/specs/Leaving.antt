@@ -1,7 +1,6 @@
 -- What a call leaves of the caller's bench, its text and the history; and of both benches.
-use Rattle.std.specs.Prelude.{ℕ, cond, List, [], length, eqb}
+use Rattle.std.specs.Prelude.{ℕ, cond, List, [], length, eqb, Ok}
 use Rattle.answer.specs.Answer.{Verdict, numbered, in_numbers}
-use Rattle.answer.specs.declared.Answer.TheVariants.{Accepted}
 use Rattle.editor.specs.Marks.{Mark}
 use Rattle.ledger.specs.Words.{pad}
 use Rattle.benches.specs.declared.Bench.{Bench}
@@ -50,7 +49,7 @@ bench_with b length standing saved =
 -- what an accepted edit gives back
 abbrev pub edited_as : Bench → List ℕ → ℕ → ℕ → Mark → Turned
 edited_as b text used standing saved =
-    record { answer = Accepted (length text); bench = bench_with b (length text) standing saved; used = used }
+    record { answer = Ok (length text); bench = bench_with b (length text) standing saved; used = used }
 
 -- and leaves, in a text buffer of this length
 abbrev pub edited_to : Bench → ℕ → List ℕ → ℕ → ℕ → Mark → List ℕ → Left

@@ -1,7 +1,6 @@
 -- What save and the question look at: a bench as a page whose words done are its standing steps.
-use Rattle.std.specs.Prelude.{ℕ, cond, List, take, eqb, Some}
-use Rattle.answer.specs.declared.Answer.{Answer}
-use Rattle.answer.specs.declared.Answer.TheVariants.{Accepted, Refused}
+use Rattle.answer.specs.Answer.{Answer}
+use Rattle.std.specs.Prelude.{ℕ, cond, List, take, eqb, Some, Ok, Err}
 use Rattle.ledger.specs.declared.Page.{Page}
 use Rattle.benches.specs.declared.Bench.{Bench}
 use Rattle.benches.specs.declared.Benches.{Benches}
@@ -20,8 +19,8 @@ page_of b =
 
 -- the bench that a save with this answer gives back
 abbrev pub saved_bench : Bench → Answer → Bench
-saved_bench b (Accepted n) = marked_as b (Some b.standing)
-saved_bench b (Refused why place) = b
+saved_bench b (Ok n) = marked_as b (Some b.standing)
+saved_bench b (Err deny) = b
 
 -- the cells of the caller's text
 abbrev pub cells_at : Benches → ℕ → List ℕ → List ℕ → List ℕ

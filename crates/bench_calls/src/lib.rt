@@ -21,7 +21,7 @@ ghost use Rattle.bench_calls.specs.Steps.{Ready, moved_on, Steppable, stepped_on
 ghost use Rattle.bench_calls.specs.Replaces.{Shared, fitting_on, replaced_on};
 ghost use Rattle.bench_calls.specs.Saves.{page_of, saved_bench, cells_at};
 
-use answer::{Answer, Refusal};
+use answer::{Answer, Refusal, Refused};
 use bench_records::{Judged, Pass};
 use benches::{Bench, Benches, Edited};
 use ledger::{Asked, Page};
@@ -101,7 +101,7 @@ fn accept(
 {
     let length = splice::splice_in(&mut *text, b.length, place, count, cells);
     Turned {
-        answer: Answer::Accepted(length),
+        answer: Ok(length),
         bench: Bench {
             length,
             standing,
@@ -146,7 +146,7 @@ fn undo_last(b: Bench, used: usize, p: Pass, text: &mut [u32], history: &[u32]) 
         ≡ stepped_on false b used p text.old history.now }
 {
     if b.standing == 0 {
-        return stays(b, used, Answer::Refused(Refusal::NothingLeft, 0));
+        return stays(b, used, Err(Refused(Refusal::NothingLeft, 0)));
     }
     let at = p.last + 1;
     move_at(b, used, false, at, b.standing - 1, &mut *text, history)
@@ -159,7 +159,7 @@ fn redo_next(b: Bench, used: usize, p: Pass, text: &mut [u32], history: &[u32]) 
         ≡ stepped_on true b used p text.old history.now }
 {
     if p.seen <= b.standing {
-        return stays(b, used, Answer::Refused(Refusal::NothingLeft, 0));
+        return stays(b, used, Err(Refused(Refusal::NothingLeft, 0)));
     }
     let at = p.next + 1;
     move_at(b, used, true, at, b.standing + 1, &mut *text, history)
@@ -272,11 +272,11 @@ fn replace_fitting(
 {
     let length = b.length - count + cells.len();
     if text.len() < length {
-        return stays(b, used, Answer::Refused(Refusal::NoRoom, length));
+        return stays(b, used, Err(Refused(Refusal::NoRoom, length)));
     }
     let need = used - p.spare + (4 + count + cells.len());
     if history.len() < need {
-        return stays(b, used, Answer::Refused(Refusal::HistoryFull, need));
+        return stays(b, used, Err(Refused(Refusal::HistoryFull, need)));
     }
     let end = place + count;
     gap::record_step(
@@ -319,11 +319,11 @@ fn replace_on(
 {
     let length = b.length;
     if length < count || length - count < place {
-        return stays(b, used, Answer::Refused(Refusal::BeyondLength, length));
+        return stays(b, used, Err(Refused(Refusal::BeyondLength, length)));
     }
     let first = codec::first_unwritable(b.kind, cells);
     if first < cells.len() {
-        return stays(b, used, Answer::Refused(Refusal::Unwritable, first));
+        return stays(b, used, Err(Refused(Refusal::Unwritable, first)));
     }
     replace_fitting(
         b,
@@ -358,9 +358,29 @@ fn replace_sound(
 {
     let used = b.used;
     let t = if bench == 0 {
-        replace_on(b.bench0, 0, used, p, place, count, cells, &mut *text0, &mut *history)
+        replace_on(
+            b.bench0,
+            0,
+            used,
+            p,
+            place,
+            count,
+            cells,
+            &mut *text0,
+            &mut *history,
+        )
     } else {
-        replace_on(b.bench1, 1, used, p, place, count, cells, &mut *text1, &mut *history)
+        replace_on(
+            b.bench1,
+            1,
+            used,
+            p,
+            place,
+            count,
+            cells,
+            &mut *text1,
+            &mut *history,
+        )
     };
     back(b, bench, t)
 }

@@ -1,6 +1,6 @@
 -- What a call on benches that are lent leaves.
+use Rattle.answer.specs.Answer.{Answer}
 use Rattle.std.specs.Prelude.{ℕ, List}
-use Rattle.answer.specs.declared.Answer.{Answer}
 use Rattle.benches.specs.declared.Benches.{Benches}
 use Rattle.benches.specs.Benches.{Outcome, leaves}
 

@@ -7,9 +7,9 @@ use native.Mathlib.Omega.{arith}
 use lib.ListN.{length, replicate, length-replicate}
 use lib.Dec.{ltb, eqb}
 use borrow.Author.Tests.{ltb-false, le-ltb, ne_eqb}
-use Rattle.answer.specs.Answer.{limit, numbered, in_numbers, number_of, too_long}
-use Rattle.answer.specs.declared.Answer.{Answer}
-use Rattle.answer.specs.declared.Answer.TheVariants.{Accepted, Refused}
+use Rattle.std.specs.declared.result.Result.TheVariants.{Ok, Err}
+use Rattle.answer.specs.declared.Refused.{Refused}
+use Rattle.answer.specs.Answer.{limit, numbered, in_numbers, number_of, too_long, Answer}
 use Rattle.answer.specs.declared.Refusal.{Refusal}
 use Rattle.answer.specs.Output as output
 use Rattle.answer.proofs.Once.{number-pos}
@@ -174,26 +174,26 @@ module _ (kind0 kind1 : Kind) (arrived0 arrived1 text0 text1 history : List ℕ)
   refused-number why = ne_eqb (number_of why) 0 (λ (z : number_of why ≡ 0). omega (arith, number-pos why))
 
   pub refused-first :
-      (a : Answer) (why : Refusal) (place : ℕ) → in_numbers a ≡ (open_of kind0 arrived0 text0 history).verdict →
-      a ≡ Refused why place → leaves (refused_with kind0 kind1 a) text0 text1 history [] ≡ opens
-  refused-first a why place e q =
-      let no : taken (open_of kind0 arrived0 text0 history) ≡ false = rw (← e, q) (refused-number why) in
+      (a : Answer) (deny : Refused) → in_numbers a ≡ (open_of kind0 arrived0 text0 history).verdict →
+      a ≡ Err deny → leaves (refused_with kind0 kind1 a) text0 text1 history [] ≡ opens
+  refused-first a deny e q =
+      let no : taken (open_of kind0 arrived0 text0 history) ≡ false = rw (← e, q) (refused-number deny.0) in
       sym
       (first-refused (both_of kind0 kind1) (both_of arrived0 arrived1) (both_of text0 text1) history no
       ∙ (λ i. refusing (benches.not_opened (both_of kind0 kind1) (both_of text0 text1) history) [] (sym e i)))
 
   pub refused-second :
-      (a : Answer) (why : Refusal) (place : ℕ) → taken (open_of kind0 arrived0 text0 history) ≡ true →
-      in_numbers a ≡ (open_of kind1 arrived1 text1 history).verdict → a ≡ Refused why place →
+      (a : Answer) (deny : Refused) → taken (open_of kind0 arrived0 text0 history) ≡ true →
+      in_numbers a ≡ (open_of kind1 arrived1 text1 history).verdict → a ≡ Err deny →
       leaves (refused_with kind0 kind1 a) text0 text1 history [] ≡ opens
-  refused-second a why place ok e q =
-      let no : taken (open_of kind1 arrived1 text1 history) ≡ false = rw (← e, q) (refused-number why) in
+  refused-second a deny ok e q =
+      let no : taken (open_of kind1 arrived1 text1 history) ≡ false = rw (← e, q) (refused-number deny.0) in
       sym
       (second-refused (both_of kind0 kind1) (both_of arrived0 arrived1) (both_of text0 text1) history ok no
       ∙ (λ i. refusing (benches.not_opened (both_of kind0 kind1) (both_of text0 text1) history) [] (sym e i)))
 
 pub told-taken :
     (kind : Kind) (arrived text history : List ℕ) (a : Answer) (n : ℕ) →
-    in_numbers a ≡ (open_of kind arrived text history).verdict → a ≡ Accepted n →
+    in_numbers a ≡ (open_of kind arrived text history).verdict → a ≡ Ok n →
     taken (open_of kind arrived text history) ≡ true
 told-taken kind arrived text history a n e q = rw (← e, q)

@@ -1,8 +1,6 @@
 -- What one open of two benches gives back.
-use Rattle.std.specs.Prelude.{ℕ, ◌+◌, cond, ltb, eqb}
-use Rattle.answer.specs.Answer.{Verdict, numbered}
-use Rattle.answer.specs.declared.Answer.{Answer}
-use Rattle.answer.specs.declared.Answer.TheVariants.{Accepted}
+use Rattle.std.specs.Prelude.{ℕ, ◌+◌, cond, ltb, eqb, Ok}
+use Rattle.answer.specs.Answer.{Verdict, numbered, Answer}
 use Rattle.codec.specs.declared.Kind.{Kind}
 use Rattle.ledger.specs.declared.Page.{Page}
 use Rattle.benches.specs.declared.Bench.{Bench}
@@ -29,6 +27,6 @@ bench_of p =
 abbrev pub opened_with : Page → Page → Edited
 opened_with p q =
     record {
-      answer = Accepted (p.length + q.length);
+      answer = Ok (p.length + q.length);
       benches = record { bench0 = bench_of p; bench1 = bench_of q; used = 0 };
     }

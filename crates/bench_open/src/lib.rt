@@ -3,7 +3,7 @@
 
 ghost use Rattle.std.specs.Prelude.{◌≡◌, true, [], ◌+◌, ◌≤◌};
 ghost use Rattle.answer.specs.Answer.{limit, in_numbers};
-ghost use Rattle.answer.specs.declared.Answer.TheVariants.{Accepted};
+ghost use Rattle.std.specs.Prelude.{Ok, Err};
 ghost use Rattle.editor.specs.Layout.{taken};
 ghost use Rattle.ledger.specs.Calls as pages;
 ghost use Rattle.benches.specs.Benches.{leaves};
@@ -26,7 +26,7 @@ fn in_room(room: usize, answer: Answer) -> Answer
     if room < count {
         return answer;
     }
-    Answer::Accepted(count)
+    Ok(count)
 }
 
 // What the open of a page would answer: a reading into no room judges and counts, and writes nothing.
@@ -90,7 +90,7 @@ fn opened(first: Page, second: Page) -> Edited
     ensures { result ≡ opened_with first second }
 {
     Edited {
-        answer: Answer::Accepted(first.length + second.length),
+        answer: Ok(first.length + second.length),
         benches: Benches {
             bench0: bench_of(first),
             bench1: bench_of(second),
@@ -135,11 +135,11 @@ pub fn open(
         (both_of text0.old text1.old) history.old }
 {
     let first = would_open(kind0, arrived0, &*text0, &*history);
-    let Answer::Accepted(_) = first else {
+    let Ok(_) = first else {
         return not_opened(kind0, kind1, first);
     };
     let second = would_open(kind1, arrived1, &*text1, &*history);
-    let Answer::Accepted(_) = second else {
+    let Ok(_) = second else {
         return not_opened(kind0, kind1, second);
     };
     open_both(

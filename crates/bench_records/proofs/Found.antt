@@ -9,9 +9,7 @@ use lib.ListN.{length, take, drop, length-drop, take-append-drop}
 use lib.Seq.{take-add, length-take-le}
 use lib.Dec.{leb}
 use borrow.Author.Tests.{leb-true, ltb-false}
-use Rattle.answer.specs.Answer.{Verdict, limit, numbered, in_numbers, too_long}
-use Rattle.answer.specs.declared.Answer.{Answer}
-use Rattle.answer.specs.declared.Answer.TheVariants.{Refused}
+use Rattle.answer.specs.Answer.{Verdict, limit, numbered, in_numbers, too_long, refused_at, Answer}
 use Rattle.answer.specs.declared.Refusal.TheVariants.{Unsound, OverLimit, NoSuchBench}
 use Rattle.answer.proofs.Below.{both, cond-case}
 use Rattle.editor.specs.Editor.{over, overlong, output_of}
@@ -134,7 +132,7 @@ pub record Fit (t : State) (s : Side) (p : Pass) : Type 0 where
 module _ (t : State) where
   fit-cases :
       (p : Pass) (s : Side) (l : Bool) (x : Option (List Record)) → long t ≡ l → records t ≡ x → Whole (Tiled t) x →
-      cond l (Unfit (Refused OverLimit limit)) (sound_by (judged_at t (number_of s) x)) ≡ Sound p → Fit t s p
+      cond l (Unfit (refused_at OverLimit limit)) (sound_by (judged_at t (number_of s) x)) ≡ Sound p → Fit t s p
   fit-cases p s true x q r w e = let z : ◌≡◌ {A = ℕ} 0 1 = cc in absurd (omega arith)
   fit-cases p s false None q r w e = let z : ◌≡◌ {A = ℕ} 0 1 = cc in absurd (omega arith)
   fit-cases p s false (Some rs) q r w e =
@@ -160,7 +158,7 @@ module _ (t : State) where
     unfolding judge_of
     fit-side s q =
         fit-cases p s (long t) (records t) refl refl (records-tiled t)
-        (ap (λ (x : Option Side). cond (long t) (Unfit (Refused OverLimit limit)) (named_by t x)) (sym q) ∙ sym d ∙ e)
+        (ap (λ (x : Option Side). cond (long t) (Unfit (refused_at OverLimit limit)) (named_by t x)) (sym q) ∙ sym d ∙ e)
 
     -- the caller is bench 0, or else bench 1
     pub fit-first : n ≡ 0 → Fit t first p
@@ -170,12 +168,12 @@ module _ (t : State) where
     unfolding judge_of
     second-named q = by n q (sym d ∙ e)
       where
-        never : (l : Bool) → cond l (Unfit (Refused OverLimit limit)) (Unfit (Refused NoSuchBench 0)) ≡ Sound p → ⊥
+        never : (l : Bool) → cond l (Unfit (refused_at OverLimit limit)) (Unfit (refused_at NoSuchBench 0)) ≡ Sound p → ⊥
         never true e = let z : ◌≡◌ {A = ℕ} 0 1 = cc in omega arith
         never false e = let z : ◌≡◌ {A = ℕ} 0 1 = cc in omega arith
 
         by : (n : ℕ) → (n ≡ 0 → ⊥) →
-            cond (long t) (Unfit (Refused OverLimit limit)) (named_by t (side_of n)) ≡ Sound p → side_of n ≡ Some second
+            cond (long t) (Unfit (refused_at OverLimit limit)) (named_by t (side_of n)) ≡ Sound p → side_of n ≡ Some second
         by zero q e = absurd (q refl)
         by (suc zero) q e = refl
         by (suc (suc n)) q e = absurd (never (long t) e)
@@ -199,10 +197,10 @@ module _ (t : State) where
 
     unfit-named :
         (s : Side) (l : Bool) (x : Option (List Record)) → Whole (Tiled t) x →
-        cond l (Unfit (Refused OverLimit limit)) (sound_by (judged_at t (number_of s) x)) ≡ Unfit a →
+        cond l (Unfit (refused_at OverLimit limit)) (sound_by (judged_at t (number_of s) x)) ≡ Unfit a →
         cond l (refuse too_long) (call s x) ≡ refuse (in_numbers a)
-    unfit-named s true x w e = refused_as (Refused OverLimit limit) (cc)
-    unfit-named s false None w e = none-refused s ∙ refused_as (Refused Unsound 0) (cc)
+    unfit-named s true x w e = refused_as (refused_at OverLimit limit) (cc)
+    unfit-named s false None w e = none-refused s ∙ refused_as (refused_at Unsound 0) (cc)
     unfit-named s false (Some rs) w e = absurd (broken (pass_at t rs s) refl (rw (side-at s) at e))
       where
         broken : (x : Passed) → pass_at t rs s ≡ x → sound_by x ≡ Unfit a → ⊥
@@ -210,13 +208,13 @@ module _ (t : State) where
         broken (Some p) q e = let z : ◌≡◌ {A = ℕ} 0 1 = cc in omega arith
 
     unfit-nobody :
-        (l : Bool) → cond l (Unfit (Refused OverLimit limit)) (Unfit (Refused NoSuchBench 0)) ≡ Unfit a →
+        (l : Bool) → cond l (Unfit (refused_at OverLimit limit)) (Unfit (refused_at NoSuchBench 0)) ≡ Unfit a →
         cond l (refuse too_long) (refuse (numbered 20 0)) ≡ refuse (in_numbers a)
-    unfit-nobody true e = refused_as (Refused OverLimit limit) (cc)
-    unfit-nobody false e = refused_as (Refused NoSuchBench 0) (cc)
+    unfit-nobody true e = refused_as (refused_at OverLimit limit) (cc)
+    unfit-nobody false e = refused_as (refused_at NoSuchBench 0) (cc)
 
     unfit-side :
-        (x : Option Side) → cond (long t) (Unfit (Refused OverLimit limit)) (named_by t x) ≡ Unfit a →
+        (x : Option Side) → cond (long t) (Unfit (refused_at OverLimit limit)) (named_by t x) ≡ Unfit a →
         called x ≡ refuse (in_numbers a)
     unfit-side None e = unfit-nobody (long t) e
     unfit-side (Some s) e = unfit-named s (long t) (records t) (records-tiled t) e

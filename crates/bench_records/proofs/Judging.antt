@@ -8,9 +8,7 @@ use native.Mathlib.Omega.{arith}
 use lib.ListN.{length, take, drop}
 use lib.Seq.{length-take-le}
 use borrow.Author.Tests.{le-leb, lt-leb}
-use Rattle.answer.specs.Answer.{limit, in_numbers, too_long}
-use Rattle.answer.specs.declared.Answer.{Answer}
-use Rattle.answer.specs.declared.Answer.TheVariants.{Refused}
+use Rattle.answer.specs.Answer.{limit, in_numbers, too_long, refused_at, Answer}
 use Rattle.answer.specs.declared.Refusal.TheVariants.{OverLimit, NoSuchBench}
 use Rattle.answer.proofs.Once.{numbers-once}
 use Rattle.editor.specs.Editor.{over}
@@ -162,8 +160,8 @@ module _ (t : State) (mine : ℕ) where
 -- 16, then 20, then 14
 module _ (t : State) (n : ℕ) where
   module _ (a : Answer) (e : in_numbers a ≡ too_long) where
-    answered : Unfit a ≡ Unfit (Refused OverLimit limit)
-    answered = rw (numbers-once a (Refused OverLimit limit) e)
+    answered : Unfit a ≡ Unfit (refused_at OverLimit limit)
+    answered = rw (numbers-once a (refused_at OverLimit limit) e)
 
     pub long-first : over t.texts.bench0 ≡ true → Unfit a ≡ judge_of t n
     unfolding judge_of
@@ -183,11 +181,11 @@ module _ (t : State) (n : ℕ) where
       (q : over t.texts.bench0 ≡ false)
       (r : over t.texts.bench1 ≡ false)
       (h : over t.history ≡ false) where
-    pub nobody : 1 < n → Unfit (Refused NoSuchBench 0) ≡ judge_of t n
+    pub nobody : 1 < n → Unfit (refused_at NoSuchBench 0) ≡ judge_of t n
     unfolding judge_of
     nobody m = rw (q, r, h) (by n m)
       where
-        by : (k : ℕ) → 1 < k → Unfit (Refused NoSuchBench 0) ≡ named_by t (side_of k)
+        by : (k : ℕ) → 1 < k → Unfit (refused_at NoSuchBench 0) ≡ named_by t (side_of k)
         by zero m = absurd (omega arith)
         by (suc zero) m = absurd (omega arith)
         by (suc (suc k)) m = refl

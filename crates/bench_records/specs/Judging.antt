@@ -1,7 +1,6 @@
 -- What the code finds of a bench, over its words.
 use Rattle.std.specs.Prelude.{ℕ, Bool, cond, ◌&&◌, List, length, drop, leb, eqb, Option, None, Some}
-use Rattle.answer.specs.Answer.{limit}
-use Rattle.answer.specs.declared.Answer.TheVariants.{Refused}
+use Rattle.answer.specs.Answer.{limit, refused_at}
 use Rattle.answer.specs.declared.Refusal.TheVariants.{Unsound, OverLimit, NoSuchBench}
 use Rattle.ledger.specs.Words.{zeros}
 use Rattle.ledger.specs.Parts.{mark_within}
@@ -45,14 +44,14 @@ judged_at t mine (Some rs) = pass_at t rs (side_at mine)
 
 -- 14, or where the pass stands
 abbrev pub sound_by : Passed → Judged
-sound_by None = Unfit (Refused Unsound 0)
+sound_by None = Unfit (refused_at Unsound 0)
 sound_by (Some p) = Sound p
 
 -- 20, then 14
 abbrev pub named_by : State → Option Side → Judged
-named_by t None = Unfit (Refused NoSuchBench 0)
+named_by t None = Unfit (refused_at NoSuchBench 0)
 named_by t (Some s) = sound_by (judged_at t (number_of s) (records t))
 
 -- 16 comes first
 unfoldable pub judge_of : State → ℕ → Judged
-judge_of t n = cond (long t) (Unfit (Refused OverLimit limit)) (named_by t (side_of n))
+judge_of t n = cond (long t) (Unfit (refused_at OverLimit limit)) (named_by t (side_of n))

@@ -8,7 +8,7 @@ ghost use Rattle.benches.specs.Benches.{state_of, records};
 ghost use Rattle.bench_records.specs.Judging.{text_fits, leads_as, fitted_of, judged_at, sound_by, judge_of};
 ghost use Rattle.bench_records.specs.Turning.{head_at, size_at, Bounded, turned, pass_in, pass_from};
 
-use answer::{Answer, Refusal};
+use answer::{Answer, Refusal, Refused};
 use benches::{Bench, Benches};
 
 // The first four words of a record.
@@ -249,7 +249,7 @@ fn sound_by(found: Option<Pass>) -> Judged
     ensures { result ≡ sound_by found }
 {
     let Some(p) = found else {
-        return Judged::Unfit(Answer::Refused(Refusal::Unsound, 0));
+        return Judged::Unfit(Err(Refused(Refusal::Unsound, 0)));
     };
     Judged::Sound(p)
 }
@@ -269,7 +269,7 @@ pub fn judge(b: Benches, bench: usize, text0: &[u32], text1: &[u32], history: &[
         return Judged::Unfit(answer::too_long());
     }
     if 1 < bench {
-        return Judged::Unfit(Answer::Refused(Refusal::NoSuchBench, 0));
+        return Judged::Unfit(Err(Refused(Refusal::NoSuchBench, 0)));
     }
     let found = survey(b, text0, text1, history, bench);
     sound_by(found)

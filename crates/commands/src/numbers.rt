@@ -7,7 +7,7 @@ ghost use Rattle.reading.specs.Reading.{reading, read_into, verdict_of, closing}
 ghost use Rattle.commands.specs.Numbers.{digit_value, base, following, raised, byte_does, ends_in, numbers, does_of};
 
 use crate::is_blank;
-use answer::{Answer, Refusal};
+use answer::{Answer, Refusal, Refused};
 
 // Between numbers, or in one with its value so far; beside it how many numbers came before, up to two.
 #[derive(Clone, Copy)]
@@ -83,8 +83,8 @@ fn finish(asked: u32, size: usize, count: usize, st: State) -> Answer
     ensures { in_numbers result ≡ closing (ends_in asked size st) count }
 {
     match st {
-        State::Gap(seen) if seen == asked => Answer::Accepted(count),
-        _ => Answer::Refused(Refusal::CutShort, size),
+        State::Gap(seen) if seen == asked => Ok(count),
+        _ => Err(Refused(Refusal::CutShort, size)),
     }
 }
 
@@ -101,7 +101,7 @@ fn count(asked: u32, text: &[u8]) -> Answer
                 n += 1;
             }
             Move::Go(state) => st = state,
-            Move::Bad(why) => return Answer::Refused(why, at),
+            Move::Bad(why) => return Err(Refused(why, at)),
         }
     }
     finish(asked, text.len(), n, st)
@@ -136,12 +136,12 @@ pub fn read(asked: u32, text: &[u8], out: &mut [u32]) -> Answer
     }
     let found = count(asked, text);
     match found {
-        Answer::Refused(_, _) => {
+        Err(_) => {
             return found;
         }
-        Answer::Accepted(n) => {
+        Ok(n) => {
             if out.len() < n {
-                return Answer::Refused(Refusal::NoRoom, n);
+                return Err(Refused(Refusal::NoRoom, n));
             }
             fill(asked, text, out);
             found

@@ -9,9 +9,9 @@ use lib.ListN.{length, get_or, drop, length-map, drop_of_length-le}
 use lib.Seq.{drop-cons}
 use lib.Dec.{ltb, eqb}
 use borrow.Author.Tests.{ltb-true, ltb-false, eq-eqb, ne_eqb}
-use Rattle.answer.specs.Answer.{Verdict, numbered, number_of, in_numbers, limit}
-use Rattle.answer.specs.declared.Answer.{Answer}
-use Rattle.answer.specs.declared.Answer.TheVariants.{Accepted, Refused}
+use Rattle.std.specs.declared.result.Result.TheVariants.{Ok, Err}
+use Rattle.answer.specs.declared.Refused.{Refused}
+use Rattle.answer.specs.Answer.{Verdict, numbered, number_of, in_numbers, limit, Answer}
 use Rattle.answer.specs.declared.Refusal.{Refusal}
 use Rattle.answer.proofs.Once.{number-pos}
 use Rattle.reading.specs.Reading.{Rule, reading}
@@ -180,18 +180,18 @@ refuses : (why : Refusal) → eqb (number_of why) 0 ≡ false
 refuses why = ne_eqb (number_of why) 0 (λ z. omega (arith, number-pos why))
 
 pub judged-first :
-    {one : Answer} {why : Refusal} {place : ℕ} (otherwise : Comparison) → one ≡ Refused why place →
-    refused First (numbered (number_of why) place) ≡ unless_refused First (in_numbers one) otherwise
-judged-first {why = why} otherwise e = rw (e, refuses why)
+    {one : Answer} {deny : Refused} (otherwise : Comparison) → one ≡ Err deny →
+    refused First (numbered (number_of deny.0) deny.1) ≡ unless_refused First (in_numbers one) otherwise
+judged-first {why = why} otherwise e = rw (e, refuses deny.0)
 
 pub judged-second :
-    {one two : Answer} {n : ℕ} {why : Refusal} {place : ℕ} (found : Comparison) → one ≡ Accepted n →
-    two ≡ Refused why place →
-    refused Second (numbered (number_of why) place) ≡ judged_by (in_numbers one) (in_numbers two) found
-judged-second {why = why} found d e = rw (d, e, refuses why)
+    {one two : Answer} {n : ℕ} {deny : Refused} (found : Comparison) → one ≡ Ok n →
+    two ≡ Err deny →
+    refused Second (numbered (number_of deny.0) deny.1) ≡ judged_by (in_numbers one) (in_numbers two) found
+judged-second {why = why} found d e = rw (d, e, refuses deny.0)
 
 pub judged :
-    {one two : Answer} {n m : ℕ} (found : Comparison) → one ≡ Accepted n → two ≡ Accepted m →
+    {one two : Answer} {n m : ℕ} (found : Comparison) → one ≡ Ok n → two ≡ Ok m →
     found ≡ judged_by (in_numbers one) (in_numbers two) found
 judged found d e = rw (d, e)
 

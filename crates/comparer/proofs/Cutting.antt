@@ -9,10 +9,9 @@ use lib.ListN.{length, get_or, take, drop, take-append-drop}
 use lib.Seq.{take-add, take-suc, take_all, get_or-take, length-take-le}
 use lib.Dec.{eqb}
 use borrow.Author.Tests.{eqb-true}
+use Rattle.std.specs.declared.result.Result.TheVariants.{Ok}
 use Rattle.answer.specs.Output.{Outcome, leaves}
-use Rattle.answer.specs.Answer.{in_numbers}
-use Rattle.answer.specs.declared.Answer.{Answer}
-use Rattle.answer.specs.declared.Answer.TheVariants.{Accepted}
+use Rattle.answer.specs.Answer.{in_numbers, Answer}
 use Rattle.answer.proofs.Below.{cond-case}
 use Rattle.bits.specs.Bits.{bits, number, all_zero}
 use Rattle.alphabet.specs.Letters.{value_of, set_b}
@@ -183,7 +182,7 @@ accepted-means accepted read cells h = (refl, same-means read cells h)
 accepted-means (fault k place) read cells h = absurd (false≢true h)
 
 block_read :
-    (f : Format) (text out out' : List ℕ) (n : ℕ) → leaves (Accepted n) out' ≡ kinds.read_in f text out →
+    (f : Format) (text out out' : List ℕ) (n : ℕ) → leaves (Ok n) out' ≡ kinds.read_in f text out →
     AcceptedIn f text × (take n out' ≡ cells_in f text)
 unfolding kinds.read_in
 block_read Utf7 text out out' n e =
@@ -197,7 +196,7 @@ block_read Mailbox text out out' n e =
     (r.0, ap (λ (o : Outcome). take o.verdict.place o.out) e ∙ r.1)
 
 pub block-alike :
-    (f : Format) (first second out out' : List ℕ) (n : ℕ) → leaves (Accepted n) out' ≡ kinds.read_in f first out →
+    (f : Format) (first second out out' : List ℕ) (n : ℕ) → leaves (Ok n) out' ≡ kinds.read_in f first out →
     kinds.reads_in f second (take n out') ≡ true → ReadAlike f first second
 unfolding kinds.reads_in
 block-alike f first second out out' n e h =

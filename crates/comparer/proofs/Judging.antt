@@ -8,9 +8,8 @@ use native.Mathlib.Omega.{arith}
 use lib.ListN.{length, get_or, length-map}
 use lib.Dec.{ltb, eqb}
 use borrow.Author.Tests.{eqb-true, eqb-false, eq-eqb, ne_eqb}
-use Rattle.answer.specs.Answer.{Verdict, numbered, in_numbers, limit, too_long}
+use Rattle.answer.specs.Answer.{Verdict, numbered, in_numbers, limit, too_long, Answer}
 use Rattle.answer.specs.Output.{Outcome, leaves, refusing, deliver}
-use Rattle.answer.specs.declared.Answer.{Answer}
 use Rattle.reading.specs.Reading.{Ending, accepted, fault, closing, on_ending}
 use Rattle.reading.specs.declared.Marked.{Marked}
 use Rattle.reading.proofs.Spans.{values, marked-cells}

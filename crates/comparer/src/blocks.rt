@@ -5,7 +5,6 @@ ghost use Rattle.std.specs.Prelude.{◌≡◌, true, ◌≤◌, length, take};
 ghost use Rattle.codec.specs.Kinds.{reads_in};
 ghost use Rattle.comparer.specs.Cutting.{Ended, ReadAlike, Cut};
 
-use answer::Answer;
 use codec::Format;
 
 // A block has so many bytes at most, and so its cells fit a buffer of 8 KiB: reading takes 48 KiB of the stack besides.
@@ -93,8 +92,8 @@ fn same_block(format: Format, first: &[u8], second: &[u8], cells: &mut [u32]) ->
 {
     let found = codec::read(format, first, &mut *cells);
     match found {
-        Answer::Accepted(n) => is_front(format, second, &*cells, n),
-        Answer::Refused(_, _) => false,
+        Ok(n) => is_front(format, second, &*cells, n),
+        Err(_) => false,
     }
 }
 

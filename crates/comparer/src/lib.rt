@@ -7,7 +7,7 @@ ghost use Rattle.std.specs.Prelude.{◌≡◌, true};
 ghost use Rattle.answer.specs.Answer.{in_numbers};
 ghost use Rattle.comparer.specs.Compare.{compared_as, verdict_in, parts_of, compare_of};
 
-use answer::{Answer, Refusal};
+use answer::{Answer, Refusal, Refused};
 use codec::Format;
 use std::ops::ControlFlow;
 use stepper::Place;
@@ -49,7 +49,7 @@ fn answer_of(format: Format, text: &[u8]) -> Answer
     let mut none = [0u32; 0];
     let found = codec::read(format, text, &mut none);
     if answer::number(found) == 9 {
-        return Answer::Accepted(answer::place(found));
+        return Ok(answer::place(found));
     }
     found
 }
@@ -99,15 +99,15 @@ pub fn compare(format: Format, first: &[u8], second: &[u8]) -> Compared
 {
     let one = answer_of(format, first);
     match one {
-        Answer::Refused(why, place) => Compared::Refused(Text::First, why, place),
-        Answer::Accepted(count) => {
+        Err(Refused(why, place)) => Compared::Refused(Text::First, why, place),
+        Ok(count) => {
             if alike(first, second) {
                 return Compared::Same(count);
             }
             let two = answer_of(format, second);
             match two {
-                Answer::Refused(why, place) => Compared::Refused(Text::Second, why, place),
-                Answer::Accepted(_) => {
+                Err(Refused(why, place)) => Compared::Refused(Text::Second, why, place),
+                Ok(_) => {
                     if blocks::read_alike(format, first, second) {
                         return Compared::Same(count);
                     }

@@ -9,9 +9,9 @@ use lib.ListN.{length, take}
 use lib.Seq.{length-take-le}
 use lib.Dec.{eqb}
 use borrow.Author.Tests.{eq-eqb, ne_eqb}
-use Rattle.answer.specs.Answer.{in_numbers, number_of}
-use Rattle.answer.specs.declared.Answer.{Answer}
-use Rattle.answer.specs.declared.Answer.TheVariants.{Accepted, Refused}
+use Rattle.std.specs.declared.result.Result.TheVariants.{Ok, Err}
+use Rattle.answer.specs.declared.Refused.{Refused}
+use Rattle.answer.specs.Answer.{in_numbers, number_of, Answer}
 use Rattle.answer.specs.declared.Refusal.{Refusal}
 use Rattle.answer.proofs.Once.{number-pos}
 use Rattle.codec.specs.declared.Kind.{Kind}
@@ -109,19 +109,19 @@ module _ (letter text history : List ℕ) (r : Edited) where
   answered a e = ap (λ (x : Answer). eqb (in_numbers x).number 0) e
 
   pub sits-worked :
-      {to : Desk} {hand : Hand} (n : ℕ) → r.answer ≡ Accepted n →
+      {to : Desk} {hand : Hand} (n : ℕ) → r.answer ≡ Ok n →
       Worked letter (sitting r.page false text history) to hand → Sits (leaves r text history) letter to hand
   sits-worked n a w =
-      record { refused = λ e. absurd (false≢true (sym e ∙ answered (Accepted n) a)); worked = λ _. w }
+      record { refused = λ e. absurd (false≢true (sym e ∙ answered (Ok n) a)); worked = λ _. w }
 
-  not_taken : {why : Refusal} {place : ℕ} → r.answer ≡ Refused why place → taken (leaves r text history) ≡ false
-  not_taken {why} {place} a =
-      answered (Refused why place) a ∙ ne_eqb (number_of why) 0 (λ z. omega (arith, number-pos why))
+  not_taken : {deny : Refused} → r.answer ≡ Err deny → taken (leaves r text history) ≡ false
+  not_taken {deny} a =
+      answered (Refused deny) a ∙ ne_eqb (number_of deny.0) 0 (λ z. omega (arith, number-pos deny.0))
 
   pub sits-idle :
-      {hand : Hand} (why : Refusal) (place : ℕ) → r.answer ≡ Refused why place → hand ≡ empty r.page →
+      {hand : Hand} (deny : Refused) → r.answer ≡ Err deny → hand ≡ empty r.page →
       Sits (leaves r text history) letter (desk_in hand text history) hand
-  sits-idle why place a e =
+  sits-idle deny a e =
       record {
         refused = λ _. ap (λ (x : Hand). desk_in x text history) e;
         worked = λ y. absurd (false≢true (sym (not_taken a) ∙ y));
@@ -163,10 +163,10 @@ module _ (r : Edited) (letter text history letter' text' history' : List ℕ) wh
   module _ (file : List ℕ) (few : length file ≤ file_room)
       (o : keeps r text' history' letter' ≡ read_of letter text history file) where
     -- the letter that is given back lies in its buffer
-    pub given-within : {n : ℕ} → r.answer ≡ Accepted n → n ≤ length letter'
+    pub given-within : {n : ℕ} → r.answer ≡ Ok n → n ≤ length letter'
     given-within {n} e =
         let ok : taken (read_of letter text history file) ≡ true =
-        ap taken (sym o) ∙ answered letter text' history' r (Accepted n) e in
+        ap taken (sym o) ∙ answered letter text' history' r (Ok n) e in
         let q = accepts letter text history file ok in
         let p : n ≡ length q.content.arrived =
         sym (ap (λ (x : Answer). (in_numbers x).place) e)
@@ -182,7 +182,7 @@ module _ (r : Edited) (letter text history letter' text' history' : List ℕ) wh
         )
 
     pub read-accepted :
-        {n : ℕ} → r.answer ≡ Accepted n →
+        {n : ℕ} → r.answer ≡ Ok n →
         (n ≤ length letter') × ReadFrom r n letter text history letter' text' history'
     read-accepted {n} e = (
       given-within e,
@@ -195,7 +195,7 @@ module _ (r : Edited) (letter text history letter' text' history' : List ℕ) wh
     )
 
     pub read-refused :
-        {why : Refusal} {place : ℕ} → r.answer ≡ Refused why place →
+        {deny : Refused} → r.answer ≡ Err deny →
         (0 ≤ length letter') × ReadFrom r 0 letter text history letter' text' history'
     read-refused e = (
       omega arith,

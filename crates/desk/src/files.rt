@@ -76,7 +76,14 @@ fn sync_folder(rt: &HostRuntime, folder: &[u8]) -> io::Result<()> {
 }
 
 // Fills a new file and renames it into its place. Where its folder cannot be synced it is in its place all the same.
-fn finish(rt: &HostRuntime, file: File, new: &str, path: &str, bytes: &[u8], old: Option<Old>) -> bool {
+fn finish(
+    rt: &HostRuntime,
+    file: File,
+    new: &str,
+    path: &str,
+    bytes: &[u8],
+    old: Option<Old>,
+) -> bool {
     let name = path.as_bytes();
     let put = fill(file, bytes, old).and_then(|()| fs::rename(rt, new, path));
     if let Err(e) = put {

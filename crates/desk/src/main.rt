@@ -16,7 +16,6 @@ ghost use Rattle.codec.specs.declared.Kind.{Kind};
 ghost use Rattle.desk.specs.Hands.{desk_in, Sits, Gave, OpenedAt, KeptAt};
 ghost use Rattle.desk.specs.declared.Source.TheVariants.{Letter, Kept};
 
-use answer::Answer;
 use codec::Kind;
 use ledger::Edited;
 use lines::Hand;
@@ -196,8 +195,8 @@ fn read_page(
     let given = page_read::read(&file[..size], &mut *letter, &mut *text, &mut *history);
     let answer = given.answer;
     match answer {
-        Answer::Accepted(n) => Some((given, n)),
-        Answer::Refused(_, _) => Some((given, 0)),
+        Ok(n) => Some((given, n)),
+        Err(_) => Some((given, 0)),
     }
 }
 
@@ -217,11 +216,11 @@ fn serve(
     let p = given.page;
     replies::tell(rt, answer);
     match answer {
-        Answer::Accepted(_) => {
+        Ok(_) => {
             let hand = lines::work(rt, p, letter, &mut *text, &mut *history);
             lines::see_out(rt, hand, &*text, &*history);
             hand
         }
-        Answer::Refused(_, _) => lines::holding(p, 0, false, false, false),
+        Err(_) => lines::holding(p, 0, false, false, false),
     }
 }

@@ -9,7 +9,6 @@ ghost use Rattle.desk_lines.specs.Desk.{line_room, replacing, room, saving, aske
 ghost use Rattle.desk.specs.Hands.{desk_at, sitting};
 
 use crate::{files, replies, rooms};
-use answer::Answer;
 use commands::{Verb, numbers};
 use ledger::{Edited, Page};
 use std::rt::HostRuntime;
@@ -68,13 +67,13 @@ fn replace(rt: &HostRuntime, p: Page, words: &[u8], text: &mut [u32], history: &
     let read = numbers::read(2, words, &mut found);
     let n = answer::place(read);
     match read {
-        Answer::Accepted(_) => {
+        Ok(_) => {
             if n <= 65536 {
                 return replace_by(rt, p, &found[..n], &mut *text, &mut *history);
             }
             p
         }
-        Answer::Refused(_, _) => {
+        Err(_) => {
             replies::complain(
                 rt,
                 b"replace PLACE COUNT CELL..: two decimal numbers, then cells in hex, none over FFFFFFFF",
@@ -125,12 +124,12 @@ fn squeeze(rt: &HostRuntime, p: Page, words: &[u8], text: &[u32], history: &mut 
     let mut found = [0u32; 1];
     let read = numbers::read(1, words, &mut found);
     match read {
-        Answer::Accepted(_) => {
+        Ok(_) => {
             let k = records::wide(found[0]);
             let mut work = [0u32; 262144];
             told(rt, squeeze::squeeze(p, k, text, &mut *history, &mut work))
         }
-        Answer::Refused(_, _) => {
+        Err(_) => {
             replies::complain(rt, b"squeeze K: one decimal number, not over 4294967295");
             p
         }
@@ -188,7 +187,7 @@ fn save_in(
     let marked = saved.page;
     let n = answer::place(answer);
     match answer {
-        Answer::Accepted(_) => {
+        Ok(_) => {
             if n <= out.len() {
                 if files::put(rt, name, &out[..n]) {
                     replies::tell(rt, answer);
@@ -202,7 +201,7 @@ fn save_in(
             }
             stays(p)
         }
-        Answer::Refused(_, _) => {
+        Err(_) => {
             replies::tell(rt, answer);
             stays(p)
         }
@@ -245,14 +244,14 @@ fn keep_in(
     let answer = page_keep::keep(p, text, history, letter, &mut *out);
     let n = answer::place(answer);
     match answer {
-        Answer::Accepted(_) => {
+        Ok(_) => {
             if n <= out.len() {
                 if files::put(rt, name, &out[..n]) {
                     replies::tell(rt, answer);
                 }
             }
         }
-        Answer::Refused(_, _) => replies::tell(rt, answer),
+        Err(_) => replies::tell(rt, answer),
     }
 }
 

@@ -13,7 +13,7 @@ const PART: usize = 4096;
 pub fn tell(rt: &HostRuntime, given: Answer) {
     let mut lines = [0u8; 64];
     let told = listing::tell(given, &mut lines);
-    if let Answer::Accepted(size) = told
+    if let Ok(size) = told
         && size <= 64
     {
         let _ = rt.stdout().write_all(&lines[..size]);
@@ -29,8 +29,8 @@ fn list_part(
     less: usize,
     lines: &mut [u8],
 ) -> bool {
-    let listed = listing::list(Answer::Accepted(count), cells, &mut *lines);
-    if let Answer::Accepted(size) = listed
+    let listed = listing::list(Ok(count), cells, &mut *lines);
+    if let Ok(size) = listed
         && let Some(to) = size.checked_sub(less)
         && let Some(part) = lines.get(from..to)
     {

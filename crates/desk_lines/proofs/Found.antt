@@ -4,15 +4,15 @@ use Prim.Native.Nat.{ℕ, suc, ◌+◌, ◌-◌, ◌<◌, ◌≤◌}
 use mathlib.Core.Path.{◌≡◌, refl, ap, ◌∙◌}
 use mathlib.Core.Bool.{Bool, true, false}
 use mathlib.Core.List.{List, [], ◌∷◌}
+use Rattle.std.specs.declared.result.Result.TheVariants.{Ok, Err}
+use Rattle.answer.specs.declared.Refused.{Refused}
 use Rattle.std.specs.Prelude.{Option, None}
 use native.Mathlib.Omega.{arith}
 use lib.ListN.{length, get_or, take, drop, replicate, length-drop, length-replicate}
 use lib.Seq.{take_all, take-append_seam}
 use borrow.Author.Tests.{le-ltb, ne_eqb}
-use Rattle.answer.specs.Answer.{numbered, in_numbers, number_of, limit}
+use Rattle.answer.specs.Answer.{numbered, in_numbers, number_of, limit, refused_at, Answer}
 use Rattle.answer.specs.Output.{Outcome, leaves, filled, deliver}
-use Rattle.answer.specs.declared.Answer.{Answer}
-use Rattle.answer.specs.declared.Answer.TheVariants.{Accepted, Refused}
 use Rattle.answer.specs.declared.Refusal.{Refusal}
 use Rattle.answer.proofs.Once.{number-pos}
 use Rattle.reading.specs.Reading.{Ending, accepted, fault, on_ending, reading, read_into}
@@ -51,11 +51,11 @@ replaces s (x ∷ y ∷ rest) h p c l = rw (p, c, l)
 -- what an output with room for all holds after an answer
 module _ (out o : List ℕ) where
   accepted-by :
-      (e : Ending) (cells : List ℕ) (n : ℕ) → SoundEnd e → length cells ≤ length out → leaves (Accepted n) o ≡ on_ending e cells out →
+      (e : Ending) (cells : List ℕ) (n : ℕ) → SoundEnd e → length cells ≤ length out → leaves (Ok n) o ≡ on_ending e cells out →
       (n ≡ length cells) × (replacing accepted (take n o) ≡ replacing e cells)
   unfolding deliver
   accepted-by accepted cells n w room q =
-      let d : leaves (Accepted n) o ≡ record { verdict = numbered 0 (length cells); out = filled cells out } =
+      let d : leaves (Ok n) o ≡ record { verdict = numbered 0 (length cells); out = filled cells out } =
       rw (le-ltb (length out) (length cells) room) at q in
       let k : n ≡ length cells = ap (λ (v : Outcome). v.verdict.place) d in
       let f : o ≡ filled cells out = ap (λ (v : Outcome). v.out) d in
@@ -63,11 +63,11 @@ module _ (out o : List ℕ) where
   accepted-by (fault k p) cells n w room q = absurd (omega (arith, w, ap (λ (v : Outcome). v.verdict.number) q))
 
   refused-by :
-      (e : Ending) (cells : List ℕ) (why : Refusal) (place : ℕ) → length cells ≤ length out → leaves (Refused why place) o ≡ on_ending e cells out →
+      (e : Ending) (cells : List ℕ) (why : Refusal) (place : ℕ) → length cells ≤ length out → leaves (refused_at why place) o ≡ on_ending e cells out →
       replacing e cells ≡ None
   unfolding deliver
   refused-by accepted cells why place room q =
-      let d : leaves (Refused why place) o ≡ record { verdict = numbered 0 (length cells); out = filled cells out } =
+      let d : leaves (Err deny) o ≡ record { verdict = numbered 0 (length cells); out = filled cells out } =
       rw (le-ltb (length out) (length cells) room) at q in
       absurd (omega (arith, number-pos why, ap (λ (v : Outcome). v.verdict.number) d))
   refused-by (fault k p) cells why place room q = refl
@@ -86,7 +86,7 @@ module _ (words out o : List ℕ) (short : length words ≤ line_room) (wide : l
   by v q = rw (le-ltb limit (length words) (omega (arith, short))) at q
 
   module _ {a : Answer} (q : leaves a o ≡ read_into (numbers 2) words out) where
-    module _ {m n : ℕ} (e : a ≡ Accepted m) (k : n ≡ (in_numbers a).place) where
+    module _ {m n : ℕ} (e : a ≡ Ok m) (k : n ≡ (in_numbers a).place) where
       known : (n ≡ length (reading (numbers 2) words).cells) × (replacing accepted (take n o) ≡ asked None Replace words)
       known =
           let s : n ≡ m = k ∙ ap (λ (x : Answer). (in_numbers x).place) e in
@@ -98,19 +98,19 @@ module _ (words out o : List ℕ) (short : length words ≤ line_room) (wide : l
       pub found_all : replacing accepted (take n o) ≡ asked None Replace words
       found_all = known.1
 
-    pub found_none : {why : Refusal} {place : ℕ} → a ≡ Refused why place → asked None Replace words ≡ None
-    found_none {why} {place} e =
-        refused-by out o (reading (numbers 2) words).ending (reading (numbers 2) words).cells why place fits (rw e at (by _ q))
+    pub found_none : {deny : Refused} → a ≡ Err deny → asked None Replace words ≡ None
+    found_none {deny} e =
+        refused-by out o (reading (numbers 2) words).ending (reading (numbers 2) words).cells deny fits (rw e at (by _ q))
 
 -- a squeeze's number, by the answer of reading it: it is read, or there is none
 module _ (s : State) {read : Outcome} {a : Answer} {found : List ℕ} (q : leaves a found ≡ read) where
   pub squeezes :
-      {n k : ℕ} {work : List ℕ} → a ≡ Accepted n → k ≡ get_or found 0 0 → work ≡ work_room →
+      {n k : ℕ} {work : List ℕ} → a ≡ Ok n → k ≡ get_or found 0 0 → work ≡ work_room →
       (squeeze_of s k work).state ≡ after_call (squeezing read) s
   squeezes e k w = rw (← q, e, k, w)
 
-  pub squeezes-none : {why : Refusal} {place : ℕ} → a ≡ Refused why place → s ≡ after_call (squeezing read) s
-  squeezes-none {why} e = rw (← q, e, ne_eqb (number_of why) 0 (λ z. omega (arith, number-pos why)))
+  pub squeezes-none : {deny : Refused} → a ≡ Err deny → s ≡ after_call (squeezing read) s
+  squeezes-none {why} e = rw (← q, e, ne_eqb (number_of deny.0) 0 (λ z. omega (arith, number-pos deny.0)))
 
 -- the work buffer that it is lent
 pub zeros-work : (n : ℕ) → n ≡ history_room → replicate n 0 ≡ work_room

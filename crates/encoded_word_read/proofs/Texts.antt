@@ -6,9 +6,9 @@ use native.Mathlib.Omega.{arith}
 use native.Mathlib.Nat.{mod-eq_of_lt}
 use lib.Dec.{ltb, leb}
 use borrow.Author.Tests.{lt-ltb, le-ltb, lt-leb, le-leb}
-use Rattle.answer.specs.Answer.{Verdict, numbered, number_of, in_numbers}
-use Rattle.answer.specs.declared.Answer.{Answer}
-use Rattle.answer.specs.declared.Answer.TheVariants.{Accepted, Refused}
+use Rattle.std.specs.declared.result.Result.TheVariants.{Ok, Err}
+use Rattle.answer.specs.declared.Refused.{Refused}
+use Rattle.answer.specs.Answer.{Verdict, numbered, number_of, in_numbers, Answer}
 use Rattle.answer.specs.declared.Refusal.{Refusal}
 use Rattle.answer.proofs.Once.{number-pos}
 use Rattle.reading.specs.Reading.{Does, go, bad, Ending, accepted, fault, closing}
@@ -52,15 +52,15 @@ refused-ends accepted why place q = absurd (omega (arith, number-pos why, ap (λ
 refused-ends (fault k p) why place q = ap bad (ap (λ (v : Verdict). v.number) q)
 
 pub ended-told :
-    (st : Shift) {a : Answer} {n : ℕ} → in_numbers a ≡ closing (ends_in 0 st) 0 → a ≡ Accepted n →
+    (st : Shift) {a : Answer} {n : ℕ} → in_numbers a ≡ closing (ends_in 0 st) 0 → a ≡ Ok n →
     go tail ≡ ended {S = Shift} (ends_in 0 st)
 ended-told st {n = n} q e = accepted-ends (ends_in 0 st) n (ends-sound 0 st) (ap in_numbers (sym e) ∙ q)
 
 pub ended-refused :
-    (st : Shift) {a : Answer} {why : Refusal} {place : ℕ} → in_numbers a ≡ closing (ends_in 0 st) 0 →
-    a ≡ Refused why place →
-    bad (number_of why) ≡ ended {S = Shift} (ends_in 0 st)
-ended-refused st {why = why} {place = place} q e = refused-ends (ends_in 0 st) why place (ap in_numbers (sym e) ∙ q)
+    (st : Shift) {a : Answer} {deny : Refused} → in_numbers a ≡ closing (ends_in 0 st) 0 →
+    a ≡ Err deny →
+    bad (number_of deny.0) ≡ ended {S = Shift} (ends_in 0 st)
+ended-refused st {deny = deny} q e = refused-ends (ends_in 0 st) deny.0 deny.1 (ap in_numbers (sym e) ∙ q)
 
 -- what an arm that found the turn `t` knows
 pub turned : {r t : Turn} {does : Does (Part Shift)} → does_of r ≡ does → r ≡ t → does ≡ does_of t

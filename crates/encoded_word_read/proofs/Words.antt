@@ -10,11 +10,11 @@ use lib.ListN.{length, get_or, take, drop, set, length-append, length-drop, leng
 use lib.Seq.{drop_at, drop-drop, drop-cons, take-add, take-suc-set, length-take-le}
 use lib.Dec.{ltb, eqb}
 use borrow.Author.Tests.{le-leb, lt-ltb, eq-eqb, ne_eqb, eqb-true}
-use Rattle.answer.specs.Answer.{Verdict, numbered, number_of, too_long}
+use Rattle.std.specs.declared.result.Result.TheVariants.{Ok, Err}
+use Rattle.answer.specs.declared.Refused.{Refused}
+use Rattle.answer.specs.Answer.{Verdict, numbered, number_of, too_long, Answer}
 use Rattle.answer.specs.Output.{Outcome, leaves, filled, refusing, deliver}
 use Rattle.answer.specs.Answer.{limit}
-use Rattle.answer.specs.declared.Answer.{Answer}
-use Rattle.answer.specs.declared.Answer.TheVariants.{Accepted, Refused}
 use Rattle.answer.specs.declared.Refusal.{Refusal}
 use Rattle.answer.proofs.Once.{number-pos}
 use Rattle.answer.proofs.Below.{both}
@@ -268,7 +268,7 @@ module _ (bs out o : List ℕ) (a : Answer) (q : leaves a o ≡ read_into utf7 b
       (refl, ap (λ (v : Outcome). v.out) g, ap (λ (v : Outcome). v.verdict.place) g)
   took_by false short (fault k p) n s t r = absurd (omega (arith, s, ap (λ (v : Outcome). v.verdict.number) r))
 
-  pub took : {n : ℕ} → a ≡ Accepted n → ((reading utf7 bs).ending ≡ accepted) × (o ≡ filled its out) × (n ≡ length its)
+  pub took : {n : ℕ} → a ≡ Ok n → ((reading utf7 bs).ending ≡ accepted) × (o ≡ filled its out) × (n ≡ length its)
   unfolding read_into
   took {n} e =
       took_by (ltb limit (length bs)) (ltb (length out) (length its)) (reading utf7 bs).ending n
@@ -284,10 +284,10 @@ module _ (bs out o : List ℕ) (a : Answer) (q : leaves a o ≡ read_into utf7 b
       absurd (omega (arith, number-pos why, ap (λ (v : Outcome). v.verdict.number) (rw t at r)))
   left_by false short (fault k p) why place t r = ap (λ (v : Outcome). v.out) r
 
-  pub untouched : {why : Refusal} {place : ℕ} → a ≡ Refused why place → o ≡ out
+  pub untouched : {deny : Refused} → a ≡ Err deny → o ≡ out
   unfolding read_into
-  untouched {why} {place} e =
-      left_by (ltb limit (length bs)) (ltb (length out) (length its)) (reading utf7 bs).ending why place refl
+  untouched {deny} e =
+      left_by (ltb limit (length bs)) (ltb (length out) (length its)) (reading utf7 bs).ending deny refl
       (rw e at q)
 
 -- a word's end

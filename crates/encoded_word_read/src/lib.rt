@@ -17,7 +17,7 @@ ghost use Rattle.encoded_word_read.specs.Words.{SpellsAt, Unspells, part_at, Str
 ghost use Rattle.encoded_word_read.specs.Line.{due_from, due, part_of, does_of};
 ghost use Rattle.encoded_word_read.specs.declared.Part.TheVariants.{Half};
 
-use answer::{Answer, Refusal};
+use answer::{Answer, Refusal, Refused};
 use reading::Move;
 use scan::Found;
 use utf7_read::State;
@@ -100,8 +100,8 @@ fn word_end(st: State) -> Turn
     ensures { does_of result ≡ ended (utf7_ends_in 0 (shift_of st)) }
 {
     match utf7_read::ends_in(0, 0, st) {
-        Answer::Accepted(_) => Turn::Go(Part::Tail),
-        Answer::Refused(why, _) => Turn::Bad(why),
+        Ok(_) => Turn::Go(Part::Tail),
+        Err(Refused(why, _)) => Turn::Bad(why),
     }
 }
 
@@ -180,13 +180,13 @@ fn finish(size: usize, handed: usize, p: Part) -> Answer
     ensures { in_numbers result ≡ closing (ends_in size (part_of p)) handed }
 {
     match p {
-        Part::Start => Answer::Accepted(handed),
-        Part::Behind => Answer::Accepted(handed),
-        Part::Head(_) => Answer::Refused(Refusal::BadWord, size),
-        Part::Text(_, _) => Answer::Refused(Refusal::BadWord, size),
-        Part::Equals(_, _) => Answer::Refused(Refusal::BadWord, size),
-        Part::Half(_, _, _) => Answer::Refused(Refusal::BadWord, size),
-        Part::Tail => Answer::Refused(Refusal::BadWord, size),
+        Part::Start => Ok(handed),
+        Part::Behind => Ok(handed),
+        Part::Head(_) => Err(Refused(Refusal::BadWord, size)),
+        Part::Text(_, _) => Err(Refused(Refusal::BadWord, size)),
+        Part::Equals(_, _) => Err(Refused(Refusal::BadWord, size)),
+        Part::Half(_, _, _) => Err(Refused(Refusal::BadWord, size)),
+        Part::Tail => Err(Refused(Refusal::BadWord, size)),
     }
 }
 
@@ -336,8 +336,8 @@ fn word_cells(line: &[u8], at: usize, bytes: &mut [u8], out: &mut [u32]) -> Reac
         return Reached { count: 0, end: at };
     }
     match utf7_whole::read(&bytes[..count], out) {
-        Answer::Accepted(n) => Reached { count: n, end },
-        Answer::Refused(_, _) => Reached { count: 0, end: at },
+        Ok(n) => Reached { count: n, end },
+        Err(_) => Reached { count: 0, end: at },
     }
 }
 
@@ -427,10 +427,10 @@ fn count(line: &[u8]) -> Answer
                 at += 1;
             }
             Turn::Bad(why) => {
-                return Answer::Refused(why, at);
+                return Err(Refused(why, at));
             }
             Turn::Pair(why) => {
-                return Answer::Refused(why, equals_before(at + 1));
+                return Err(Refused(why, equals_before(at + 1)));
             }
         }
     }
@@ -477,12 +477,12 @@ pub fn read(line: &[u8], out: &mut [u32]) -> Answer
     }
     let found = count(line);
     match found {
-        Answer::Refused(_, _) => {
+        Err(_) => {
             return found;
         }
-        Answer::Accepted(n) => {
+        Ok(n) => {
             if out.len() < n {
-                return Answer::Refused(Refusal::NoRoom, n);
+                return Err(Refused(Refusal::NoRoom, n));
             }
             fill(line, out);
             found

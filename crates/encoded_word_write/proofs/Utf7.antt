@@ -5,11 +5,11 @@ use mathlib.Core.List.{List}
 use native.Mathlib.Omega.{arith}
 use lib.ListN.{length}
 use borrow.Author.Tests.{le-ltb}
-use Rattle.answer.specs.Answer.{limit, numbered}
+use Rattle.std.specs.declared.result.Result.TheVariants.{Ok, Err}
+use Rattle.answer.specs.declared.Refused.{Refused}
+use Rattle.answer.specs.Answer.{limit, numbered, Answer}
 use Rattle.answer.specs.Lists.{Each}
 use Rattle.answer.specs.Output.{Outcome, leaves, filled, deliver}
-use Rattle.answer.specs.declared.Answer.{Answer}
-use Rattle.answer.specs.declared.Answer.TheVariants.{Accepted, Refused}
 use Rattle.answer.specs.declared.Refusal.{Refusal}
 use Rattle.answer.proofs.Once.{number-pos}
 use Rattle.utf7.specs.Writing.{IsUnit, writing, write_into}
@@ -24,9 +24,9 @@ module _ (us text o : List ℕ) (units : Each IsUnit us) (few : length us ≤ li
   fills =
       h ∙ rw (le-ltb limit (length us) few, over_none us units, le-ltb (length us) (length us) (omega arith), le-ltb (length text) (length (writing Header us)) room)
 
-  pub as-accepted : {n : ℕ} → a ≡ Accepted n → (n ≡ length (writing Header us)) × (o ≡ filled (writing Header us) text)
+  pub as-accepted : {n : ℕ} → a ≡ Ok n → (n ≡ length (writing Header us)) × (o ≡ filled (writing Header us) text)
   as-accepted e = (ap (λ (x : Outcome). x.verdict.place) (rw e at fills), ap (λ (x : Outcome). x.out) fills)
 
-  pub not-refused : {X : Type 0} {why : Refusal} {place : ℕ} → a ≡ Refused why place → X
+  pub not-refused : {X : Type 0} {deny : Refused} → a ≡ Err deny → X
   not-refused {why = why} e =
-      absurd (omega (arith, number-pos why, ap (λ (x : Outcome). x.verdict.number) (rw e at fills)))
+      absurd (omega (arith, number-pos deny.0, ap (λ (x : Outcome). x.verdict.number) (rw e at fills)))

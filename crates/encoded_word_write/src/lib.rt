@@ -12,7 +12,7 @@ ghost use Rattle.encoded_word.specs.Writing.{spelled, q_text, parts, share_of, l
 ghost use Rattle.encoded_word.specs.Inner.{q_size, end_of, word_and};
 ghost use Rattle.encoded_word_write.specs.Inner.{Puts, alone_of, bringing, shown_as};
 
-use answer::{Answer, Refusal};
+use answer::{Answer, Refusal, Refused};
 use utf7::Style;
 
 // n units need at most 78 n bytes: a word's 75, and CR, LF and a space.
@@ -266,8 +266,8 @@ fn utf7_of(units: &[u32], text: &mut [u8]) -> usize
         × (text.new ≡ filled (writing Header units.now) text.old) }
 {
     match utf7_write::write(Style::Header, units, text) {
-        Answer::Accepted(n) => n,
-        Answer::Refused(_, _) => 0,
+        Ok(n) => n,
+        Err(_) => 0,
     }
 }
 
@@ -320,14 +320,14 @@ pub fn write(units: &[u32], out: &mut [u8]) -> Answer
     }
     let over = utf7::first_over(units);
     if over < units.len() {
-        return Answer::Refused(Refusal::Unwritable, over);
+        return Err(Refused(Refusal::Unwritable, over));
     }
     if out.len() / PER_CELL < units.len() {
         let need = size(units);
         if out.len() < need {
-            return Answer::Refused(Refusal::NoRoom, need);
+            return Err(Refused(Refusal::NoRoom, need));
         }
     }
     let count = put_line(units, out);
-    Answer::Accepted(count)
+    Ok(count)
 }

@@ -9,7 +9,7 @@ ghost use Rattle.benches.specs.Calls.{replace_of, undo_of, redo_of, save_of};
 ghost use Rattle.host_benches.specs.Benches.{bench_in, benches_in, host_bench, host_benches, no_kind_in};
 ghost use Rattle.host_benches.specs.Benches.{no_host_bench, unopened, opened_on, on_benches, finds, asked_on};
 
-use answer::{Answer, Refusal};
+use answer::{Refusal, Refused};
 use benches::{Bench, Benches, Edited};
 use host_numbers::{Numbers, in_numbers};
 use host_pages::HostAsked;
@@ -135,9 +135,9 @@ fn unsound(bench: usize, a: usize, b: usize, c: usize, d: usize) -> Numbers
         return in_numbers(answer::too_long());
     }
     if 1 < bench {
-        return in_numbers(Answer::Refused(Refusal::NoSuchBench, 0));
+        return in_numbers(Err(Refused(Refusal::NoSuchBench, 0)));
     }
-    in_numbers(Answer::Refused(Refusal::Unsound, 0))
+    in_numbers(Err(Refused(Refusal::Unsound, 0)))
 }
 
 fn no_host_bench(kind: u32) -> HostBench

@@ -5,7 +5,7 @@ ghost use Rattle.std.specs.Prelude.{◌≡◌};
 ghost use Rattle.comparer.specs.Compare.{compared_as, compare_of};
 ghost use Rattle.host_compare.specs.Compared.{in_host, hears};
 
-use answer::Answer;
+use answer::Refused;
 use codec::Format;
 use comparer::Compared;
 use host_numbers::{Numbers, in_numbers};
@@ -50,7 +50,7 @@ fn in_host(found: Compared) -> HostCompared
             second,
         },
         Compared::Refused(which, why, place) => {
-            let answer = in_numbers(Answer::Refused(why, place));
+            let answer = in_numbers(Err(Refused(why, place)));
             let text = which as u32;
             HostCompared {
                 answer,

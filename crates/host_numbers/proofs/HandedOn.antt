@@ -2,9 +2,8 @@
 use Prim.Native.Nat.{ℕ}
 use mathlib.Core.Path.{◌≡◌, ap, ◌∙◌}
 use mathlib.Core.List.{List}
-use Rattle.answer.specs.Answer.{Verdict, in_numbers}
+use Rattle.answer.specs.Answer.{Verdict, in_numbers, Answer}
 use Rattle.answer.specs.Output.{Outcome, leaves}
-use Rattle.answer.specs.declared.Answer.{Answer}
 use Rattle.host_numbers.specs.Numbers.{verdict_in, left}
 use Rattle.host_numbers.specs.declared.Numbers.{Numbers}
 

@@ -5,9 +5,8 @@ use mathlib.Core.List.{List, []}
 use lib.Dec.{eqb}
 use native.Mathlib.Omega.{arith}
 use borrow.Author.Tests.{lt-ltb, le-ltb, eqb-true}
-use Rattle.answer.specs.Answer.{in_numbers}
+use Rattle.answer.specs.Answer.{in_numbers, Answer}
 use Rattle.answer.specs.Output as output
-use Rattle.answer.specs.declared.Answer.{Answer}
 use Rattle.answer.proofs.Below.{all_below, below, cond-case}
 use Rattle.editor.specs.Marks.{Mark}
 use Rattle.ledger.specs.Page.{State, state_of, Outcome, keeps, replies}

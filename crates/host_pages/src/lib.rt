@@ -10,7 +10,7 @@ ghost use Rattle.host_numbers.specs.Numbers.{verdict_in, left};
 ghost use Rattle.host_pages.specs.Pages.{kind_of, kind_number, mark_in, mark_number, page_in, host_page};
 ghost use Rattle.host_pages.specs.Pages.{hosted, on_page, finds, finds_output, in_reply, asked_on, hears, kept_on};
 
-use answer::{Answer, Refusal};
+use answer::{Refusal, Refused};
 use codec::Kind;
 use host_numbers::{Numbers, in_numbers};
 use ledger::{Asked, Edited, Page};
@@ -154,7 +154,7 @@ fn no_kind(a: usize, b: usize, c: usize) -> Numbers
     if answer::over_limit(c) {
         return in_numbers(answer::too_long());
     }
-    in_numbers(Answer::Refused(Refusal::Unsound, 0))
+    in_numbers(Err(Refused(Refusal::Unsound, 0)))
 }
 
 pub fn open(kind: Kind, arrived: &[u8], text: &mut [u32], history: &mut [u32]) -> HostEdited

@@ -8,10 +8,10 @@ use lib.ListN.{length, take, drop, set}
 use lib.Seq.{drop-drop, drop_at, length-take-le}
 use lib.Dec.{ltb}
 use borrow.Author.Tests.{lt-ltb, le-ltb}
-use Rattle.answer.specs.Answer.{Verdict, in_numbers, limit}
+use Rattle.std.specs.declared.result.Result.TheVariants.{Ok, Err}
+use Rattle.answer.specs.declared.Refused.{Refused}
+use Rattle.answer.specs.Answer.{Verdict, in_numbers, limit, refused_at, Answer}
 use Rattle.answer.specs.Output.{Outcome, leaves, refusing, filled}
-use Rattle.answer.specs.declared.Answer.{Answer}
-use Rattle.answer.specs.declared.Answer.TheVariants.{Accepted, Refused}
 use Rattle.answer.specs.declared.Refusal.{Refusal}
 use Rattle.answer.specs.declared.Refusal.TheVariants.{NoRoom}
 use Rattle.answer.proofs.Put.{put_as, put-end, put-done}
@@ -126,11 +126,11 @@ module _ (text out : List ℕ) (h : length text ≤ 512) where
   within = le-ltb limit (length text) (omega arith)
 
   module _ {a : Answer} (q : in_numbers a ≡ verdict_of (reading jp2 text)) where
-    pub read-refused : {why : Refusal} {place : ℕ} → a ≡ Refused why place → leaves a out ≡ plain_into text out
+    pub read-refused : {deny : Refused} → a ≡ Err deny → leaves a out ≡ plain_into text out
     read-refused e = shown (into-refused jp2-kept text out within q e)
 
-    module _ {n : ℕ} (e : a ≡ Accepted n) where
-      pub read_short : length out < n → leaves (Refused NoRoom n) out ≡ plain_into text out
+    module _ {n : ℕ} (e : a ≡ Ok n) where
+      pub read_short : length out < n → leaves (refused_at NoRoom n) out ≡ plain_into text out
       read_short r = shown (into-short jp2-kept text out within q e r)
 
       pub read-room : n ≤ length out → length (Cells text) ≤ length out

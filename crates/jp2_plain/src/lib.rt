@@ -13,7 +13,7 @@ ghost use Rattle.jp2.specs.Writable.{pair_set, ascii};
 ghost use Rattle.jp2_plain.specs.Plain.{plain_into};
 ghost use Rattle.jp2_plain.specs.Inner.{single, byte_at, fault_at, g2_after, Stands, Finds};
 
-use answer::{Answer, Refusal};
+use answer::{Answer, Refusal, Refused};
 
 // What stands at a place between cells.
 #[derive(Clone, Copy)]
@@ -41,15 +41,15 @@ pub fn read(text: &[u8], out: &mut [u32]) -> Answer
     ensures { leaves result out.new ≡ plain_into text.now out.old }
 {
     if 512 < text.len() {
-        return Answer::Refused(Refusal::OverLimit, 512);
+        return Err(Refused(Refusal::OverLimit, 512));
     }
     let mut cells = blank();
     let found = singles(text, 0, 6, 0, 0, &mut cells);
     match found {
-        Answer::Refused(_, _) => found,
-        Answer::Accepted(n) => {
+        Err(_) => found,
+        Ok(n) => {
             if out.len() < n {
-                return Answer::Refused(Refusal::NoRoom, n);
+                return Err(Refused(Refusal::NoRoom, n));
             }
             singles(text, 0, 6, 0, 0, out)
         }
@@ -86,7 +86,7 @@ fn singles(text: &[u8], from: usize, set: u16, shift: u16, count: usize, out: &m
                 g2 = left;
                 at = next;
             }
-            Item::Fault(why, place) => return Answer::Refused(why, place),
+            Item::Fault(why, place) => return Err(Refused(why, place)),
         }
     }
     ends(g0, at, n)
@@ -122,7 +122,7 @@ fn pairs(text: &[u8], from: usize, set: u16, shift: u16, count: usize, out: &mut
                 g2 = left;
                 at = next;
             }
-            Item::Fault(why, place) => return Answer::Refused(why, place),
+            Item::Fault(why, place) => return Err(Refused(why, place)),
         }
     }
     ends(g0, at, n)
@@ -133,9 +133,9 @@ fn ends(g0: u16, at: usize, n: usize) -> Answer
     ensures { in_numbers result ≡ closing (ends_in at (state g0 0 plain)) n }
 {
     if g0 == 6 {
-        return Answer::Accepted(n);
+        return Ok(n);
     }
-    Answer::Refused(Refusal::NotAscii, at)
+    Err(Refused(Refusal::NotAscii, at))
 }
 
 // single-byte-char, or an escape: "Bytes 33 to 126 carry the G0 number; 0 to 32 and 127 always carry 6."

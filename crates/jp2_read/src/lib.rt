@@ -15,7 +15,7 @@ ghost use Rattle.jp2.specs.Rule.{plain, return, state, cell_of, graphic, designa
 ghost use Rattle.jp2_read.specs.Cursor.{phase_of, state_of, in_escape, state_for, state_back, does_of, cursor_of, step_of, jp2_code};
 ghost use Rattle.jp2_read.specs.Passing.{at_rest, marked_at, Hands};
 
-use answer::{Answer, Refusal};
+use answer::{Answer, Refusal, Refused};
 use reading::{Ahead, Cursor, Decoder, Marked, Move, Stepped};
 
 // Where a reader stands to cells and escapes.
@@ -293,9 +293,9 @@ fn finish_plain(size: usize, handed: usize, g0: u16) -> Answer
     ensures { in_numbers result ≡ closing (end_phase plain g0 size) handed }
 {
     if g0 == 6 {
-        return Answer::Accepted(handed);
+        return Ok(handed);
     }
-    Answer::Refused(Refusal::NotAscii, size)
+    Err(Refused(Refusal::NotAscii, size))
 }
 
 // The answer of a text of some size that ends in a state, after some cells.
@@ -306,11 +306,11 @@ pub fn finish(size: usize, handed: usize, st: State) -> Answer
     match phase {
         Phase::Plain => finish_plain(size, handed, st.g0),
         Phase::Return => finish_plain(size, handed, st.g0),
-        Phase::First(_) => Answer::Refused(Refusal::CutShort, size),
-        Phase::Shifted => Answer::Refused(Refusal::CutShort, size),
-        Phase::Escape => Answer::Refused(Refusal::CutShort, size),
-        Phase::Escape1(_) => Answer::Refused(Refusal::CutShort, size),
-        Phase::Escape2(_, _) => Answer::Refused(Refusal::CutShort, size),
+        Phase::First(_) => Err(Refused(Refusal::CutShort, size)),
+        Phase::Shifted => Err(Refused(Refusal::CutShort, size)),
+        Phase::Escape => Err(Refused(Refusal::CutShort, size)),
+        Phase::Escape1(_) => Err(Refused(Refusal::CutShort, size)),
+        Phase::Escape2(_, _) => Err(Refused(Refusal::CutShort, size)),
     }
 }
 

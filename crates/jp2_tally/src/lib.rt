@@ -6,7 +6,7 @@ ghost use Rattle.answer.specs.Answer.{in_numbers};
 ghost use Rattle.jp2.specs.Table.{first_where};
 ghost use Rattle.jp2.specs.Tally.{sets, tally_of};
 
-use answer::{Answer, Refusal};
+use answer::{Answer, Refusal, Refused};
 
 #[derive(Clone, Copy)]
 pub struct Tallied {
@@ -43,14 +43,14 @@ pub fn tally(cells: &[u32]) -> Tallied
     for (i, v) in cells.iter().enumerate() {
         if !jp2::is_writable(*v) {
             return Tallied {
-                answer: Answer::Refused(Refusal::Unwritable, i),
+                answer: Err(Refused(Refusal::Unwritable, i)),
                 counts: [0; 9],
             };
         }
         counts[place_of(*v / 65536)] += 1;
     }
     Tallied {
-        answer: Answer::Accepted(cells.len()),
+        answer: Ok(cells.len()),
         counts,
     }
 }

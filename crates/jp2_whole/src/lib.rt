@@ -12,7 +12,7 @@ ghost use Rattle.jp2.specs.Rule.{state, plain, jp2};
 ghost use Rattle.jp2_read.specs.Cursor.{state_of};
 ghost use Rattle.jp2_whole.specs.Quick.{Stands, Filled};
 
-use answer::{Answer, Refusal};
+use answer::{Answer, Refusal, Refused};
 use jp2_read::{Phase, State};
 use reading::Move;
 
@@ -74,7 +74,7 @@ fn measure(text: &[u8], from: quick::Reached) -> Answer
                 n += 1;
             }
             Move::Go(state) => st = state,
-            Move::Bad(why) => return Answer::Refused(why, at),
+            Move::Bad(why) => return Err(Refused(why, at)),
         }
     }
     jp2_read::finish(text.len(), n, st)
@@ -95,12 +95,12 @@ fn through(text: &[u8], cells: &mut [u32], out: &mut [u32]) -> Answer
     let r = quick::fill_on(text, start, cells);
     let found = measure(text, r);
     match found {
-        Answer::Refused(_, _) => {
+        Err(_) => {
             return found;
         }
-        Answer::Accepted(n) => {
+        Ok(n) => {
             if out.len() < n {
-                return Answer::Refused(Refusal::NoRoom, n);
+                return Err(Refused(Refusal::NoRoom, n));
             }
             copy(cells, r.n, out);
             decode(text, r, &mut out[..n]);
@@ -162,7 +162,7 @@ pub fn reads_as(text: &[u8], cells: &[u32]) -> bool
         }
     }
     match jp2_read::finish(text.len(), n, st) {
-        Answer::Accepted(_) => n == cells.len(),
-        Answer::Refused(_, _) => false,
+        Ok(_) => n == cells.len(),
+        Err(_) => false,
     }
 }

@@ -11,7 +11,7 @@ ghost use Rattle.jp2.specs.Writable.{shift_set, codes, writable};
 ghost use Rattle.jp2.specs.Writing.{designating, writing, write_into};
 ghost use Rattle.jp2_write.specs.Pieces.{designation_of, body_size, base_of, shifted_of, one_of, low_byte, g2_after, todo, Stretch, Ready, Run, Surveyed, Puts};
 
-use answer::{Answer, Refusal};
+use answer::{Answer, Refusal, Refused};
 
 const LF: u32 = 6 * 65536 + 10;
 
@@ -351,12 +351,12 @@ pub fn write(cells: &[u32], out: &mut [u8]) -> Answer
     let s = survey_cells(cells);
     let foreign = s.foreign;
     if foreign < cells.len() {
-        return Answer::Refused(Refusal::Unwritable, foreign);
+        return Err(Refused(Refusal::Unwritable, foreign));
     }
     let need = s.need;
     if out.len() < need {
-        return Answer::Refused(Refusal::NoRoom, need);
+        return Err(Refused(Refusal::NoRoom, need));
     }
     write_all(cells, out);
-    Answer::Accepted(need)
+    Ok(need)
 }

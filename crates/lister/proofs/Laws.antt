@@ -8,10 +8,10 @@ use lib.ListN.{length, take, drop, length-take}
 use lib.Seq.{take_at, take_all, length-take-le}
 use lib.Dec.{ltb}
 use borrow.Author.Tests.{ltb-true, ltb-false, lt-ltb, le-ltb}
-use Rattle.answer.specs.Answer.{limit, numbered, in_numbers, number_of}
+use Rattle.std.specs.declared.result.Result.TheVariants.{Ok, Err}
+use Rattle.answer.specs.declared.Refused.{Refused}
+use Rattle.answer.specs.Answer.{limit, numbered, in_numbers, number_of, refused_at, Answer}
 use Rattle.answer.specs.Output.{Outcome, leaves, filled, deliver}
-use Rattle.answer.specs.declared.Answer.{Answer}
-use Rattle.answer.specs.declared.Answer.TheVariants.{Accepted, Refused}
 use Rattle.answer.specs.declared.Refusal.{Refusal}
 use Rattle.answer.proofs.Once.{number-pos}
 use Rattle.answer.proofs.Below.{cond-case}
@@ -56,7 +56,7 @@ module _ (cells out o : List ℕ) (h : length cells ≤ length out) where
   roomy = rw (le-ltb (length out) (length cells) h)
 
   listed-count :
-      (e : Ending) (n : ℕ) → SoundEnd e → leaves (Accepted n) o ≡ on_ending e cells out →
+      (e : Ending) (n : ℕ) → SoundEnd e → leaves (Ok n) o ≡ on_ending e cells out →
       (n ≡ length cells) × (listing (numbered 0 n) (take n o) ≡ listing (closing e (length cells)) cells)
   listed-count accepted n s r =
       let place : n ≡ length cells = ap (λ (x : Outcome). x.verdict.place) (r ∙ roomy) in
@@ -65,7 +65,7 @@ module _ (cells out o : List ℕ) (h : length cells ≤ length out) where
   listed-count (fault k at) n s r = absurd (omega (arith, ap (λ (x : Outcome). x.verdict.number) r))
 
   listed-place :
-      (e : Ending) (why : Refusal) (place : ℕ) → leaves (Refused why place) o ≡ on_ending e cells out →
+      (e : Ending) (why : Refusal) (place : ℕ) → leaves (refused_at why place) o ≡ on_ending e cells out →
       listing (numbered (number_of why) place) [] ≡ listing (closing e (length cells)) cells
   listed-place accepted why place r =
       absurd (omega (arith, number-pos why, ap (λ (x : Outcome). x.verdict.number) (r ∙ roomy)))
@@ -149,7 +149,7 @@ module _
   unfolding print_into
   listed out lines e = ap (λ (l : List ℕ). deliver l out) (e ∙ sym (short-read f text short))
 
-  module _ (n : ℕ) (told : found ≡ Accepted n) where
+  module _ (n : ℕ) (told : found ≡ Ok n) where
     counted :
         (n ≡ length (reading_of f text).cells)
         × (listing (numbered 0 n) (take n o) ≡ listing (verdict_of (reading_of f text)) (reading_of f text).cells)
@@ -169,13 +169,13 @@ module _
         rw (told, c, le-ltb 1048576 (length (take n o)) (simp length-take (omega arith))) (listed out _ counted.1)
 
   pub refused-prints :
-      (why : Refusal) (place : ℕ) → found ≡ Refused why place → (out : List ℕ) →
+      (deny : Refused) → found ≡ Err deny → (out : List ℕ) →
       list_into (in_numbers found) [] out ≡ print_into f text out
   unfolding list_into limit
-  refused-prints why place told out =
+  refused-prints deny told out =
       rw told
       (listed out _
-      (listed-place (reading_of f text).cells buf o (omega (arith, few)) (reading_of f text).ending why place
+      (listed-place (reading_of f text).cells buf o (omega (arith, few)) (reading_of f text).ending deny
       (rw told at ended)))
 
 pub long-prints :

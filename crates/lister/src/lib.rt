@@ -5,7 +5,7 @@ ghost use Rattle.std.specs.Prelude.{◌≡◌};
 ghost use Rattle.answer.specs.Output.{leaves};
 ghost use Rattle.lister.specs.Printed.{print_into};
 
-use answer::{Answer, Refusal};
+use answer::{Answer, Refusal, Refused};
 use codec::Format;
 
 // "at most 16,384 bytes"
@@ -17,12 +17,12 @@ pub fn print(format: Format, text: &[u8], out: &mut [u8]) -> Answer
 {
     let mut cells = [0u32; 16384];
     if MOST < text.len() {
-        return listing::list(Answer::Refused(Refusal::OverLimit, MOST), &cells[..0], out);
+        return listing::list(Err(Refused(Refusal::OverLimit, MOST)), &cells[..0], out);
     }
     let found = codec::read(format, text, &mut cells);
     let count = answer::place(found);
     match found {
-        Answer::Accepted(_) => listing::list(found, &cells[..count], out),
-        Answer::Refused(_, _) => listing::list(found, &cells[..0], out),
+        Ok(_) => listing::list(found, &cells[..count], out),
+        Err(_) => listing::list(found, &cells[..0], out),
     }
 }

@@ -6,7 +6,7 @@ ghost use Rattle.answer.specs.Answer.{limit, numbered, in_numbers};
 ghost use Rattle.answer.specs.Output.{leaves, filled};
 ghost use Rattle.listing.specs.Listing.{digit, decimal, hex_in, spaced, line, cells_name, answer_lines, listing, say_into, tell_into, list_into};
 
-use answer::{Answer, Refusal};
+use answer::{Answer, Refusal, Refused};
 
 fn digit_of(d: u32) -> u8
     requires { d < 16 }
@@ -172,10 +172,10 @@ pub fn say(name: &[u8], n: usize, out: &mut [u8]) -> Answer
     // beside the name and the number '=' and LF
     let need = name.len() + places(n) + 2;
     if out.len() < need {
-        return Answer::Refused(Refusal::NoRoom, need);
+        return Err(Refused(Refusal::NoRoom, need));
     }
     put_number(name, n, out);
-    Answer::Accepted(need)
+    Ok(need)
 }
 
 // Spells an answer alone into an output.
@@ -186,10 +186,10 @@ pub fn tell(given: Answer, out: &mut [u8]) -> Answer
     let place = answer::place(given);
     let need = answer_size(number, place);
     if out.len() < need {
-        return Answer::Refused(Refusal::NoRoom, need);
+        return Err(Refused(Refusal::NoRoom, need));
     }
     put_answer(number, place, out);
-    Answer::Accepted(need)
+    Ok(need)
 }
 
 // Spells an answer, and the cells where it is accepted, into an output.
@@ -203,8 +203,8 @@ pub fn list(given: Answer, cells: &[u32], out: &mut [u8]) -> Answer
     let place = answer::place(given);
     let need = size(number, place, cells);
     if out.len() < need {
-        return Answer::Refused(Refusal::NoRoom, need);
+        return Err(Refused(Refusal::NoRoom, need));
     }
     put_listing(number, place, cells, out);
-    Answer::Accepted(need)
+    Ok(need)
 }

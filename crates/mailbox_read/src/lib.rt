@@ -14,7 +14,7 @@ ghost use Rattle.mailbox_read.specs.Cursor.{shift_of, cursor_of, step_of, Settle
 ghost use Rattle.mailbox_read.specs.Cursor.{Between};
 ghost use Rattle.mailbox_read.specs.declared.State.TheVariants.{Run};
 
-use answer::{Answer, Refusal};
+use answer::{Answer, Refusal, Refused};
 use reading::{Ahead, Cursor, Decoder, Move, Stepped};
 
 // Where a reader stands to runs.
@@ -300,9 +300,9 @@ pub fn finish(size: usize, handed: usize, st: State) -> Answer
     ensures { in_numbers result ≡ closing (ends_in size (shift_of st)) handed }
 {
     match st {
-        State::Outside(_) => Answer::Accepted(handed),
-        State::Opening(_) => Answer::Refused(Refusal::LoneSign, size),
-        State::Run(_, _) => Answer::Refused(Refusal::CutShort, size),
+        State::Outside(_) => Ok(handed),
+        State::Opening(_) => Err(Refused(Refusal::LoneSign, size)),
+        State::Run(_, _) => Err(Refused(Refusal::CutShort, size)),
     }
 }
 

@@ -2,8 +2,7 @@
 use Prim.Native.Nat.{ℕ}
 use mathlib.Core.Path.{◌≡◌, refl}
 use mathlib.Core.Bool.{false}
-use Rattle.answer.specs.Answer.{numbered, in_numbers}
-use Rattle.answer.specs.declared.Answer.{Answer}
+use Rattle.answer.specs.Answer.{numbered, in_numbers, Answer}
 use Rattle.editor.specs.Marks.{unchanged_at}
 use Rattle.editor.specs.Layout.{ask_on, reply_of}
 use Rattle.ledger.specs.Page.{State}

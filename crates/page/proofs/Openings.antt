@@ -8,10 +8,10 @@ use lib.ListN.{length, take, drop, replicate, length-append, length-drop}
 use lib.Seq.{take-append_seam}
 use lib.Dec.{ltb}
 use borrow.Author.Tests.{ltb-false}
-use Rattle.answer.specs.Answer.{Verdict, numbered, in_numbers, too_long}
+use Rattle.std.specs.declared.result.Result.TheVariants.{Ok, Err}
+use Rattle.answer.specs.declared.Refused.{Refused}
+use Rattle.answer.specs.Answer.{Verdict, numbered, in_numbers, too_long, Answer}
 use Rattle.std.specs.Prelude.{Some}
-use Rattle.answer.specs.declared.Answer.{Answer}
-use Rattle.answer.specs.declared.Answer.TheVariants.{Accepted, Refused}
 use Rattle.answer.specs.declared.Refusal.{Refusal}
 use Rattle.answer.specs.Output as output
 use Rattle.answer.proofs.Once.{number-pos}
@@ -82,9 +82,9 @@ module _ (kind : Kind) (arrived text history : List ℕ) where
             (sym (e ∙ rw (read-form, g, a)))
             (opens (reading_in kind arrived).ending (reading_in kind arrived).cells (fault-numbered kind arrived)))
 
-        pub open-accepted : (count : ℕ) → r ≡ Accepted count → open_of kind arrived text history ≡ opening count x
+        pub open-accepted : (count : ℕ) → r ≡ Ok count → open_of kind arrived text history ≡ opening count x
         open-accepted count z =
             subst (λ (b : Answer). (in_numbers b).number ≡ 0 → open_of kind arrived text history ≡ opening (in_numbers b).place x) z read-opens.0 refl
 
-        pub open-refused : (why : Refusal) (place : ℕ) → r ≡ Refused why place → (x ≡ text) × (open_of kind arrived text history ≡ refusal (in_numbers r))
-        open-refused why place z = read-opens.1 (rw z (number-pos why))
+        pub open-refused : (deny : Refused) → r ≡ Err deny → (x ≡ text) × (open_of kind arrived text history ≡ refusal (in_numbers r))
+        open-refused deny z = read-opens.1 (rw z (number-pos deny.0))

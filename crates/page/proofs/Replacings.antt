@@ -8,8 +8,7 @@ use lib.ListN.{length, take, drop, length-append, length-take, length-drop}
 use lib.Seq.{length-take-le, take-take}
 use lib.Dec.{ltb}
 use borrow.Author.Tests.{lt-ltb, le-ltb}
-use Rattle.answer.specs.Answer.{numbered, in_numbers, too_long}
-use Rattle.answer.specs.declared.Answer.{Answer}
+use Rattle.answer.specs.Answer.{numbered, in_numbers, too_long, Answer}
 use Rattle.codec.specs.Kinds.{first_unwritable}
 use Rattle.ledger.specs.Words.{Entry, Parted, size_of, words_of, pad}
 use Rattle.ledger.specs.Page.{State, text_in, leaves}

@@ -9,9 +9,8 @@ use lib.ListN.{length, get_or, drop, set, drop_of_length-le}
 use lib.Seq.{drop-cons}
 use lib.Dec.{eqb}
 use borrow.Author.Tests.{lt-ltb, le-ltb, eq-eqb, ne_eqb}
-use Rattle.answer.specs.Answer.{numbered, number_of, in_numbers, too_long}
-use Rattle.answer.specs.declared.Answer.{Answer}
-use Rattle.answer.specs.declared.Answer.TheVariants.{Accepted, Refused}
+use Rattle.std.specs.declared.result.Result.TheVariants.{Ok, Err}
+use Rattle.answer.specs.Answer.{numbered, number_of, in_numbers, too_long, refused_at, Answer}
 use Rattle.answer.specs.declared.Refusal.TheVariants.{NoRoom}
 use Rattle.answer.specs.Output as output
 use Rattle.answer.proofs.Once.{number-pos}
@@ -34,7 +33,7 @@ use Rattle.page.specs.Outcomes.{bare, saved_in, saved_page}
 use Rattle.page.proofs.Replacings.{by-test}
 
 module _ (bytes out₀ : List ℕ) where
-  pub no_room : length out₀ < length bytes → output.leaves (Refused NoRoom (length bytes)) out₀ ≡ output.deliver bytes out₀
+  pub no_room : length out₀ < length bytes → output.leaves (refused_at NoRoom (length bytes)) out₀ ≡ output.deliver bytes out₀
   unfolding output.deliver
   no_room q = rw (lt-ltb (length out₀) (length bytes) q)
 
@@ -44,7 +43,7 @@ module _ (bytes out₀ : List ℕ) where
         let next : drop i bytes ≡ get_or bytes i 0 ∷ drop (i + 1) bytes = rw add-one (drop-cons bytes i 0 q) in
         put_next (put_as next p)
 
-    pub give-end : length bytes ≤ i → output.leaves (Accepted i) out ≡ output.deliver bytes out₀
+    pub give-end : length bytes ≤ i → output.leaves (Ok i) out ≡ output.deliver bytes out₀
     unfolding output.deliver
     give-end q =
         let e = put_as (drop_of_length-le bytes q) p in
@@ -64,8 +63,8 @@ saved-as :
     (s : State) (a : Answer) (out : List ℕ) →
     keeps (record { answer = a; page = saved_page s.page a }) s.text s.history out
     ≡ keeping s (output.leaves a out)
-saved-as s (Accepted n) out = refl
-saved-as s (Refused why place) out =
+saved-as s (Ok n) out = refl
+saved-as s (Err deny) out =
     rw (ne_eqb (number_of why) 0 (λ (z : number_of why ≡ 0). omega (arith, number-pos why)))
 
 pub saved-given :

@@ -8,8 +8,7 @@ use lib.ListN.{length, get_or, take, drop, take-append-drop}
 use lib.Seq.{length-take-le}
 use lib.Dec.{leb}
 use borrow.Author.Tests.{leb-true, le-leb}
-use Rattle.answer.specs.Answer.{numbered, in_numbers}
-use Rattle.answer.specs.declared.Answer.{Answer}
+use Rattle.answer.specs.Answer.{numbered, in_numbers, Answer}
 use Rattle.answer.proofs.Below.{both}
 use Rattle.ledger.specs.Words.{Entry, words_of, size_of, length_after, lengths_fit, reached}
 use Rattle.ledger.specs.Page.{State, Outcome, text_in}

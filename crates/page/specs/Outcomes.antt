@@ -1,9 +1,7 @@
 -- What an accepted edit gives back, what replace and save come to on a sound page, and a page just opened.
-use Rattle.std.specs.Prelude.{ℕ, cond, List, [], length, eqb, Some}
-use Rattle.answer.specs.Answer.{numbered}
+use Rattle.std.specs.Prelude.{ℕ, cond, List, [], length, eqb, Some, Ok, Err}
+use Rattle.answer.specs.Answer.{numbered, Answer}
 use Rattle.answer.specs.Output.{Outcome, refusing, deliver}
-use Rattle.answer.specs.declared.Answer.{Answer}
-use Rattle.answer.specs.declared.Answer.TheVariants.{Accepted, Refused}
 use Rattle.codec.specs.declared.Kind.{Kind}
 use Rattle.codec.specs.Kinds.{reads_as, write_in}
 use Rattle.editor.specs.Marks.{Mark}
@@ -19,7 +17,7 @@ use Rattle.ledger.specs.declared.Edited.{Edited}
 abbrev pub edited_as : Page → List ℕ → ℕ → ℕ → Mark → Edited
 edited_as page text used done saved =
     record {
-      answer = Accepted (length text);
+      answer = Ok (length text);
       page =
           record {
             kind = page.kind;
@@ -54,5 +52,5 @@ saved_in page cells arrived out =
 
 -- the page that a save with this answer gives back
 abbrev pub saved_page : Page → Answer → Page
-saved_page page (Accepted n) = marked_as page (Some page.done)
-saved_page page (Refused why place) = page
+saved_page page (Ok n) = marked_as page (Some page.done)
+saved_page page (Err deny) = page

@@ -5,7 +5,7 @@ mod output;
 
 ghost use Rattle.std.specs.Prelude.{◌≡◌, ◌+◌, ◌-◌, ◌≤◌, ◌<◌, ◌^◌, [], ◌++◌, length, take, replicate, Some};
 ghost use Rattle.answer.specs.Answer.{limit, numbered};
-ghost use Rattle.answer.specs.declared.Answer.TheVariants.{Accepted};
+ghost use Rattle.std.specs.Prelude.{Ok, Err};
 ghost use Rattle.answer.specs.Output as output;
 ghost use Rattle.records.specs.declared.Judged.TheVariants.{Sound};
 ghost use Rattle.records.specs.Walking.{judge_of};
@@ -17,7 +17,7 @@ ghost use Rattle.splice.specs.Splice.{spliced, Filled};
 ghost use Rattle.page.specs.Steps.{stepped_of, span_of, no_change, change_found};
 ghost use Rattle.page.specs.Outcomes.{edited_as, replace_fitting, replace_sound, fresh_page, saved_in, saved_page};
 
-use answer::{Answer, Refusal};
+use answer::{Answer, Refusal, Refused};
 use codec::Kind;
 use ledger::{Asked, Edited, Page};
 use records::Judged;
@@ -63,7 +63,7 @@ fn accept(
 {
     let length = splice::splice_in(&mut *text, page.length, place, count, cells);
     Edited {
-        answer: Answer::Accepted(length),
+        answer: Ok(length),
         page: Page {
             length,
             used,
@@ -143,7 +143,7 @@ fn move_over(page: Page, forward: bool, last: usize, text: &mut [u32], history: 
     let span = words_over(page, forward, last);
     let at = span.from;
     if at == span.to {
-        return refused(page, Answer::Refused(Refusal::NothingLeft, 0));
+        return refused(page, Err(Refused(Refusal::NothingLeft, 0)));
     }
     let change = change_at(history, at, forward);
     accept(
@@ -229,12 +229,12 @@ fn replace_fitting(
 {
     let length = page.length - count + cells.len();
     if text.len() < length {
-        return refused(page, Answer::Refused(Refusal::NoRoom, length));
+        return refused(page, Err(Refused(Refusal::NoRoom, length)));
     }
     let done = page.done;
     let used = done + (3 + count + cells.len());
     if history.len() < used {
-        return refused(page, Answer::Refused(Refusal::HistoryFull, used));
+        return refused(page, Err(Refused(Refusal::HistoryFull, used)));
     }
     let end = place + count;
     put_record(
@@ -265,11 +265,11 @@ fn replace_sound(
 {
     let length = page.length;
     if length < count || length - count < place {
-        return refused(page, Answer::Refused(Refusal::BeyondLength, length));
+        return refused(page, Err(Refused(Refusal::BeyondLength, length)));
     }
     let first = codec::first_unwritable(page.kind, cells);
     if first < cells.len() {
-        return refused(page, Answer::Refused(Refusal::Unwritable, first));
+        return refused(page, Err(Refused(Refusal::Unwritable, first)));
     }
     replace_fitting(page, place, count, cells, &mut *text, &mut *history)
 }
@@ -323,7 +323,7 @@ fn opened(kind: Kind, count: usize, text: &mut [u32], history: &mut [u32]) -> Ed
     splice::clear_from(&mut *text, count);
     splice::clear_from(&mut *history, 0);
     Edited {
-        answer: Answer::Accepted(count),
+        answer: Ok(count),
         page: fresh(kind, count, Some(0)),
     }
 }
@@ -342,8 +342,8 @@ pub fn open(kind: Kind, arrived: &[u8], text: &mut [u32], history: &mut [u32]) -
     }
     let answer = codec::read(kind.format(), arrived, &mut *text);
     match answer {
-        Answer::Accepted(count) => opened(kind, count, &mut *text, &mut *history),
-        Answer::Refused(_, _) => refused(none, answer),
+        Ok(count) => opened(kind, count, &mut *text, &mut *history),
+        Err(_) => refused(none, answer),
     }
 }
 
@@ -355,7 +355,7 @@ fn save_text(page: Page, cells: &[u32], arrived: &[u8], out: &mut [u8]) -> Answe
         return codec::write(page.kind, cells, &mut *out);
     }
     if !codec::reads_as(page.kind.format(), arrived, cells) {
-        return Answer::Refused(Refusal::NotTheText, 0);
+        return Err(Refused(Refusal::NotTheText, 0));
     }
     output::give(arrived, &mut *out)
 }
@@ -365,14 +365,14 @@ fn set_mark(page: Page, answer: Answer) -> Edited
     ensures { result ≡ record { answer = answer; page = saved_page page answer } }
 {
     match answer {
-        Answer::Accepted(_) => Edited {
+        Ok(_) => Edited {
             answer,
             page: Page {
                 saved: Some(page.done),
                 ..page
             },
         },
-        Answer::Refused(_, _) => refused(page, answer),
+        Err(_) => refused(page, answer),
     }
 }
 
@@ -406,7 +406,7 @@ pub fn told(page: Page) -> Asked
     ensures { result ≡ record { answer = Accepted 0; unchanged = unchanged_at page.done page.saved } }
 {
     Asked {
-        answer: Answer::Accepted(0),
+        answer: Ok(0),
         unchanged: page.saved == Some(page.done),
     }
 }

@@ -7,9 +7,9 @@ use native.Mathlib.Omega.{arith}
 use lib.ListN.{length}
 use lib.Dec.{eqb}
 use borrow.Author.Tests.{eq-eqb, ne_eqb}
-use Rattle.answer.specs.Answer.{Verdict, numbered, number_of, in_numbers}
-use Rattle.answer.specs.declared.Answer.{Answer}
-use Rattle.answer.specs.declared.Answer.TheVariants.{Accepted, Refused}
+use Rattle.std.specs.declared.result.Result.TheVariants.{Ok, Err}
+use Rattle.answer.specs.declared.Refused.{Refused}
+use Rattle.answer.specs.Answer.{Verdict, numbered, number_of, in_numbers, Answer}
 use Rattle.answer.specs.declared.Refusal.{Refusal}
 use Rattle.answer.proofs.Once.{number-pos}
 use Rattle.reading.specs.Reading.{Reading, Ending, accepted, fault, closing, verdict_of}
@@ -51,9 +51,9 @@ module _ (r : Reading) (sound : SoundEnd r.ending) (n : ℕ) where
   no-by accepted k p h q = absurd (omega (arith, (numbers q).0))
   no-by (fault j place) k p h q = refl
 
-  pub count_yes : {a : Answer} {m : ℕ} → in_numbers a ≡ verdict_of r → a ≡ Accepted m → eqb m n ≡ counted n r
+  pub count_yes : {a : Answer} {m : ℕ} → in_numbers a ≡ verdict_of r → a ≡ Ok m → eqb m n ≡ counted n r
   count_yes {a} {m} e q = yes-by r.ending sound m (sym (ap in_numbers q) ∙ e)
 
-  pub count_no : {a : Answer} {why : Refusal} {place : ℕ} → in_numbers a ≡ verdict_of r → a ≡ Refused why place → false ≡
+  pub count_no : {a : Answer} {deny : Refused} → in_numbers a ≡ verdict_of r → a ≡ Err deny → false ≡
       counted n r
-  count_no {a} {why} {place} e q = no-by r.ending (number_of why) place (number-pos why) (sym (ap in_numbers q) ∙ e)
+  count_no {a} {deny} e q = no-by r.ending (number_of deny.0) deny.1 (number-pos deny.0) (sym (ap in_numbers q) ∙ e)

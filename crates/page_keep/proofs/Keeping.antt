@@ -9,9 +9,8 @@ use native.Mathlib.Nat.{zero-add}
 use lib.ListN.{length, take, length-append}
 use lib.Seq.{sets, sets-eq, length-take-le}
 use borrow.Author.Tests.{lt-ltb, le-ltb}
-use Rattle.answer.specs.Answer.{numbered, in_numbers, too_long}
-use Rattle.answer.specs.declared.Answer.{Answer}
-use Rattle.answer.specs.declared.Answer.TheVariants.{Accepted, Refused}
+use Rattle.std.specs.declared.result.Result.TheVariants.{Ok}
+use Rattle.answer.specs.Answer.{numbered, in_numbers, too_long, refused_at, Answer}
 use Rattle.answer.specs.declared.Refusal.TheVariants.{NoRoom}
 use Rattle.answer.specs.Bytes.{bytes}
 use Rattle.answer.specs.Output.{leaves, refusing, filled, deliver}
@@ -138,11 +137,11 @@ put_whole out file h = sets-eq file out 0 (omega arith) ∙ rw zero-add
 
 -- the file in an output
 module _ (file out : List ℕ) {n : ℕ} (e : n ≡ length file) where
-  pub no_room : length out < n → leaves (Refused NoRoom n) out ≡ deliver file out
+  pub no_room : length out < n → leaves (refused_at NoRoom n) out ≡ deliver file out
   unfolding deliver
   no_room h = rw (lt-ltb (length out) (length file) (omega arith), e)
 
-  pub has_room : n ≤ length out → {out' : List ℕ} → out' ≡ filled file out → leaves (Accepted n) out' ≡ deliver file out
+  pub has_room : n ≤ length out → {out' : List ℕ} → out' ≡ filled file out → leaves (Ok n) out' ≡ deliver file out
   unfolding deliver
   has_room h f = rw (le-ltb (length out) (length file) (omega arith), e, f)
 

@@ -14,7 +14,7 @@ ghost use Rattle.page_file.specs.Inner.{belongs_by, form_if};
 ghost use Rattle.page_file.specs.Calls.{keep_of};
 ghost use Rattle.page_keep.specs.Inner.{form_line, head_of, content_by, is_long};
 
-use answer::{Answer, Refusal};
+use answer::{Answer, Refusal, Refused};
 use codec::Kind;
 use ledger::Page;
 use records::Judged;
@@ -133,15 +133,15 @@ fn keep_sound(page: Page, cells: &[u32], words: &[u32], arrived: &[u8], out: &mu
         (refusing (numbered 15 0) out.old) }
 {
     if !opened::belongs(page, cells, arrived) {
-        return Answer::Refused(Refusal::NotTheText, 0);
+        return Err(Refused(Refusal::NotTheText, 0));
     }
     let two = page_file::is_long(page, arrived.len());
     let size = size_of(two, page, arrived, cells, words);
     if out.len() < size {
-        return Answer::Refused(Refusal::NoRoom, size);
+        return Err(Refused(Refusal::NoRoom, size));
     }
     put_file(two, page, cells, words, arrived, &mut *out);
-    Answer::Accepted(size)
+    Ok(size)
 }
 
 // Puts the page's file into the output: 16, 14, 15, 9.

@@ -8,7 +8,7 @@ ghost use Rattle.codec.specs.Kinds.{reading_in};
 ghost use Rattle.page_file.specs.Calls.{counted};
 ghost use Rattle.page_file.specs.Inner.{belongs_by};
 
-use answer::Answer;
+use answer::{Answer, Refused};
 use codec::Kind;
 use ledger::Page;
 use reading::Move;
@@ -32,7 +32,7 @@ fn utf7_answer(text: &[u8]) -> Answer
                 at += 1;
             }
             Move::Bad(why) => {
-                return Answer::Refused(why, at);
+                return Err(Refused(why, at));
             }
         }
     }
@@ -57,7 +57,7 @@ fn jp2_answer(text: &[u8]) -> Answer
                 at += 1;
             }
             Move::Bad(why) => {
-                return Answer::Refused(why, at);
+                return Err(Refused(why, at));
             }
         }
     }
@@ -79,7 +79,7 @@ fn has_cells(kind: Kind, text: &[u8], n: usize) -> bool
     ensures { result ≡ counted n (reading_in kind text.now) }
 {
     let answer = answer_of(kind, text);
-    let Answer::Accepted(count) = answer else {
+    let Ok(count) = answer else {
         return false;
     };
     count == n

@@ -8,8 +8,7 @@ use native.Mathlib.Omega.{arith}
 use lib.ListN.{length, take, drop, length-append, length-drop}
 use lib.Seq.{take_at}
 use borrow.Author.Tests.{lt-ltb, le-ltb}
-use Rattle.answer.specs.Answer.{numbered, in_numbers, too_long}
-use Rattle.answer.specs.declared.Answer.{Answer}
+use Rattle.answer.specs.Answer.{numbered, in_numbers, too_long, Answer}
 use Rattle.answer.specs.Output.{filled}
 use Rattle.codec.specs.declared.Kind.TheVariants.{Utf7Header}
 use Rattle.ledger.specs.declared.Edited.{Edited}

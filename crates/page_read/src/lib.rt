@@ -16,7 +16,7 @@ ghost use Rattle.scan.specs.Inner.{hexes_at};
 ghost use Rattle.page_file.specs.Calls.{state_from, given, read_parted, read_fitting, read_of};
 ghost use Rattle.page_read.specs.Inner.{content_in, Lists};
 
-use answer::{Answer, Refusal};
+use answer::{Answer, Refusal, Refused};
 use codec::Kind;
 use ledger::{Edited, Page};
 use lines::Plan;
@@ -76,7 +76,7 @@ fn take_in(
     fill_words(file, plan.text, page.length, &mut *text);
     fill_words(file, plan.history, page.used, &mut *history);
     Edited {
-        answer: Answer::Accepted(count),
+        answer: Ok(count),
         page,
     }
 }
@@ -100,10 +100,10 @@ fn read_sound(
 {
     let page = plan.page;
     if !walk::is_sound(file, plan.history, page, text.len()) {
-        return unread(Answer::Refused(Refusal::Unsound, 0));
+        return unread(Err(Refused(Refusal::Unsound, 0)));
     }
     if !opened::belongs(file, plan) {
-        return unread(Answer::Refused(Refusal::NotTheText, 0));
+        return unread(Err(Refused(Refusal::NotTheText, 0)));
     }
     take_in(file, plan, &mut *arrived, &mut *text, &mut *history)
 }
@@ -123,13 +123,13 @@ fn read_fitting(
 {
     let page = plan.page;
     if arrived.len() < plan.count {
-        return unread(Answer::Refused(Refusal::NoRoom, plan.count));
+        return unread(Err(Refused(Refusal::NoRoom, plan.count)));
     }
     if text.len() < page.length {
-        return unread(Answer::Refused(Refusal::NoRoom, page.length));
+        return unread(Err(Refused(Refusal::NoRoom, page.length)));
     }
     if history.len() < page.used {
-        return unread(Answer::Refused(Refusal::NoRoom, page.used));
+        return unread(Err(Refused(Refusal::NoRoom, page.used)));
     }
     read_sound(file, plan, &mut *arrived, &mut *text, &mut *history)
 }
@@ -150,7 +150,7 @@ pub fn read(file: &[u8], arrived: &mut [u8], text: &mut [u32], history: &mut [u3
     }
     let plan = lines::plan_of(file);
     if !plan.ok {
-        return unread(Answer::Refused(Refusal::BadPageFile, plan.at));
+        return unread(Err(Refused(Refusal::BadPageFile, plan.at)));
     }
     read_fitting(file, plan, &mut *arrived, &mut *text, &mut *history)
 }

@@ -14,7 +14,7 @@ ghost use Rattle.page_read.specs.Inner.{content_in, Lists};
 
 use crate::hex;
 use crate::lines::Plan;
-use answer::Answer;
+use answer::{Answer, Refused};
 use codec::Kind;
 use reading::Move;
 
@@ -39,7 +39,7 @@ fn utf7_answer(file: &[u8], base: usize, n: usize) -> Answer
                 at += 1;
             }
             Move::Bad(why) => {
-                return Answer::Refused(why, at);
+                return Err(Refused(why, at));
             }
         }
     }
@@ -66,7 +66,7 @@ fn jp2_answer(file: &[u8], base: usize, n: usize) -> Answer
                 at += 1;
             }
             Move::Bad(why) => {
-                return Answer::Refused(why, at);
+                return Err(Refused(why, at));
             }
         }
     }
@@ -90,7 +90,7 @@ fn has_cells(kind: Kind, file: &[u8], base: usize, n: usize, cells: usize) -> bo
     ensures { result ≡ counted cells (reading_in kind (hexes_at file.now base 2 n)) }
 {
     let answer = answer_of(kind, file, base, n);
-    let Answer::Accepted(count) = answer else {
+    let Ok(count) = answer else {
         return false;
     };
     count == cells
@@ -129,8 +129,8 @@ fn utf7_same(file: &[u8], base: usize, n: usize, text: usize, m: usize) -> bool
         }
     }
     match utf7_read::ends_in(at, count, st) {
-        Answer::Accepted(_) => count == m,
-        Answer::Refused(_, _) => false,
+        Ok(_) => count == m,
+        Err(_) => false,
     }
 }
 
@@ -166,8 +166,8 @@ fn jp2_same(file: &[u8], base: usize, n: usize, text: usize, m: usize) -> bool
         }
     }
     match jp2_read::finish(at, count, st) {
-        Answer::Accepted(_) => count == m,
-        Answer::Refused(_, _) => false,
+        Ok(_) => count == m,
+        Err(_) => false,
     }
 }
 

@@ -7,10 +7,10 @@ use native.Mathlib.Omega.{arith}
 use lib.ListN.{length, get_or, drop, set}
 use lib.Dec.{ltb}
 use borrow.Author.Tests.{lt-ltb, le-ltb}
-use Rattle.answer.specs.Answer.{Verdict, numbered, number_of, in_numbers, limit, too_long}
+use Rattle.std.specs.declared.result.Result.TheVariants.{Ok, Err}
+use Rattle.answer.specs.declared.Refused.{Refused}
+use Rattle.answer.specs.Answer.{Verdict, numbered, number_of, in_numbers, limit, too_long, refused_at, Answer}
 use Rattle.answer.specs.Output.{leaves, filled, deliver}
-use Rattle.answer.specs.declared.Answer.{Answer}
-use Rattle.answer.specs.declared.Answer.TheVariants.{Accepted, Refused}
 use Rattle.answer.specs.declared.Refusal.{Refusal}
 use Rattle.answer.specs.declared.Refusal.TheVariants.{NoRoom}
 use Rattle.answer.proofs.Once.{number-pos}
@@ -54,20 +54,20 @@ module _ {S : Type 0} {rule : Rule S} {Sound : S → Type 0} {Good : ℕ → Typ
   module _ (h : ltb limit (length s) ≡ false) where
     refused-by :
         (why : Refusal) (place : ℕ) (e : Ending) (cells : List ℕ) → numbered (number_of why) place ≡ closing e (length cells) →
-        leaves (Refused why place) out ≡ on_ending e cells out
+        leaves (refused_at why place) out ≡ on_ending e cells out
     refused-by why place accepted cells q = absurd (omega (arith, number-pos why, ap (λ (v : Verdict). v.number) q))
     refused-by why place (fault k p) cells q = rw q
 
-    pub into-refused : {a : Answer} {why : Refusal} {place : ℕ} → in_numbers a ≡ verdict_of (reading rule s) → a ≡ Refused why place → leaves a out ≡ read_into rule s out
+    pub into-refused : {a : Answer} {deny : Refused} → in_numbers a ≡ verdict_of (reading rule s) → a ≡ Err deny → leaves a out ≡ read_into rule s out
     unfolding read_into
-    into-refused {a} {why} {place} q e =
-        rw (h, e) (refused-by why place (reading rule s).ending (reading rule s).cells (rw e at q))
+    into-refused {a} {deny} q e =
+        rw (h, e) (refused-by deny (reading rule s).ending (reading rule s).cells (rw e at q))
 
     accepted-by : (n : ℕ) (e : Ending) (m : ℕ) → SoundEnd e → numbered 0 n ≡ closing e m → (e ≡ accepted) × (n ≡ m)
     accepted-by n accepted m w q = (refl, ap (λ (v : Verdict). v.place) q)
     accepted-by n (fault k p) m w q = absurd (omega (arith, w, ap (λ (v : Verdict). v.number) q))
 
-    module _ {a : Answer} {n : ℕ} (q : in_numbers a ≡ verdict_of (reading rule s)) (e : a ≡ Accepted n) where
+    module _ {a : Answer} {n : ℕ} (q : in_numbers a ≡ verdict_of (reading rule s)) (e : a ≡ Ok n) where
       known : ((reading rule s).ending ≡ accepted) × (n ≡ length (reading rule s).cells)
       known = accepted-by n (reading rule s).ending (length (reading rule s).cells) (good-reading kept s).1 (rw e at q)
 
@@ -77,7 +77,7 @@ module _ {S : Type 0} {rule : Rule S} {Sound : S → Type 0} {Good : ℕ → Typ
       pub into-room : n ≤ length out → length (reading rule s).cells ≤ length out
       into-room r = omega (arith, known.1)
 
-      pub into-short : length out < n → leaves (Refused NoRoom n) out ≡ read_into rule s out
+      pub into-short : length out < n → leaves (refused_at NoRoom n) out ≡ read_into rule s out
       unfolding read_into deliver
       into-short r = rw (h, known.0, ← known.1, lt-ltb (length out) n r)
 

@@ -9,9 +9,9 @@ use lib.ListN.{length, get_or, drop, length-drop, drop_of_length-le}
 use lib.Seq.{drop-cons}
 use lib.Dec.{eqb}
 use borrow.Author.Tests.{eq-eqb, ne_eqb}
-use Rattle.answer.specs.Answer.{Verdict, numbered, number_of, in_numbers}
-use Rattle.answer.specs.declared.Answer.{Answer}
-use Rattle.answer.specs.declared.Answer.TheVariants.{Accepted, Refused}
+use Rattle.std.specs.declared.result.Result.TheVariants.{Ok, Err}
+use Rattle.answer.specs.declared.Refused.{Refused}
+use Rattle.answer.specs.Answer.{Verdict, numbered, number_of, in_numbers, Answer}
 use Rattle.answer.specs.declared.Refusal.{Refusal}
 use Rattle.answer.proofs.Once.{number-pos}
 use Rattle.reading.specs.Reading.{give, go, bad, Ending, accepted, fault, Rule, Reading, closing, read_from, reading}
@@ -86,8 +86,8 @@ module _ {S : Type 0} {rule : Rule S} {s cells : List ℕ} {at : ℕ} {st : S} {
     refused-by why place accepted z = absurd (omega (arith, number-pos why, ap (λ (v : Verdict). v.number) z))
     refused-by why place (fault k p) z = refl
 
-    pub matching-refused : (a : Answer) {why : Refusal} {place : ℕ} → in_numbers a ≡ closing (rule.end at st) n → a ≡ Refused why place → false ≡ reads_as rule s cells
-    matching-refused a {why} {place} q e = sym (refused-by why place (rule.end at st) (rw e at q)) ∙ ended
+    pub matching-refused : (a : Answer) {deny : Refused} → in_numbers a ≡ closing (rule.end at st) n → a ≡ Err deny → false ≡ reads_as rule s cells
+    matching-refused a {deny} q e = sym (refused-by deny.0 deny.1 (rule.end at st) (rw e at q)) ∙ ended
 
     all-compared : (l : List ℕ) → drop n cells ≡ l → same_cells [] l ≡ eqb n (length cells)
     unfolding same_cells
@@ -99,5 +99,5 @@ module _ {S : Type 0} {rule : Rule S} {s cells : List ℕ} {at : ℕ} {st : S} {
     accepted-by k (fault j p) w z = absurd (omega (arith, w, ap (λ (x : Verdict). x.number) z))
 
     pub matching-accepted :
-        (a : Answer) {k : ℕ} → SoundEnd (rule.end at st) → in_numbers a ≡ closing (rule.end at st) n → a ≡ Accepted k → eqb n (length cells) ≡ reads_as rule s cells
+        (a : Answer) {k : ℕ} → SoundEnd (rule.end at st) → in_numbers a ≡ closing (rule.end at st) n → a ≡ Ok k → eqb n (length cells) ≡ reads_as rule s cells
     matching-accepted a {k} w q e = sym (accepted-by k (rule.end at st) w (rw e at q)) ∙ ended

@@ -4,8 +4,7 @@ use Rattle.std.specs.declared.ops.ControlFlow.{ControlFlow}
 use Rattle.std.specs.declared.ops.ControlFlow.TheVariants.{Continue, Break}
 use Rattle.std.specs.declared.option.Option.{Option}
 use Rattle.std.specs.declared.option.Option.TheVariants.{None, Some}
-use Rattle.answer.specs.Answer.{number_of, in_numbers}
-use Rattle.answer.specs.declared.Answer.{Answer}
+use Rattle.answer.specs.Answer.{number_of, in_numbers, Answer}
 use Rattle.reading.specs.Reading.{Does, give, go, bad, Rule}
 use Rattle.reading.specs.Spans.{Marking}
 use Rattle.reading.specs.Stepping.{Spot, in_text, Next, cell, final, onward, next_from, next_at}

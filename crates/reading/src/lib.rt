@@ -9,7 +9,7 @@ ghost use Rattle.reading.specs.Spans.{marked_as, last_bytes, Takes};
 ghost use Rattle.reading.specs.Stepping.{least, onward};
 ghost use Rattle.reading.specs.Decoding.{Code, cursor_by, told, step_by, Moves, step_from, Gets};
 
-use answer::{Answer, Refusal};
+use answer::{Answer, Refusal, Refused};
 use std::ops::ControlFlow;
 
 // A cell, and where its bytes in the text begin and end: from `begin` to just before `end`.
@@ -141,7 +141,7 @@ fn step_on<D: Decoder>(text: &[u8], from: usize, handed: usize, state: D) -> Ste
                 at += 1;
             }
             Move::Bad(why) => {
-                return ControlFlow::Break(Answer::Refused(why, at));
+                return ControlFlow::Break(Err(Refused(why, at)));
             }
         }
     }

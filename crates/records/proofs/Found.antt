@@ -3,13 +3,12 @@ use Prim.Native.Nat.{ℕ, ◌≤◌}
 use mathlib.Core.Path.{◌≡◌, refl, sym, ap, ◌∙◌}
 use mathlib.Core.Bool.{Bool, true, false, cond, ◌||◌}
 use mathlib.Core.List.{List, reverse_aux}
+use Rattle.answer.specs.declared.Refused.{Refused}
 use Rattle.std.specs.Prelude.{Option, None, Some}
 use native.Mathlib.Omega.{arith}
 use lib.ListN.{length, length-take}
 use borrow.Author.Tests.{ltb-false}
-use Rattle.answer.specs.Answer.{Verdict, limit, numbered, in_numbers, too_long}
-use Rattle.answer.specs.declared.Answer.{Answer}
-use Rattle.answer.specs.declared.Answer.TheVariants.{Refused}
+use Rattle.answer.specs.Answer.{Verdict, limit, numbered, in_numbers, too_long, refused_at, Answer}
 use Rattle.answer.specs.declared.Refusal.TheVariants.{Unsound, OverLimit}
 use Rattle.editor.proofs.Steps.{or_parts}
 use Rattle.ledger.specs.Words.{Entry, Parted}
@@ -47,7 +46,7 @@ module _ (s : State) where
 
   fit-cases :
       (last : ℕ) (t : Bool) (x : Option Parted) → (over s.text || over s.history) ≡ t → records s ≡ x → Whole (Sound s) x →
-      cond t (judged.Unfit (Refused OverLimit limit)) (judged_as s.page.done x) ≡ judged.Sound last → Fit s last
+      cond t (judged.Unfit (refused_at OverLimit limit)) (judged_as s.page.done x) ≡ judged.Sound last → Fit s last
   fit-cases last true x q r w e = let z : ◌≡◌ {A = ℕ} 0 1 = cc in absurd (omega arith)
   fit-cases last false None q r w e = let z : ◌≡◌ {A = ℕ} 0 1 = cc in absurd (omega arith)
   fit-cases last false (Some v) q r w e =
@@ -75,7 +74,7 @@ module _ (s : State) where
       (call : Option Parted → R)
       (none-refused : call None ≡ refuse (numbered 14 0)) where
     unfit-cases :
-        (t : Bool) (x : Option Parted) → cond t (judged.Unfit (Refused OverLimit limit)) (judged_as s.page.done x) ≡ judged.Unfit a →
+        (t : Bool) (x : Option Parted) → cond t (judged.Unfit (refused_at OverLimit limit)) (judged_as s.page.done x) ≡ judged.Unfit a →
         cond t (refuse too_long) (call x) ≡ refuse (in_numbers a)
     unfit-cases true x e = let z : Refused OverLimit limit ≡ a = cc in ap (λ (b : Answer). refuse (in_numbers b)) z
     unfit-cases false None e = let z : Refused Unsound 0 ≡ a = cc in none-refused ∙ ap (λ (b : Answer). refuse (in_numbers b)) z

@@ -10,9 +10,7 @@ use lib.ListN.{length, take, drop, length-take}
 use lib.Seq.{slice, length-take-le}
 use lib.Dec.{leb, eqb}
 use borrow.Author.Tests.{leb-true, eq-eqb, ne_eqb}
-use Rattle.answer.specs.Answer.{limit, in_numbers, too_long}
-use Rattle.answer.specs.declared.Answer.{Answer}
-use Rattle.answer.specs.declared.Answer.TheVariants.{Refused}
+use Rattle.answer.specs.Answer.{limit, in_numbers, too_long, refused_at, Answer}
 use Rattle.answer.specs.declared.Refusal.TheVariants.{OverLimit}
 use Rattle.answer.proofs.Below.{both, cond-case}
 use Rattle.answer.proofs.Once.{numbers-once}
@@ -165,8 +163,8 @@ module _ (p : Page) (t h : List ℕ) where
 
   -- 16 comes first
   module _ (a : Answer) (e : in_numbers a ≡ too_long) where
-    answered : Unfit a ≡ Unfit (Refused OverLimit limit)
-    answered = rw (numbers-once a (Refused OverLimit limit) e)
+    answered : Unfit a ≡ Unfit (refused_at OverLimit limit)
+    answered = rw (numbers-once a (refused_at OverLimit limit) e)
 
     pub long-text : over t ≡ true → Unfit a ≡ judge_of s
     unfolding judge_of

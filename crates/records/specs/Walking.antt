@@ -1,9 +1,8 @@
 -- What the code finds of a page's records, over their definition in the crate ledger.
 use Rattle.std.specs.Prelude.{ℕ, ◌+◌, ◌-◌, cond, ◌||◌, List, [], ◌∷◌, length, Option, None, Some}
 use Rattle.std.proofs.Math.Seq.{slice}
-use Rattle.answer.specs.Answer.{limit}
+use Rattle.answer.specs.Answer.{limit, refused_at}
 use Rattle.answer.specs.declared.Refusal.TheVariants.{Unsound, OverLimit}
-use Rattle.answer.specs.declared.Answer.TheVariants.{Refused}
 use Rattle.ledger.specs.Words.{Entry, Parted, size_of, records_in, lengths_fit, reached}
 use Rattle.ledger.specs.Parts.{ending_at}
 use Rattle.ledger.specs.Page.{State, records}
@@ -49,7 +48,7 @@ last_of done (Some v) = Some (last_begin done v.standing)
 
 -- 14, or where the last standing record begins
 abbrev pub judged_of : Option ℕ → Judged
-judged_of None = Unfit (Refused Unsound 0)
+judged_of None = Unfit (refused_at Unsound 0)
 judged_of (Some last) = Sound last
 
 abbrev pub judged_as : ℕ → Option Parted → Judged
@@ -57,4 +56,4 @@ judged_as done x = judged_of (last_of done x)
 
 -- 16 comes first
 unfoldable pub judge_of : State → Judged
-judge_of s = cond (over s.text || over s.history) (Unfit (Refused OverLimit limit)) (judged_as s.page.done (records s))
+judge_of s = cond (over s.text || over s.history) (Unfit (refused_at OverLimit limit)) (judged_as s.page.done (records s))

@@ -9,7 +9,7 @@ ghost use Rattle.ledger.specs.Page.{state_of, records};
 ghost use Rattle.ledger.specs.Parts.{mark_within, cut_in, bounded};
 ghost use Rattle.records.specs.Walking.{walk_in, walk_cut, walk_from, last_of, judge_of};
 
-use answer::{Answer, Refusal};
+use answer::{Answer, Refusal, Refused};
 use ledger::Page;
 
 // Where a walk over records stands: at a word, with a length, and where the last record passed begins.
@@ -244,6 +244,6 @@ pub fn judge(page: Page, text: &[u32], history: &[u32]) -> Judged
     }
     match survey(page, text, history) {
         Some(last) => Judged::Sound(last),
-        None => Judged::Unfit(Answer::Refused(Refusal::Unsound, 0)),
+        None => Judged::Unfit(Err(Refused(Refusal::Unsound, 0))),
     }
 }

@@ -7,9 +7,8 @@ use lib.ListN.{length, take, drop, replicate, length-append, length-take, length
 use lib.Seq.{take_at, drop_at}
 use borrow.Author.Tests.{le-ltb}
 use borrow.Rule.Slice.PartMut.{put_mid}
-use Rattle.answer.specs.Answer.{numbered, in_numbers}
+use Rattle.answer.specs.Answer.{numbered, in_numbers, Answer}
 use Rattle.answer.specs.Output.{Outcome, leaves, filled, deliver}
-use Rattle.answer.specs.declared.Answer.{Answer}
 use Rattle.answer.proofs.Put.{Put, put-lent, put-done}
 use Rattle.listing.specs.Listing.{decimal, say_into}
 use Rattle.listing.proofs.Digits.{decimal-few}

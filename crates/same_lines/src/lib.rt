@@ -7,7 +7,7 @@ ghost use Rattle.same_lines.specs.Told.{says, printed, laid};
 ghost use Rattle.same_lines.specs.Inner.{Holds};
 ghost use Rattle.listing.specs.Listing.{status_name};
 
-use answer::Answer;
+use answer::Refused;
 use comparer::Compared;
 
 // Lines: so many of the bytes.
@@ -52,7 +52,7 @@ pub fn print(found: Compared) -> Lines
             with_line(two, b"second", second)
         }
         Compared::Refused(which, why, place) => {
-            let number = answer::number(Answer::Refused(why, place)) as usize;
+            let number = answer::number(Err(Refused(why, place))) as usize;
             let one = with_line(status(number), b"text", which as usize);
             with_line(one, b"place", place)
         }

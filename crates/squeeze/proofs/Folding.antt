@@ -10,8 +10,7 @@ use lib.ListN.{length, take, drop, length-reverse, length-drop, length-take, tak
 use lib.Seq.{slice, take_at, drop_at, take-take, length-take-le}
 use lib.Dec.{ltb, leb}
 use borrow.Author.Tests.{le-ltb, lt-ltb, le-leb, lt-leb}
-use Rattle.answer.specs.Answer.{limit, numbered, in_numbers}
-use Rattle.answer.specs.declared.Answer.{Answer}
+use Rattle.answer.specs.Answer.{limit, numbered, in_numbers, Answer}
 use Rattle.answer.specs.Output.{filled}
 use Rattle.editor.specs.Marks.{folded_mark}
 use Rattle.editor.specs.Ledger.{squeeze}

@@ -1,9 +1,8 @@
 -- What the code finds of the oldest records, and what it then leaves, over the definitions in the crates editor and
 -- ledger.
-use Rattle.std.specs.Prelude.{ℕ, ◌+◌, ◌-◌, ◌≤◌, ◌≡◌, cond, List, length, ltb, leb}
+use Rattle.std.specs.Prelude.{ℕ, ◌+◌, ◌-◌, ◌≤◌, ◌≡◌, cond, List, length, ltb, leb, Ok}
 use Rattle.answer.specs.Answer.{limit, numbered}
 use Rattle.answer.specs.Output.{filled}
-use Rattle.answer.specs.declared.Answer.TheVariants.{Accepted}
 use Rattle.editor.specs.Marks.{folded_mark}
 use Rattle.editor.specs.Records.{Entry}
 use Rattle.ledger.specs.declared.Page.{Page}
@@ -49,7 +48,7 @@ folded_to s work old x =
 abbrev pub squeezed_page : Page → ℕ → ℕ → Edited
 squeezed_page p old new =
     record {
-      answer = Accepted (p.used - old + new);
+      answer = Ok (p.used - old + new);
       page =
           record {
             kind = p.kind;

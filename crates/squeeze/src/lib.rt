@@ -17,7 +17,7 @@ ghost use Rattle.squeeze.specs.Tracing.{head_in, kept_in, passed, entries_in, te
 ghost use Rattle.squeeze.specs.Tracing.{cells_in, Follows};
 ghost use Rattle.squeeze.specs.Folding.{fold_from, fold_of, Foldable, folded_to, squeezed_page};
 
-use answer::{Answer, Refusal};
+use answer::{Answer, Refusal, Refused};
 use ledger::{Edited, Page};
 use records::Judged;
 
@@ -33,7 +33,7 @@ struct Fold {
 fn no_gain() -> Answer
     ensures { in_numbers result ≡ numbered 19 0 }
 {
-    Answer::Refused(Refusal::NoGain, 0)
+    Err(Refused(Refusal::NoGain, 0))
 }
 
 // The first three words of a record, and the word where it ends.
@@ -285,7 +285,7 @@ fn shrunk(page: Page, old: usize, new: usize) -> Edited
 {
     let used = page.used - old + new;
     Edited {
-        answer: Answer::Accepted(used),
+        answer: Ok(used),
         page: Page {
             used,
             done: page.done - old + new,
@@ -316,7 +316,7 @@ fn squeeze_to(page: Page, fold: Fold, text: &[u32], history: &mut [u32], work: &
         return refused(page, no_gain());
     }
     if work.len() < size {
-        return refused(page, Answer::Refused(Refusal::NoRoom, size));
+        return refused(page, Err(Refused(Refusal::NoRoom, size)));
     }
     let length = page.length;
     write_record(
@@ -345,12 +345,12 @@ fn squeeze_sound(
         ≡ squeeze_of (state_of page text.now history.old) k work.old }
 {
     if k < 2 {
-        return refused(page, Answer::Refused(Refusal::BeyondLength, 0));
+        return refused(page, Err(Refused(Refusal::BeyondLength, 0)));
     }
     let length = page.length;
     let fold = oldest(&*history, &text[..length], page.done, page.opening, k);
     if fold.count < k {
-        return refused(page, Answer::Refused(Refusal::BeyondLength, 0));
+        return refused(page, Err(Refused(Refusal::BeyondLength, 0)));
     }
     squeeze_to(page, fold, text, &mut *history, &mut *work)
 }

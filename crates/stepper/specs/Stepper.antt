@@ -3,8 +3,7 @@ use Rattle.std.specs.Prelude.{ℕ, zero, suc, List}
 use Rattle.std.specs.Borrow.{Bor}
 use Rattle.std.specs.declared.ops.ControlFlow.{ControlFlow}
 use Rattle.std.specs.declared.ops.ControlFlow.TheVariants.{Continue, Break}
-use Rattle.answer.specs.Answer.{Verdict, in_numbers}
-use Rattle.answer.specs.declared.Answer.{Answer}
+use Rattle.answer.specs.Answer.{Verdict, in_numbers, Answer}
 use Rattle.reading.specs.Reading.{Reading, reading}
 use Rattle.reading.specs.Spans.{marked_in}
 use Rattle.reading.specs.Stepping.{Next, cell, final, onward, on_spot, at_start, cells_of, answer_of, nth_of}

@@ -13,7 +13,7 @@ ghost use Rattle.utf7.specs.Rule.{Shift, utf7, outside_does, unit_does, may_end,
 ghost use Rattle.utf7_read.specs.Cursor.{shift_of, cursor_of, step_of, Settled, settled_back, move_of, utf7_code};
 ghost use Rattle.utf7_read.specs.declared.State.TheVariants.{Outside, Run};
 
-use answer::{Answer, Refusal};
+use answer::{Answer, Refusal, Refused};
 use reading::{Ahead, Cursor, Decoder, Move, Stepped};
 
 // Where a reader stands to runs.
@@ -232,13 +232,13 @@ impl Decoder for State {
 
     fn finish(self, size: usize, handed: usize) -> Answer {
         match self {
-            State::Outside => Answer::Accepted(handed),
-            State::Opening => Answer::Refused(Refusal::LoneSign, size),
+            State::Outside => Ok(handed),
+            State::Opening => Err(Refused(Refusal::LoneSign, size)),
             State::Run(n, v) => {
                 if may_end(n, v) {
-                    return Answer::Accepted(handed);
+                    return Ok(handed);
                 }
-                Answer::Refused(Refusal::LeftOverBits, size)
+                Err(Refused(Refusal::LeftOverBits, size))
             }
         }
     }

@@ -12,7 +12,7 @@ ghost use Rattle.reading.specs.Matching.{reads_as};
 ghost use Rattle.utf7.specs.Rule.{utf7};
 ghost use Rattle.utf7_whole.specs.Quick.{Padded, Agrees};
 
-use answer::{Answer, Refusal};
+use answer::{Answer, Refusal, Refused};
 use reading::Move;
 use utf7_read::State;
 
@@ -44,7 +44,7 @@ fn decode(text: &[u8], room: &[u8], out: &mut [u32]) -> Answer
                 n += 1;
             }
             Move::Go(state) => st = state,
-            Move::Bad(why) => return Answer::Refused(why, at),
+            Move::Bad(why) => return Err(Refused(why, at)),
         }
     }
     utf7_read::ends_in(text.len(), n, st)
@@ -71,12 +71,12 @@ fn through(text: &[u8], room: &mut [u8], cells: &mut [u32], out: &mut [u32]) -> 
     pad(text, room);
     let found = decode(text, room, cells);
     match found {
-        Answer::Refused(_, _) => {
+        Err(_) => {
             return found;
         }
-        Answer::Accepted(n) => {
+        Ok(n) => {
             if out.len() < n {
-                return Answer::Refused(Refusal::NoRoom, n);
+                return Err(Refused(Refusal::NoRoom, n));
             }
             copy(cells, n, out);
             found
@@ -98,7 +98,7 @@ fn judge(text: &[u8]) -> Answer
                 n += 1;
             }
             Move::Go(state) => st = state,
-            Move::Bad(fault) => return Answer::Refused(fault, at),
+            Move::Bad(fault) => return Err(Refused(fault, at)),
         }
     }
     utf7_read::ends_in(text.len(), n, st)
@@ -111,12 +111,12 @@ fn straight(text: &[u8], out: &mut [u32]) -> Answer
 {
     let found = judge(text);
     match found {
-        Answer::Refused(_, _) => {
+        Err(_) => {
             return found;
         }
-        Answer::Accepted(count) => {
+        Ok(count) => {
             if out.len() < count {
-                return Answer::Refused(Refusal::NoRoom, count);
+                return Err(Refused(Refusal::NoRoom, count));
             }
             let _ = decode(text, text, &mut out[..count]);
             found
@@ -182,8 +182,8 @@ fn rest_reads_as(text: &[u8], cells: &[u32], from: usize, before: usize) -> bool
         }
     }
     match utf7_read::ends_in(text.len(), n, st) {
-        Answer::Accepted(_) => n == cells.len(),
-        Answer::Refused(_, _) => false,
+        Ok(_) => n == cells.len(),
+        Err(_) => false,
     }
 }
 

@@ -13,7 +13,7 @@ ghost use Rattle.utf7_whole.specs.Quick.{Padded, Span};
 ghost use Rattle.utf7_whole.specs.Mailbox.{Tokens, Fills, Sign, Others, All, Stands, Holds, Matches};
 
 use crate::{copy, pad, quick};
-use answer::{Answer, Refusal};
+use answer::{Answer, Refusal, Refused};
 use mailbox_read::State;
 use reading::Move;
 
@@ -200,7 +200,7 @@ fn decode(text: &[u8], room: &[u8], from: Stand, out: &mut [u32]) -> Answer
                 n += 1;
             }
             Move::Go(state) => st = state,
-            Move::Bad(why) => return Answer::Refused(why, at),
+            Move::Bad(why) => return Err(Refused(why, at)),
         }
     }
     mailbox_read::finish(text.len(), n, st)
@@ -243,7 +243,7 @@ fn measure(text: &[u8], from: Stand) -> Answer
                 n += 1;
             }
             Move::Go(state) => st = state,
-            Move::Bad(fault) => return Answer::Refused(fault, at),
+            Move::Bad(fault) => return Err(Refused(fault, at)),
         }
     }
     mailbox_read::finish(text.len(), n, st)
@@ -271,12 +271,12 @@ fn through(text: &[u8], room: &mut [u8], cells: &mut [u32], out: &mut [u32]) -> 
     pad(text, room);
     let found = decode(text, room, start(), cells);
     match found {
-        Answer::Refused(_, _) => {
+        Err(_) => {
             return found;
         }
-        Answer::Accepted(n) => {
+        Ok(n) => {
             if out.len() < n {
-                return Answer::Refused(Refusal::NoRoom, n);
+                return Err(Refused(Refusal::NoRoom, n));
             }
             copy(cells, n, out);
             found
@@ -293,12 +293,12 @@ fn front(text: &[u8], cells: &mut [u32], out: &mut [u32]) -> Answer
     let m = r.n;
     let found = measure(text, r);
     match found {
-        Answer::Refused(_, _) => {
+        Err(_) => {
             return found;
         }
-        Answer::Accepted(count) => {
+        Ok(count) => {
             if out.len() < count {
-                return Answer::Refused(Refusal::NoRoom, count);
+                return Err(Refused(Refusal::NoRoom, count));
             }
             copy(cells, m, out);
             let _ = decode(text, text, r, &mut out[..count]);
@@ -400,7 +400,7 @@ pub fn reads_as(text: &[u8], cells: &[u32]) -> bool
         }
     }
     match mailbox_read::finish(text.len(), n, st) {
-        Answer::Accepted(_) => n == cells.len(),
-        Answer::Refused(_, _) => false,
+        Ok(_) => n == cells.len(),
+        Err(_) => false,
     }
 }

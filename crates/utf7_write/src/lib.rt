@@ -18,7 +18,7 @@ ghost use Rattle.answer.specs.Ahead.{Ahead};
 ghost use Rattle.utf7_write.specs.Ahead.{High, Own, own_bit, OwnFrom, narrow, Narrowed, mark_of, Turned, Marked, Bit, Zero, word_at, Low};
 ghost use Rattle.utf7_write.specs.Begun.{Begun};
 
-use answer::{Answer, Refusal};
+use answer::{Answer, Refusal, Refused};
 use utf7::Style;
 
 // "n units need at most 5n bytes"
@@ -586,14 +586,14 @@ pub fn write(style: Style, cells: &[u32], out: &mut [u8]) -> Answer
     }
     let over = utf7::first_over(cells);
     if over < cells.len() {
-        return Answer::Refused(Refusal::Unwritable, over);
+        return Err(Refused(Refusal::Unwritable, over));
     }
     if out.len() / PER_CELL < cells.len() {
         let need = size(style, cells);
         if out.len() < need {
-            return Answer::Refused(Refusal::NoRoom, need);
+            return Err(Refused(Refusal::NoRoom, need));
         }
     }
     let count = write_all(style, cells, out);
-    Answer::Accepted(count)
+    Ok(count)
 }

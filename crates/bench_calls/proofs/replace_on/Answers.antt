@@ -8,11 +8,11 @@ pub returns-then-length-count : goal.returns-then-length-count
 returns-then-length-count c =
     let a = c.args in
     elim c.then-length-count.branch [
-      then-length-count-via-then-length-count w ↦
+      | then-length-count-via-then-length-count w ↦
           rw c.stays.ensures
           (beyond a.b a.mine a.used a.p a.place a.count a.cells.now a.text.now a.history.now
           c.requires.0.text-filled.fits (omega arith))
-    | then-length-count-via-else-length-count+then-length-count-2 w ↦
+      | then-length-count-via-else-length-count+then-length-count-2 w ↦
           rw c.stays.ensures
           (beyond a.b a.mine a.used a.p a.place a.count a.cells.now a.text.now a.history.now
           c.requires.0.text-filled.fits (omega arith))

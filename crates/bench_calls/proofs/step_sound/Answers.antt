@@ -25,11 +25,11 @@ returns c =
     let a = c.args in
     let t : State = state_of a.b a.text0.now a.text1.now a.history.now in
     elim c.if-bench-eq0.branch [
-      then-bench-eq0 w ↦
+      | then-bench-eq0 w ↦
           rw (c.back.ensures, w.text0-is, w.text1-is, w.t-is, eq-eqb a.bench 0 w.if-bench-eq0.true)
           (ap (placed t first) w.step_on-t.ensures
           ∙ sym (first-stepped t a.bench a.p c.requires a.forward w.if-bench-eq0.true))
-    | else-bench-eq0 w ↦
+      | else-bench-eq0 w ↦
           rw (c.back.ensures, w.text0-is, w.text1-is, w.t-is, ne_eqb a.bench 0 w.if-bench-eq0.false)
           (ap (placed t second) w.step_on-t-else-bench-eq0.ensures
           ∙ sym (second-stepped t a.bench a.p c.requires a.forward w.if-bench-eq0.false))

@@ -17,5 +17,5 @@ returns-in_default-second c =
     let g = c.would_open-second in
     rw c.not_opened-in_default-second.ensures
     (refused-second a.kind0 a.kind1 a.arrived0.now a.arrived1.now a.text0.now a.text1.now a.history.now g.result _ _
-    (told-taken a.kind0 a.arrived0.now a.text0.now a.history.now f.result _ f.ensures c.in-Accepted.is) g.ensures
+    (told-taken a.kind0 a.arrived0.now a.text0.now a.history.now f.result _ f.ensures c.in-Ok.is) g.ensures
     c.in_default-second.is)

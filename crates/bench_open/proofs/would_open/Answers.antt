@@ -10,18 +10,18 @@ pub returns-then-over_limit : goal.returns-then-over_limit
 returns-then-over_limit c =
     let a = c.args in
     elim c.then-over_limit.branch [
-      then-over_limit-via-then-over_limit w ↦
+      | then-over_limit-via-then-over_limit w ↦
           c.too_long.ensures
           ∙ sym
           (ap (λ (o : Outcome). o.verdict)
           (long-arrived a.kind a.arrived.now a.text.now a.history.now (sym c.over_limit.ensures ∙ w.if-over_limit.true)))
-    | then-over_limit-via-else-over_limit+then-over_limit-2 w ↦
+      | then-over_limit-via-else-over_limit+then-over_limit-2 w ↦
           c.too_long.ensures
           ∙ sym
           (ap (λ (o : Outcome). o.verdict)
           (long-text a.kind a.arrived.now a.text.now a.history.now (sym c.over_limit.ensures ∙ w.if-over_limit.false)
           (sym w.over_limit-else-over_limit.ensures ∙ w.if-over_limit-2.true)))
-    | then-over_limit-via-else-over_limit+else-over_limit-2+then-over_limit-3 w ↦
+      | then-over_limit-via-else-over_limit+else-over_limit-2+then-over_limit-3 w ↦
           c.too_long.ensures
           ∙ sym
           (ap (λ (o : Outcome). o.verdict)

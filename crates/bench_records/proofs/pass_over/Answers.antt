@@ -57,12 +57,14 @@ loop-at-preserved c =
     let l = c.loop-at in
     let h = c.head_at-h in
     let f = c.pass_one in
-    let run = c.past_alike-run.ensures in
-    (run.1, run.2,
-    l.invariant.2
-    ∙ turn-through a.room a.standing a.mine c.requires.2 a.history.now a.used (omega arith) l.at
-    l.p (omega arith) h.result h.ensures.0 (omega arith) f.result f.ensures _ c.in_ok-pass.was
-    ∙ run.3)
+    let run = c.past_alike-run.ensures in (
+      run.1,
+      run.2,
+      l.invariant.2
+          ∙ turn-through a.room a.standing a.mine c.requires.2 a.history.now a.used (omega arith) l.at
+          l.p (omega arith) h.result h.ensures.0 (omega arith) f.result f.ensures _ c.in_ok-pass.was
+          ∙ run.3,
+    )
 
 pub returns : goal.returns
 returns c =

@@ -13,7 +13,7 @@ returns c =
     let g = o in
     let a = g.args in
     rw (← c.alike.ensures c.if-alike.true)
-    (same-itself a.format a.first.now _ (rw o.in-Accepted.is at g.answer_of-one.ensures))
+    (same-itself a.format a.first.now _ (rw o.in-Ok.is at g.answer_of-one.ensures))
 
 returns-2 : tie.Need-returns-then-read_alike
 returns-2 c =
@@ -23,10 +23,10 @@ returns-2 c =
     let o = h in
     let g = o in
     let a = g.args in
-    same_read a.format a.first.now a.second.now _ _ (rw o.in-Accepted.is at g.answer_of-one.ensures)
-    (rw w.in-Accepted-two.is at h.answer_of-two.ensures) (r.read_alike.ensures c.if-read_alike.true).cells
+    same_read a.format a.first.now a.second.now _ _ (rw o.in-Ok.is at g.answer_of-one.ensures)
+    (rw w.in-Ok-two.is at h.answer_of-two.ensures) (r.read_alike.ensures c.if-read_alike.true).cells
 
-returns-3 : tie.Need-returns-in-Refused
+returns-3 : tie.Need-returns-in-Err
 returns-3 c =
     let o = c in
     let g = o in
@@ -35,10 +35,10 @@ returns-3 c =
     let second = a.second.now in
     compared a.format first second
     (judged-first (unless_refused Second (verdict_in a.format second) (parts_of a.format first second))
-    o.in-Refused.is)
+    o.in-Err.is)
     g.answer_of-one.ensures refl refl
 
-returns-4 : tie.Need-returns-in-Refused-two
+returns-4 : tie.Need-returns-in-Err-two
 returns-4 c =
     let w = c in
     let h = w in
@@ -48,7 +48,7 @@ returns-4 c =
     let first = a.first.now in
     let second = a.second.now in
     compared a.format first second
-    (judged-second (parts_of a.format first second) o.in-Accepted.is w.in-Refused-two.is)
+    (judged-second (parts_of a.format first second) o.in-Ok.is w.in-Err-two.is)
     g.answer_of-one.ensures h.answer_of-two.ensures refl
 
 returns-5 : tie.Need-returns-else-read_alike
@@ -59,7 +59,7 @@ returns-5 c =
     let g = o in
     let a = g.args in
     compared a.format a.first.now a.second.now
-    (judged _ o.in-Accepted.is w.in-Accepted-two.is)
+    (judged _ o.in-Ok.is w.in-Ok-two.is)
     g.answer_of-one.ensures h.answer_of-two.ensures c.parting.ensures
 
 pub compare_spec : {M : Type 1} → statement M

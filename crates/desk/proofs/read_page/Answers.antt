@@ -1,8 +1,8 @@
 use Rattle.desk.proofs.Working.{few-of, read-accepted}
 use Rattle.desk.proofs.read_page.Goals as goal
 
-pub returns-in-Accepted : goal.returns-in-Accepted
-returns-in-Accepted c =
+pub returns-in-Ok : goal.returns-in-Ok
+returns-in-Ok c =
     read-accepted c.read-given.result _ _ _ _ _ _ _
     (few-of _ c.read.new.buf c.in_ok-size.ensures c.if-size-gt-PAGE_ROOM.false)
-    c.read-given.ensures c.in-Accepted.is
+    c.read-given.ensures c.in-Ok.is

@@ -32,29 +32,29 @@ enum-known-n c = search rules
 enum_told : tie.Need-enum_told-1
 enum_told c = search rules
 
-same-length-2 : tie.Need-shape_of-bytes-in-Accepted
+same-length-2 : tie.Need-shape_of-bytes-in-Ok
 same-length-2 c = search rules
 
-same-length-3 : tie.Need-shape_of-out-in-Accepted
+same-length-3 : tie.Need-shape_of-out-in-Ok
 same-length-3 c = search rules
 
-returns-2 : tie.Need-returns-in-Accepted
+returns-2 : tie.Need-returns-in-Ok
 returns-2 c =
     let w = c.word_at-w in
-    let t = took _ _ _ _ c.read.ensures c.in-Accepted.is in (
+    let t = took _ _ _ _ c.read.ensures c.in-Ok.is in (
       λ h. record { cells = _; stride = w.ensures.1 h t.0; so = t.1; size = t.2 },
       λ h. absurd (omega (arith, h, c.if-end-at.false)),
     )
 
-same-length-4 : tie.Need-shape_of-bytes-in-Refused
+same-length-4 : tie.Need-shape_of-bytes-in-Err
 same-length-4 c = search rules
 
-same-length-5 : tie.Need-shape_of-out-in-Refused
+same-length-5 : tie.Need-shape_of-out-in-Err
 same-length-5 c = search rules
 
-returns-3 : tie.Need-returns-in-Refused
+returns-3 : tie.Need-returns-in-Err
 returns-3 c =
-    let u = untouched _ _ _ _ c.read.ensures c.in-Refused.is in
+    let u = untouched _ _ _ _ c.read.ensures c.in-Err.is in
     (λ h. absurd (omega (arith, h)), λ _. u)
 
 pub word_cells_spec : {M : Type 1} → statement M

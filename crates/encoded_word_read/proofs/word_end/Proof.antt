@@ -13,15 +13,15 @@ enum_told c = search rules
 enum-known-why : tie.Need-enum_known-why
 enum-known-why c = search rules
 
-returns : tie.Need-returns-in-Accepted
+returns : tie.Need-returns-in-Ok
 returns c =
     ended-told (shift_of c.args.st) c.ends_in.ensures
-    c.in-Accepted.is
+    c.in-Ok.is
 
-returns-2 : tie.Need-returns-in-Refused
+returns-2 : tie.Need-returns-in-Err
 returns-2 c =
     ended-refused (shift_of c.args.st) c.ends_in.ensures
-    c.in-Refused.is
+    c.in-Err.is
 
 pub word_end_spec : {M : Type 1} → statement M
 word_end_spec = tie.close (tie.spec ends-in-requires enum_told enum-known-why returns returns-2)

@@ -33,7 +33,7 @@ returns-2 c =
     let f = c in
     let d = f in
     let h = d.if-text-gt512.false in
-    read_short _ _ h d.singles-found.ensures.0 f.in-Accepted.is c.if-out-n.true
+    read_short _ _ h d.singles-found.ensures.0 f.in-Ok.is c.if-out-n.true
 
 singles-requires-2 : tie.Need-singles-requires
 singles-requires-2 c κs =
@@ -41,13 +41,13 @@ singles-requires-2 c κs =
     let d = f in
     let e = d in
     let o = e.args.out.now in
-    let k = read-room _ o e.if-text-gt512.false d.singles-found.ensures.0 f.in-Accepted.is c.if-out-n.false in
+    let k = read-room _ o e.if-text-gt512.false d.singles-found.ensures.0 f.in-Ok.is c.if-out-n.false in
     (filling-start jp2 _ o k, refl)
 
-returns-3 : tie.Need-returns-in-Refused
+returns-3 : tie.Need-returns-in-Err
 returns-3 c =
     let d = c in
-    read-refused _ _ d.if-text-gt512.false d.singles-found.ensures.0 c.in-Refused.is
+    read-refused _ _ d.if-text-gt512.false d.singles-found.ensures.0 c.in-Err.is
 
 same_length : tie.Need-shape_of-out
 same_length c = search rules
@@ -59,7 +59,7 @@ returns-4 c =
     let f = e in
     let d = f in
     let h = d.if-text-gt512.false in
-    read-filled _ _ h d.singles-found.ensures.0 f.in-Accepted.is s.singles.result e.if-out-n.false
+    read-filled _ _ h d.singles-found.ensures.0 f.in-Ok.is s.singles.result e.if-out-n.false
     s.singles.ensures.0 s.singles.ensures.1
 
 pub read_spec : {M : Type 1} → statement M

@@ -36,11 +36,11 @@ measure-requires c κs = left c.before.before
 enum_told : tie.Need-enum_told-1
 enum_told c = search rules
 
-same_length : tie.Need-shape_of-cells-in-Refused
+same_length : tie.Need-shape_of-cells-in-Err
 same_length c = search rules
 
-returns : tie.Need-returns-in-Refused
-returns c = into-refused jp2-kept _ _ (within c.before) c.measure-found.ensures c.in-Refused.is
+returns : tie.Need-returns-in-Err
+returns c = into-refused jp2-kept _ _ (within c.before) c.measure-found.ensures c.in-Err.is
 
 enum-known-found : tie.Need-enum_known-found
 enum-known-found c = search rules
@@ -49,10 +49,10 @@ same-length-2 : tie.Need-shape_of-cells-then-out-n
 same-length-2 c = search rules
 
 returns-2 : tie.Need-returns-then-out-n
-returns-2 c = into-short jp2-kept _ _ (within c.before.before) c.measure-found.ensures c.in-Accepted.is c.if-out-n.true
+returns-2 c = into-short jp2-kept _ _ (within c.before.before) c.measure-found.ensures c.in-Ok.is c.if-out-n.true
 
-count : (c : tie.In-Accepted) → c.in-Accepted.n ≡ length (reading jp2 c.args.text.now).cells
-count c = into-count jp2-kept c.args.text.now [] (within c.before) c.measure-found.ensures c.in-Accepted.is
+count : (c : tie.In-Ok) → c.in-Ok.n ≡ length (reading jp2 c.args.text.now).cells
+count c = into-count jp2-kept c.args.text.now [] (within c.before) c.measure-found.ensures c.in-Ok.is
 
 copy-requires : tie.Need-copy-requires
 copy-requires c κs =
@@ -63,10 +63,10 @@ slice-relend-prefix-decode : tie.Need-slice_bounds-decode-end
 slice-relend-prefix-decode c = search rules
 
 -- as many places are lent as there are cells
-lent : (c : tie.After-decode-arg-1) → length (take c.in-Accepted.n c.copy.new.out) ≡ c.in-Accepted.n
+lent : (c : tie.After-decode-arg-1) → length (take c.in-Ok.n c.copy.new.out) ≡ c.in-Ok.n
 lent c = length-take-le _ _ (omega (arith, c.if-out-n.false, c.copy.auto.out))
 
-slice-aggregate-decode : tie.Need-slice_bounds-decode-end-in-Accepted
+slice-aggregate-decode : tie.Need-slice_bounds-decode-end-in-Ok
 slice-aggregate-decode c = sym (lent c)
 
 decode-requires : tie.Need-decode-requires
@@ -78,7 +78,7 @@ decode-requires c κs =
       record {
         left = left f;
         front =
-            take-take r c.in-Accepted.n c.copy.new.out (omega (arith, (left f).inside, count c.before.before.before.before.before.before))
+            take-take r c.in-Ok.n c.copy.new.out (omega (arith, (left f).inside, count c.before.before.before.before.before.before))
             ∙ (rw c.copy.ensures (take_at _ _ _ k) ∙ laying-front f.fill_on-r.ensures (left-start jp2 _) refl);
       },
     )
@@ -97,7 +97,7 @@ returns-3 c =
     let b = filled-behind (take f.fill_on-r.result.n f.fill_on-r.new.out) c.args.out.now (length (reading jp2 t).cells) (omega (arith, k, (left f).inside)) in
     let e : c.decode.new.out ≡ (reading jp2 t).cells =
     all-front (c.decode.auto.out ∙ lent c.before.before.before ∙ count c.before.before.before.before.before.before.before.before.before) c.decode.ensures in
-    into-filled jp2-kept _ _ (within c.before.before.before.before.before.before.before.before.before.before) (ap in_numbers (sym c.in-Accepted.is) ∙ c.measure-found.ensures) refl c.if-out-n.false
+    into-filled jp2-kept _ _ (within c.before.before.before.before.before.before.before.before.before.before) (ap in_numbers (sym c.in-Ok.is) ∙ c.measure-found.ensures) refl c.if-out-n.false
     (rw (e, count c.before.before.before.before.before.before.before.before.before) (ap (λ (z : List ℕ). (reading jp2 t).cells ++ z) (rw c.copy.ensures b)))
 
 pub through_spec : {M : Type 1} → statement M

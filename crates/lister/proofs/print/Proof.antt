@@ -17,7 +17,7 @@ returns c =
 
 -- the count of an accepted text is that of cells in the buffer
 count-within :
-    (c : tie.In-Accepted) →
+    (c : tie.In-Ok) →
     c.place-count.result ≤ length c.read-found.new.out
 count-within c =
     let p = c in
@@ -27,11 +27,11 @@ count-within c =
     omega (
       arith,
       count-few a.format a.text.now _ _ r.read-found.result e.if-text-gt-MOST.false (search rules) r.read-found.ensures _
-          c.in-Accepted.is p.place-count.result p.place-count.ensures,
+          c.in-Ok.is p.place-count.result p.place-count.ensures,
       r.read-found.auto.out,
     )
 
-returns-2 : tie.Need-returns-in-Accepted
+returns-2 : tie.Need-returns-in-Ok
 returns-2 c =
     let l = c in
     let t = l in
@@ -39,20 +39,20 @@ returns-2 c =
     let r = p in
     let e = r in
     let a = e.args in
-    l.list-in-Accepted.ensures
+    l.list-in-Ok.ensures
     ∙ accepted-prints a.format a.text.now _ _ r.read-found.result e.if-text-gt-MOST.false (search rules) r.read-found.ensures
-    _ t.in-Accepted.is p.place-count.result p.place-count.ensures (search rules) a.out.now
+    _ t.in-Ok.is p.place-count.result p.place-count.ensures (search rules) a.out.now
 
-returns-3 : tie.Need-returns-in-Refused
+returns-3 : tie.Need-returns-in-Err
 returns-3 c =
     let l = c in
     let t = l in
     let r = t in
     let e = r in
     let a = e.args in
-    l.list-in-Refused.ensures
+    l.list-in-Err.ensures
     ∙ refused-prints a.format a.text.now _ _ r.read-found.result e.if-text-gt-MOST.false (search rules) r.read-found.ensures
-    _ _ t.in-Refused.is a.out.now
+    _ _ t.in-Err.is a.out.now
 
 pub print_spec : {M : Type 1} → statement M
 print_spec =

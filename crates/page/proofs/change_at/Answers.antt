@@ -9,9 +9,9 @@ unfolding change_found
 returns-then-history-lt3 c =
     let a = c.args in
     elim c.then-history-lt3.branch [
-      then-history-lt3-via-then-history-lt3 w ↦
+      | then-history-lt3-via-then-history-lt3 w ↦
           rw (lt-leb (a.at + 3) (length a.history.now) (omega arith)) c.no_change.ensures
-    | then-history-lt3-via-else-history-lt3+then-history-at w ↦
+      | then-history-lt3-via-else-history-lt3+then-history-at w ↦
           rw (lt-leb (a.at + 3) (length a.history.now) (omega arith)) c.no_change.ensures
     ]
 

@@ -10,9 +10,9 @@ returns-then-length-count c =
     let s : State = state_of a.page a.text.now a.history.now in
     let fits = c.requires.0.fits in
     elim c.then-length-count.branch [
-      then-length-count-via-then-length-count w ↦
+      | then-length-count-via-then-length-count w ↦
           rw c.refused.ensures (sym (beyond s a.place a.count a.cells.now fits (omega arith)))
-    | then-length-count-via-else-length-count+then-length-count-2 w ↦
+      | then-length-count-via-else-length-count+then-length-count-2 w ↦
           rw c.refused.ensures (sym (beyond s a.place a.count a.cells.now fits (omega arith)))
     ]
 

@@ -8,10 +8,10 @@ pub returns-then-over_limit : goal.returns-then-over_limit
 returns-then-over_limit c =
     let a = c.args in
     elim c.then-over_limit.branch [
-      then-over_limit-via-then-over_limit w ↦
+      | then-over_limit-via-then-over_limit w ↦
           long-text a.page a.text.now a.history.now c.too_long.result c.too_long.ensures
           (sym c.over_limit.ensures ∙ w.if-over_limit.true)
-    | then-over_limit-via-else-over_limit+then-over_limit-2 w ↦
+      | then-over_limit-via-else-over_limit+then-over_limit-2 w ↦
           long-history a.page a.text.now a.history.now c.too_long.result c.too_long.ensures
           (sym c.over_limit.ensures ∙ w.if-over_limit.false)
           (sym w.over_limit-else-over_limit.ensures ∙ w.if-over_limit-2.true)

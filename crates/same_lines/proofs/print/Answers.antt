@@ -13,8 +13,8 @@ returns-in-Part c =
     (c.with_line-in-Part.ensures.by_index _
     (c.with_line-two.ensures.by_index _ (c.with_line-one.ensures.by_index _ c.status-in-Part.ensures.1)))
 
-pub returns-in-Refused : goal.returns-in-Refused
+pub returns-in-Err : goal.returns-in-Err
 unfolding printed
-returns-in-Refused c =
-    rw (c.in-Refused.is, ← c.number-number.ensures, ← number-of-text c.in-Refused.which)
-    (c.with_line-in-Refused.ensures.by_index _ (c.with_line-one-in-Refused.ensures.by_index _ c.status-in-Refused.ensures.1))
+returns-in-Err c =
+    rw (c.in-Err.is, ← c.number-number.ensures, ← number-of-text c.in-Err.which)
+    (c.with_line-in-Err.ensures.by_index _ (c.with_line-one-in-Err.ensures.by_index _ c.status-in-Err.ensures.1))

@@ -10,8 +10,8 @@ returns c =
     let cells : List ℕ = c.if-s.cells.now in
     let same : cells_in a.s.kept a.history.now a.text.now ≡ cells =
     elim c.if-s.branch [
-      then-s w ↦ rw (w.if-s.true, w.cells-is)
-    | else-s w ↦ rw (w.if-s.false, w.cells-is)
+      | then-s w ↦ rw (w.if-s.true, w.cells-is)
+      | else-s w ↦ rw (w.if-s.false, w.cells-is)
     ] in
     let part : a.s.at + a.s.count ≤ length cells = rw same at c.requires.1 in
     let e = c.splice_in in

@@ -30,12 +30,12 @@ loop-at-preserved c =
       | in-Go w ↦ rw (w.n-is, w.st-is) (matching-go c.loop-at.invariant c.loop-at-test.true (byte-moved _ _ c.byte_does.ensures w.in-Go.is))
     ]
 
-pub returns-in-Accepted : goal.returns-in-Accepted
-returns-in-Accepted c =
+pub returns-in-Ok : goal.returns-in-Ok
+returns-in-Ok c =
     let end : length c.args.text.now ≡ c.loop-at.at = omega (arith, c.loop-at.auto.at-end c.requires.within, c.loop-at-test.false) in
-    matching-accepted c.loop-at.invariant c.loop-at-test.false _ (ends-sound _ _) (rw end at c.ends_in.ensures) c.in-Accepted.is
+    matching-accepted c.loop-at.invariant c.loop-at-test.false _ (ends-sound _ _) (rw end at c.ends_in.ensures) c.in-Ok.is
 
-pub returns-in-Refused : goal.returns-in-Refused
-returns-in-Refused c =
+pub returns-in-Err : goal.returns-in-Err
+returns-in-Err c =
     let end : length c.args.text.now ≡ c.loop-at.at = omega (arith, c.loop-at.auto.at-end c.requires.within, c.loop-at-test.false) in
-    matching-refused c.loop-at.invariant c.loop-at-test.false _ (rw end at c.ends_in.ensures) c.in-Refused.is
+    matching-refused c.loop-at.invariant c.loop-at-test.false _ (rw end at c.ends_in.ensures) c.in-Err.is

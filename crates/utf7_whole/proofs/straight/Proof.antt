@@ -25,10 +25,10 @@ within c = le-ltb limit _ c.requires
 enum_told : tie.Need-enum_told-1
 enum_told c = search rules
 
-returns : tie.Need-returns-in-Refused
+returns : tie.Need-returns-in-Err
 returns c =
     let j = c.before in
-    into-refused utf7-kept _ _ (within j) j.judge-found.ensures c.in-Refused.is
+    into-refused utf7-kept _ _ (within j) j.judge-found.ensures c.in-Err.is
 
 enum-known-found : tie.Need-enum_known-found
 enum-known-found c = search rules
@@ -37,20 +37,20 @@ returns-2 : tie.Need-returns-then-out-count
 returns-2 c =
     let f = c in
     let j = f.before.before in
-    into-short utf7-kept _ _ (within j) j.judge-found.ensures f.in-Accepted.is c.if-out-count.true
+    into-short utf7-kept _ _ (within j) j.judge-found.ensures f.in-Ok.is c.if-out-count.true
 
 slice-relend-prefix-decode : tie.Need-slice_bounds-decode-end
 slice-relend-prefix-decode c = search rules
 
 -- as many as the text has cells
-count : (c : tie.In-Accepted) → c.in-Accepted.count ≡ length (reading utf7 c.args.text.now).cells
-count f = let j = f.before in into-count utf7-kept _ [] (within j) j.judge-found.ensures f.in-Accepted.is
+count : (c : tie.In-Ok) → c.in-Ok.count ≡ length (reading utf7 c.args.text.now).cells
+count f = let j = f.before in into-count utf7-kept _ [] (within j) j.judge-found.ensures f.in-Ok.is
 
 -- and that many are lent
-lent : (c : tie.Else-out-count) → length (take c.in-Accepted.count c.args.out.now) ≡ c.in-Accepted.count
+lent : (c : tie.Else-out-count) → length (take c.in-Ok.count c.args.out.now) ≡ c.in-Ok.count
 lent c = length-take-le _ _ c.if-out-count.false
 
-slice-aggregate-decode : tie.Need-slice_bounds-decode-end-in-Accepted
+slice-aggregate-decode : tie.Need-slice_bounds-decode-end-in-Ok
 slice-aggregate-decode c = sym (lent c.before)
 
 decode-requires : tie.Need-decode-requires
@@ -68,7 +68,7 @@ returns-3 c =
     let a = j.args in
     let k : d.decode.new.out ≡ (reading utf7 a.text.now).cells =
     all-front (d.decode.auto.out ∙ lent e ∙ count f) d.decode.ensures.1 in
-    into-filled utf7-kept _ _ (within j) (ap in_numbers (sym f.in-Accepted.is) ∙ j.judge-found.ensures) refl e.if-out-count.false
+    into-filled utf7-kept _ _ (within j) (ap in_numbers (sym f.in-Ok.is) ∙ j.judge-found.ensures) refl e.if-out-count.false
     (rw (k, count f))
 
 pub straight_spec : {M : Type 1} → statement M

@@ -32,16 +32,16 @@ within c = le-ltb limit _ (start c).requires.0
 enum_told : tie.Need-enum_told-1
 enum_told c = search rules
 
-same_length : tie.Need-shape_of-room-in-Refused
+same_length : tie.Need-shape_of-room-in-Err
 same_length c = search rules
 
-same-length-2 : tie.Need-shape_of-cells-in-Refused
+same-length-2 : tie.Need-shape_of-cells-in-Err
 same-length-2 c = search rules
 
-returns : tie.Need-returns-in-Refused
+returns : tie.Need-returns-in-Err
 returns c =
     let d = c.before.before.before in
-    into-refused utf7-kept _ _ (within d) d.decode-found.ensures.0 c.in-Refused.is
+    into-refused utf7-kept _ _ (within d) d.decode-found.ensures.0 c.in-Err.is
 
 enum-known-found : tie.Need-enum_known-found
 enum-known-found c = search rules
@@ -56,14 +56,14 @@ returns-2 : tie.Need-returns-then-out-n
 returns-2 c =
     let f = c in
     let d = f.before.before.before.before in
-    into-short utf7-kept _ _ (within d) d.decode-found.ensures.0 f.in-Accepted.is c.if-out-n.true
+    into-short utf7-kept _ _ (within d) d.decode-found.ensures.0 f.in-Ok.is c.if-out-n.true
 
 copy-requires : tie.Need-copy-requires
 copy-requires c κs =
     let f = c in
     let d = f.before.before.before.before.before in
     let t = (start d).args.text.now in
-    let n = into-count utf7-kept t [] (within d) d.decode-found.ensures.0 f.in-Accepted.is in
+    let n = into-count utf7-kept t [] (within d) d.decode-found.ensures.0 f.in-Ok.is in
     (omega (arith, n, few-cells utf7 t, (start d).requires.1.1.1, d.decode-found.auto.out), c.if-out-n.false)
 
 same-length-5 : tie.Need-shape_of-room
@@ -80,10 +80,10 @@ returns-3 c =
     let f = c in
     let d = f.before.before.before.before.before.before.before.before in
     let a = (start d).args in
-    let n = into-count utf7-kept a.text.now [] (within d) d.decode-found.ensures.0 f.in-Accepted.is in
-    let k : take f.in-Accepted.n d.decode-found.new.out ≡ (reading utf7 a.text.now).cells =
+    let n = into-count utf7-kept a.text.now [] (within d) d.decode-found.ensures.0 f.in-Ok.is in
+    let k : take f.in-Ok.n d.decode-found.new.out ≡ (reading utf7 a.text.now).cells =
     ap (λ (m : ℕ). take m d.decode-found.new.out) n ∙ d.decode-found.ensures.1 in
-    into-filled utf7-kept _ _ (within d) (ap in_numbers (sym f.in-Accepted.is) ∙ d.decode-found.ensures.0) refl c.if-out-n.false
+    into-filled utf7-kept _ _ (within d) (ap in_numbers (sym f.in-Ok.is) ∙ d.decode-found.ensures.0) refl c.if-out-n.false
     (c.copy.ensures ∙ ap (λ (z : List ℕ). filled z a.out.now) k)
 
 pub through_spec : {M : Type 1} → statement M

@@ -27,10 +27,10 @@ count-requires c κs = search rules
 enum_told : tie.Need-enum_told-1
 enum_told c = search rules
 
-returns-2 : tie.Need-returns-in-Refused
+returns-2 : tie.Need-returns-in-Err
 returns-2 c =
     let p = c in
-    into-refused (numbers-kept _) _ _ (within p.before.before) p.count-found.ensures c.in-Refused.is
+    into-refused (numbers-kept _) _ _ (within p.before.before) p.count-found.ensures c.in-Err.is
 
 enum-known-found : tie.Need-enum_known-found
 enum-known-found c = search rules
@@ -39,13 +39,13 @@ returns-3 : tie.Need-returns-then-out-n
 returns-3 c =
     let f = c in
     let p = f in
-    into-short (numbers-kept _) _ _ (within p.before.before.before) p.count-found.ensures f.in-Accepted.is c.if-out-n.true
+    into-short (numbers-kept _) _ _ (within p.before.before.before) p.count-found.ensures f.in-Ok.is c.if-out-n.true
 
 fill-requires : tie.Need-fill-requires
 fill-requires c κs =
     let f = c in
     let p = f in
-    into-room (numbers-kept _) _ p.args.out.now (within p.before.before.before.before) p.count-found.ensures f.in-Accepted.is c.if-out-n.false
+    into-room (numbers-kept _) _ p.args.out.now (within p.before.before.before.before) p.count-found.ensures f.in-Ok.is c.if-out-n.false
 
 same_length : tie.Need-shape_of-out
 same_length c = search rules
@@ -55,7 +55,7 @@ returns-4 c =
     let r = c in
     let f = r in
     let p = f in
-    into-filled (numbers-kept _) _ _ (within p.before.before.before.before.before.before.before) (ap in_numbers (sym f.in-Accepted.is) ∙ p.count-found.ensures) refl r.if-out-n.false c.fill.ensures
+    into-filled (numbers-kept _) _ _ (within p.before.before.before.before.before.before.before) (ap in_numbers (sym f.in-Ok.is) ∙ p.count-found.ensures) refl r.if-out-n.false c.fill.ensures
 
 pub read_spec : {M : Type 1} → statement M
 read_spec =

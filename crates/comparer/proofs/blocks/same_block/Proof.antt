@@ -4,15 +4,15 @@ use Rattle.comparer.proofs.Cutting.{block-alike}
 use Rattle.comparer.proofs.blocks.same_block.Statement.{statement}
 use Rattle.comparer.proofs.blocks.same_block.Tie as tie
 
-returns : tie.Need-returns-in-Accepted
+returns : tie.Need-returns-in-Ok
 returns c = λ e.
     let f = c in
     let r = f in
     let a = r.args in
-    block-alike a.format a.first.now a.second.now _ _ _ (rw f.in-Accepted.is at r.read-found.ensures)
+    block-alike a.format a.first.now a.second.now _ _ _ (rw f.in-Ok.is at r.read-found.ensures)
     (c.is_front.ensures e)
 
-returns-2 : tie.Need-returns-in-Refused
+returns-2 : tie.Need-returns-in-Err
 returns-2 c = λ e. absurd (false≢true e)
 
 pub same_block_spec : {M : Type 1} → statement M

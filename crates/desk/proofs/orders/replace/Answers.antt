@@ -6,13 +6,13 @@ pub returns-then-n-le65536 : goal.returns-then-n-le65536
 returns-then-n-le65536 c =
     c.replace_by.ensures
     ∙ same-call _
-    (found_all c.args.words.now _ c.read-read.new.out c.requires wide_room c.read-read.ensures c.in-Accepted.is c.place-n.ensures)
+    (found_all c.args.words.now _ c.read-read.new.out c.requires wide_room c.read-read.ensures c.in-Ok.is c.place-n.ensures)
 
 pub returns-else-n-le65536 : goal.returns-else-n-le65536
 returns-else-n-le65536 c =
-    let few = found-few c.args.words.now _ c.read-read.new.out c.requires wide_room c.read-read.ensures c.in-Accepted.is c.place-n.ensures in
+    let few = found-few c.args.words.now _ c.read-read.new.out c.requires wide_room c.read-read.ensures c.in-Ok.is c.place-n.ensures in
     absurd (omega (arith, few))
 
-pub returns-in-Refused : goal.returns-in-Refused
-returns-in-Refused c =
-    same-call _ (sym (found_none c.args.words.now _ c.read-read.new.out c.requires wide_room c.read-read.ensures c.in-Refused.is))
+pub returns-in-Err : goal.returns-in-Err
+returns-in-Err c =
+    same-call _ (sym (found_none c.args.words.now _ c.read-read.new.out c.requires wide_room c.read-read.ensures c.in-Err.is))

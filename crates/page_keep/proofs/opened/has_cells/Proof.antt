@@ -26,7 +26,7 @@ returns-2 c =
     let a = c.args in
     let answer-of' = c.answer_of-answer in
     count_yes (reading_in a.kind a.text.now) (fault-numbered a.kind a.text.now) a.n
-    answer-of'.ensures c.in-Accepted.is
+    answer-of'.ensures c.in-Ok.is
 
 pub has_cells_spec : {M : Type 1} → statement M
 has_cells_spec =

@@ -16,7 +16,8 @@ loop-k-preserved g c =
     let l = c.loop-k in
     let j : ℕ = l.k - 1 in
     let many : g.row.K - j ≡ g.row.K - l.k + 1 = omega arith in
-    rw many
-    (digit-turn g.row.BASE a.out.now l.out a.at (g.row.K - l.k) a.n j l.rest l.invariant.1 (omega arith) l.invariant.0
-    c.digit_of.ensures,
-    rest-turn g.row.BASE a.out.now l.out a.at (g.row.K - l.k) a.n j l.rest l.invariant.1)
+    rw many (
+      digit-turn g.row.BASE a.out.now l.out a.at (g.row.K - l.k) a.n j l.rest l.invariant.1 (omega arith) l.invariant.0
+          c.digit_of.ensures,
+      rest-turn g.row.BASE a.out.now l.out a.at (g.row.K - l.k) a.n j l.rest l.invariant.1,
+    )

@@ -10,18 +10,20 @@ returns c =
     let e = c.put_bytes-value.ensures in
     let v = c.put_bytes-value.result in
     elim c.if-two.branch [
-      then-two w ↦
+      | then-two w ↦
           let p = w.put_digits-end.ensures in
           let d = digits 10 7 a.n in
-          rw (w.if-two.true, w.end-is, w.out-is)
-          (omega (arith, e.0, p.0),
-          sets_then _ _ _ a.key.now (d ++ LF) a.at v e.1 e.0
-          (sets_then _ _ _ d LF v w.put_digits-end.result p.1 (omega (arith, p.0, length_digits 10 7 a.n)) refl))
-    | else-two w ↦
+          rw (w.if-two.true, w.end-is, w.out-is) (
+            omega (arith, e.0, p.0),
+            sets_then _ _ _ a.key.now (d ++ LF) a.at v e.1 e.0
+                (sets_then _ _ _ d LF v w.put_digits-end.result p.1 (omega (arith, p.0, length_digits 10 7 a.n)) refl),
+          )
+      | else-two w ↦
           let p = w.put_digits-end-else-two.ensures in
           let d = digits 10 5 a.n in
-          rw (w.if-two.false, w.end-is, w.out-is)
-          (omega (arith, e.0, p.0),
-          sets_then _ _ _ a.key.now (d ++ LF) a.at v e.1 e.0
-          (sets_then _ _ _ d LF v w.put_digits-end-else-two.result p.1 (omega (arith, p.0, length_digits 10 5 a.n)) refl))
+          rw (w.if-two.false, w.end-is, w.out-is) (
+            omega (arith, e.0, p.0),
+            sets_then _ _ _ a.key.now (d ++ LF) a.at v e.1 e.0
+                (sets_then _ _ _ d LF v w.put_digits-end-else-two.result p.1 (omega (arith, p.0, length_digits 10 5 a.n)) refl),
+          )
     ]

@@ -17,7 +17,8 @@ loop-i-preserved c =
 
 pub returns : goal.returns
 returns c =
-    let a = c.args in
-    (refl,
-    c.loop-i.invariant
-    ∙ ap (λ (w : List ℕ). sets a.out.now a.at (groups 2 w)) (take_all c.loop-i.i a.bytes.now (omega arith)))
+    let a = c.args in (
+      refl,
+      c.loop-i.invariant
+          ∙ ap (λ (w : List ℕ). sets a.out.now a.at (groups 2 w)) (take_all c.loop-i.i a.bytes.now (omega arith)),
+    )

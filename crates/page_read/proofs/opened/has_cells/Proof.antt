@@ -29,7 +29,7 @@ returns-2 c =
     let answer-of' = c.answer_of-answer in
     count_yes (reading_in a.kind (hexes_at a.file.now a.base 2 a.n))
     (fault-numbered a.kind (hexes_at a.file.now a.base 2 a.n)) a.cells answer-of'.ensures
-    c.in-Accepted.is
+    c.in-Ok.is
 
 pub has_cells_spec : {M : Type 1} → statement M
 has_cells_spec =

@@ -137,28 +137,28 @@ returns-3 c =
 finish-requires : tie.Need-finish-requires invariant-loop decreases-loop
 finish-requires c κs = search rules
 
-enum-told-2 : tie.Need-enum_told-in-Accepted invariant-loop decreases-loop
+enum-told-2 : tie.Need-enum_told-in-Ok invariant-loop decreases-loop
 enum-told-2 c = search rules
 
-enum-told-3 : tie.Need-enum_told-in-Refused invariant-loop decreases-loop
+enum-told-3 : tie.Need-enum_told-in-Err invariant-loop decreases-loop
 enum-told-3 c = search rules
 
-returns-4 : tie.Need-returns-in-Accepted invariant-loop decreases-loop
+returns-4 : tie.Need-returns-in-Ok invariant-loop decreases-loop
 returns-4 c =
     let a = c.args in
     let l = c.loop-at in
     let finish' = c.finish in
     ap (eqb l.count) (sym (length-hexes a.file.now a.text 8 a.m)) ∙
     (matching-accepted l.invariant (omega (arith, length-hexes a.file.now a.base 2 a.n)) _ (ends-sound _ _)
-    finish'.ensures c.in-Accepted.is)
+    finish'.ensures c.in-Ok.is)
 
-returns-5 : tie.Need-returns-in-Refused invariant-loop decreases-loop
+returns-5 : tie.Need-returns-in-Err invariant-loop decreases-loop
 returns-5 c =
     let a = c.args in
     let l = c.loop-at in
     let finish' = c.finish in
     matching-refused l.invariant (omega (arith, length-hexes a.file.now a.base 2 a.n)) _ finish'.ensures
-    c.in-Refused.is
+    c.in-Err.is
 
 pub jp2_same_spec : {M : Type 1} → statement M
 jp2_same_spec =

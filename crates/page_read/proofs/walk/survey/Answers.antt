@@ -8,10 +8,10 @@ pub returns-then-room-page : goal.returns-then-room-page
 returns-then-room-page c =
     let a = c.args in
     elim c.then-room-page.branch [
-      then-room-page-via-then-room-page w ↦ λ t h f. sym (unframed a.page t h (no-opening f (omega arith)))
-    | then-room-page-via-else-room-page+then-n-page w ↦
+      | then-room-page-via-then-room-page w ↦ λ t h f. sym (unframed a.page t h (no-opening f (omega arith)))
+      | then-room-page-via-else-room-page+then-n-page w ↦
           λ t h f. sym (unframed a.page t h (no-done f (omega arith) (omega arith)))
-    | then-room-page-via-else-room-page+else-n-page+then-not-mark_within w ↦
+      | then-room-page-via-else-room-page+else-n-page+then-not-mark_within w ↦
           λ t h f. sym (unframed a.page t h (no-mark f (omega arith) (omega arith)
           (sym w.mark_within.ensures ∙ w.if-not-mark_within.true)))
     ]

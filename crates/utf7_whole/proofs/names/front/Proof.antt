@@ -37,11 +37,11 @@ within m = le-ltb limit _ m.requires
 enum_told : tie.Need-enum_told-1
 enum_told c = search rules
 
-same_length : tie.Need-shape_of-cells-in-Refused
+same_length : tie.Need-shape_of-cells-in-Err
 same_length c = search rules
 
-returns : tie.Need-returns-in-Refused
-returns c = let m = c.before in into-refused mailbox-kept _ _ (within m) m.measure-found.ensures c.in-Refused.is
+returns : tie.Need-returns-in-Err
+returns c = let m = c.before in into-refused mailbox-kept _ _ (within m) m.measure-found.ensures c.in-Err.is
 
 enum-known-found : tie.Need-enum_known-found
 enum-known-found c = search rules
@@ -53,11 +53,11 @@ returns-2 : tie.Need-returns-then-out-count
 returns-2 c =
     let f = c in
     let m = f.before.before in
-    into-short mailbox-kept _ _ (within m) m.measure-found.ensures f.in-Accepted.is c.if-out-count.true
+    into-short mailbox-kept _ _ (within m) m.measure-found.ensures f.in-Ok.is c.if-out-count.true
 
 -- as many as the text has cells
-count : (f : tie.In-Accepted) → f.in-Accepted.count ≡ length (reading mailbox f.args.text.now).cells
-count f = let m = f.before in into-count mailbox-kept _ [] (within m) m.measure-found.ensures f.in-Accepted.is
+count : (f : tie.In-Ok) → f.in-Ok.count ≡ length (reading mailbox f.args.text.now).cells
+count f = let m = f.before in into-count mailbox-kept _ [] (within m) m.measure-found.ensures f.in-Ok.is
 
 copy-requires : tie.Need-copy-requires
 copy-requires c κs =
@@ -68,10 +68,10 @@ slice-relend-prefix-decode : tie.Need-slice_bounds-decode-end
 slice-relend-prefix-decode c = search rules
 
 -- that many are lent
-lent : (k : tie.After-copy) → let n = k.in-Accepted.count in length (take n k.copy.new.out) ≡ n
+lent : (k : tie.After-copy) → let n = k.in-Ok.count in length (take n k.copy.new.out) ≡ n
 lent k = length-take-le _ _ (omega (arith, k.if-out-count.false, k.copy.auto.out))
 
-slice-aggregate-decode : tie.Need-slice_bounds-decode-end-in-Accepted
+slice-aggregate-decode : tie.Need-slice_bounds-decode-end-in-Ok
 slice-aggregate-decode c = sym (lent c.before.before.before)
 
 decode-requires : tie.Need-decode-requires
@@ -79,7 +79,7 @@ decode-requires c κs =
     let k = c.before.before.before in
     let h = held k.before.before.before.before.before.before.before in
     let n = count k.before.before.before in
-    ((omega (arith, lent k, n), h.left.within), (padded-self _, holds-copy _ k.in-Accepted.count h k.copy.ensures (omega (arith, h.left.inside, n))))
+    ((omega (arith, lent k, n), h.left.within), (padded-self _, holds-copy _ k.in-Ok.count h k.copy.ensures (omega (arith, h.left.inside, n))))
 
 same-length-3 : tie.Need-shape_of-cells
 same-length-3 c = search rules
@@ -98,9 +98,9 @@ returns-3 c =
     let a = m.args in
     let q : d.decode.new.out ≡ (reading mailbox a.text.now).cells =
     all-front (d.decode.auto.out ∙ lent k ∙ count f) d.decode.ensures.1 in
-    let b : drop f.in-Accepted.count k.copy.new.out ≡ drop f.in-Accepted.count a.out.now =
-    rw k.copy.ensures (filled-behind (take g.fill-r.result.n g.fill-r.new.out) a.out.now f.in-Accepted.count (omega (arith, length-take-le g.fill-r.result.n g.fill-r.new.out (filled_in h), h.left.inside, count f))) in
-    into-filled mailbox-kept _ _ (within m) (ap in_numbers (sym f.in-Accepted.is) ∙ m.measure-found.ensures) refl k.if-out-count.false
+    let b : drop f.in-Ok.count k.copy.new.out ≡ drop f.in-Ok.count a.out.now =
+    rw k.copy.ensures (filled-behind (take g.fill-r.result.n g.fill-r.new.out) a.out.now f.in-Ok.count (omega (arith, length-take-le g.fill-r.result.n g.fill-r.new.out (filled_in h), h.left.inside, count f))) in
+    into-filled mailbox-kept _ _ (within m) (ap in_numbers (sym f.in-Ok.is) ∙ m.measure-found.ensures) refl k.if-out-count.false
     (rw (q, b, count f))
 
 pub front_spec : {M : Type 1} → statement M
