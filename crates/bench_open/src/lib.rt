@@ -3,7 +3,6 @@
 
 ghost use Rattle.std.specs.Prelude.{◌≡◌, true, [], ◌+◌, ◌≤◌};
 ghost use Rattle.answer.specs.Answer.{limit, in_numbers};
-ghost use Rattle.std.specs.Prelude.{Ok, Err};
 ghost use Rattle.editor.specs.Layout.{taken};
 ghost use Rattle.ledger.specs.Calls as pages;
 ghost use Rattle.benches.specs.Benches.{leaves};

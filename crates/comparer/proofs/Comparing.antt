@@ -182,13 +182,13 @@ refuses why = ne_eqb (number_of why) 0 (λ z. omega (arith, number-pos why))
 pub judged-first :
     {one : Answer} {deny : Refused} (otherwise : Comparison) → one ≡ Err deny →
     refused First (numbered (number_of deny.0) deny.1) ≡ unless_refused First (in_numbers one) otherwise
-judged-first {why = why} otherwise e = rw (e, refuses deny.0)
+judged-first {deny = deny} otherwise e = rw (e, refuses deny.0)
 
 pub judged-second :
     {one two : Answer} {n : ℕ} {deny : Refused} (found : Comparison) → one ≡ Ok n →
     two ≡ Err deny →
     refused Second (numbered (number_of deny.0) deny.1) ≡ judged_by (in_numbers one) (in_numbers two) found
-judged-second {why = why} found d e = rw (d, e, refuses deny.0)
+judged-second {deny = deny} found d e = rw (d, e, refuses deny.0)
 
 pub judged :
     {one two : Answer} {n m : ℕ} (found : Comparison) → one ≡ Ok n → two ≡ Ok m →

@@ -116,7 +116,7 @@ module _ (letter text history : List ℕ) (r : Edited) where
 
   not_taken : {deny : Refused} → r.answer ≡ Err deny → taken (leaves r text history) ≡ false
   not_taken {deny} a =
-      answered (Refused deny) a ∙ ne_eqb (number_of deny.0) 0 (λ z. omega (arith, number-pos deny.0))
+      answered (Err deny) a ∙ ne_eqb (number_of deny.0) 0 (λ z. omega (arith, number-pos deny.0))
 
   pub sits-idle :
       {hand : Hand} (deny : Refused) → r.answer ≡ Err deny → hand ≡ empty r.page →

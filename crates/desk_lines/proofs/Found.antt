@@ -67,7 +67,7 @@ module _ (out o : List ℕ) where
       replacing e cells ≡ None
   unfolding deliver
   refused-by accepted cells why place room q =
-      let d : leaves (Err deny) o ≡ record { verdict = numbered 0 (length cells); out = filled cells out } =
+      let d : leaves (refused_at why place) o ≡ record { verdict = numbered 0 (length cells); out = filled cells out } =
       rw (le-ltb (length out) (length cells) room) at q in
       absurd (omega (arith, number-pos why, ap (λ (v : Outcome). v.verdict.number) d))
   refused-by (fault k p) cells why place room q = refl
@@ -100,7 +100,7 @@ module _ (words out o : List ℕ) (short : length words ≤ line_room) (wide : l
 
     pub found_none : {deny : Refused} → a ≡ Err deny → asked None Replace words ≡ None
     found_none {deny} e =
-        refused-by out o (reading (numbers 2) words).ending (reading (numbers 2) words).cells deny fits (rw e at (by _ q))
+        refused-by out o (reading (numbers 2) words).ending (reading (numbers 2) words).cells deny.0 deny.1 fits (rw e at (by _ q))
 
 -- a squeeze's number, by the answer of reading it: it is read, or there is none
 module _ (s : State) {read : Outcome} {a : Answer} {found : List ℕ} (q : leaves a found ≡ read) where
@@ -110,7 +110,7 @@ module _ (s : State) {read : Outcome} {a : Answer} {found : List ℕ} (q : leave
   squeezes e k w = rw (← q, e, k, w)
 
   pub squeezes-none : {deny : Refused} → a ≡ Err deny → s ≡ after_call (squeezing read) s
-  squeezes-none {why} e = rw (← q, e, ne_eqb (number_of deny.0) 0 (λ z. omega (arith, number-pos deny.0)))
+  squeezes-none {deny} e = rw (← q, e, ne_eqb (number_of deny.0) 0 (λ z. omega (arith, number-pos deny.0)))
 
 -- the work buffer that it is lent
 pub zeros-work : (n : ℕ) → n ≡ history_room → replicate n 0 ≡ work_room

@@ -287,7 +287,7 @@ module _ (bs out o : List ℕ) (a : Answer) (q : leaves a o ≡ read_into utf7 b
   pub untouched : {deny : Refused} → a ≡ Err deny → o ≡ out
   unfolding read_into
   untouched {deny} e =
-      left_by (ltb limit (length bs)) (ltb (length out) (length its)) (reading utf7 bs).ending deny refl
+      left_by (ltb limit (length bs)) (ltb (length out) (length its)) (reading utf7 bs).ending deny.0 deny.1 refl
       (rw e at q)
 
 -- a word's end

@@ -28,5 +28,5 @@ module _ (us text o : List ℕ) (units : Each IsUnit us) (few : length us ≤ li
   as-accepted e = (ap (λ (x : Outcome). x.verdict.place) (rw e at fills), ap (λ (x : Outcome). x.out) fills)
 
   pub not-refused : {X : Type 0} {deny : Refused} → a ≡ Err deny → X
-  not-refused {why = why} e =
+  not-refused {deny = deny} e =
       absurd (omega (arith, number-pos deny.0, ap (λ (x : Outcome). x.verdict.number) (rw e at fills)))

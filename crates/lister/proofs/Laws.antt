@@ -175,7 +175,7 @@ module _
   refused-prints deny told out =
       rw told
       (listed out _
-      (listed-place (reading_of f text).cells buf o (omega (arith, few)) (reading_of f text).ending deny
+      (listed-place (reading_of f text).cells buf o (omega (arith, few)) (reading_of f text).ending deny.0 deny.1
       (rw told at ended)))
 
 pub long-prints :

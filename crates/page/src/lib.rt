@@ -5,7 +5,6 @@ mod output;
 
 ghost use Rattle.std.specs.Prelude.{◌≡◌, ◌+◌, ◌-◌, ◌≤◌, ◌<◌, ◌^◌, [], ◌++◌, length, take, replicate, Some};
 ghost use Rattle.answer.specs.Answer.{limit, numbered};
-ghost use Rattle.std.specs.Prelude.{Ok, Err};
 ghost use Rattle.answer.specs.Output as output;
 ghost use Rattle.records.specs.declared.Judged.TheVariants.{Sound};
 ghost use Rattle.records.specs.Walking.{judge_of};
@@ -403,7 +402,7 @@ pub fn save(page: Page, text: &[u32], history: &[u32], arrived: &[u8], out: &mut
 
 // Whether the mark is at the words done.
 pub fn told(page: Page) -> Asked
-    ensures { result ≡ record { answer = Accepted 0; unchanged = unchanged_at page.done page.saved } }
+    ensures { result ≡ record { answer = Ok 0; unchanged = unchanged_at page.done page.saved } }
 {
     Asked {
         answer: Ok(0),

@@ -61,7 +61,7 @@ module _ {S : Type 0} {rule : Rule S} {Sound : S → Type 0} {Good : ℕ → Typ
     pub into-refused : {a : Answer} {deny : Refused} → in_numbers a ≡ verdict_of (reading rule s) → a ≡ Err deny → leaves a out ≡ read_into rule s out
     unfolding read_into
     into-refused {a} {deny} q e =
-        rw (h, e) (refused-by deny (reading rule s).ending (reading rule s).cells (rw e at q))
+        rw (h, e) (refused-by deny.0 deny.1 (reading rule s).ending (reading rule s).cells (rw e at q))
 
     accepted-by : (n : ℕ) (e : Ending) (m : ℕ) → SoundEnd e → numbered 0 n ≡ closing e m → (e ≡ accepted) × (n ≡ m)
     accepted-by n accepted m w q = (refl, ap (λ (v : Verdict). v.place) q)

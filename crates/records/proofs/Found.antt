@@ -76,8 +76,8 @@ module _ (s : State) where
     unfit-cases :
         (t : Bool) (x : Option Parted) → cond t (judged.Unfit (refused_at OverLimit limit)) (judged_as s.page.done x) ≡ judged.Unfit a →
         cond t (refuse too_long) (call x) ≡ refuse (in_numbers a)
-    unfit-cases true x e = let z : Refused OverLimit limit ≡ a = cc in ap (λ (b : Answer). refuse (in_numbers b)) z
-    unfit-cases false None e = let z : Refused Unsound 0 ≡ a = cc in none-refused ∙ ap (λ (b : Answer). refuse (in_numbers b)) z
+    unfit-cases true x e = let z : refused_at OverLimit limit ≡ a = cc in ap (λ (b : Answer). refuse (in_numbers b)) z
+    unfit-cases false None e = let z : refused_at Unsound 0 ≡ a = cc in none-refused ∙ ap (λ (b : Answer). refuse (in_numbers b)) z
     unfit-cases false (Some v) e = let z : ◌≡◌ {A = ℕ} 0 1 = cc in absurd (omega arith)
 
     pub unfit :
