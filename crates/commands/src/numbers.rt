@@ -134,17 +134,10 @@ pub fn read(asked: u32, text: &[u8], out: &mut [u32]) -> Answer
     if answer::over_limit(text.len()) {
         return answer::too_long();
     }
-    let found = count(asked, text);
-    match found {
-        Err(_) => {
-            return found;
-        }
-        Ok(n) => {
-            if out.len() < n {
-                return Err(Refused(Refusal::NoRoom, n));
-            }
-            fill(asked, text, out);
-            found
-        }
+    let n = count(asked, text)?;
+    if out.len() < n {
+        return Err(Refused(Refusal::NoRoom, n));
     }
+    fill(asked, text, out);
+    Ok(n)
 }
