@@ -1,7 +1,9 @@
 -- "Add a comparer of two arrived texts of one kind: the same, with the count of cells, or the first cell index at
 -- which they part with the byte place in each where that cell begins (the text length if it has ended)."
-use Rattle.std.specs.Prelude.{ℕ, suc, cond, List, [], ◌∷◌, length, eqb}
+use Rattle.std.specs.Prelude.{ℕ, suc, cond, List, [], ◌∷◌, length, eqb, Ok, Err}
+use Rattle.std.specs.declared.result.Result.{Result}
 use Rattle.answer.specs.Answer.{Verdict, numbered, number_of}
+use Rattle.answer.specs.declared.Refused.{Refused}
 use Rattle.reading.specs.Stepping.{cells_of, answer_of}
 use Rattle.reading.specs.declared.Marked.{Marked}
 use Rattle.codec.specs.declared.Format.{Format}
@@ -9,7 +11,7 @@ use Rattle.stepper.specs.Stepper.{reading_of, marked_of}
 use Rattle.comparer.specs.declared.Text.{Text}
 use Rattle.comparer.specs.declared.Text.TheVariants.{First, Second}
 use Rattle.comparer.specs.declared.Compared.{Compared}
-use Rattle.comparer.specs.declared.Compared.TheVariants.{Same, Part, Refused}
+use Rattle.comparer.specs.declared.Compared.TheVariants.{Same, Part}
 
 -- the count of cells; or the index and the place in each; or which text is refused, and how
 pub data Comparison : Type 0 where
@@ -17,10 +19,13 @@ pub data Comparison : Type 0 where
   part : ℕ → ℕ → ℕ → Comparison
   refused : Text → Verdict → Comparison
 
-abbrev pub compared_as : Compared → Comparison
-compared_as (Same count) = same count
-compared_as (Part index first second) = part index first second
-compared_as (Refused which why place) = refused which (numbered (number_of why) place)
+abbrev pub found_as : Compared → Comparison
+found_as (Same count) = same count
+found_as (Part index first second) = part index first second
+
+abbrev pub compared_as : Result Compared (Text × Refused) → Comparison
+compared_as (Ok found) = found_as found
+compared_as (Err (which, deny)) = refused which (numbered (number_of deny.0) deny.1)
 
 -- a text's cells with their bytes, and its answer: "Refusals: those of reading without 9"
 abbrev pub marks_of : Format → List ℕ → List Marked

@@ -5,9 +5,9 @@ mod blocks;
 
 ghost use Rattle.std.specs.Prelude.{◌≡◌, true};
 ghost use Rattle.answer.specs.Answer.{in_numbers};
-ghost use Rattle.comparer.specs.Compare.{compared_as, verdict_in, parts_of, compare_of};
+ghost use Rattle.comparer.specs.Compare.{found_as, compared_as, verdict_in, parts_of, compare_of};
 
-use answer::{Answer, Refusal, Refused};
+use answer::{Answer, Refused};
 use codec::Format;
 use std::ops::ControlFlow;
 use stepper::Place;
@@ -18,14 +18,13 @@ pub enum Text {
     Second = 2,
 }
 
+// What two texts that are accepted are.
 #[derive(Clone, Copy)]
 pub enum Compared {
     // the same, with the count of cells
     Same(usize),
     // the index of the first cell at which they part, and where it begins in each
     Part(usize, usize, usize),
-    // which text is refused, and why
-    Refused(Text, Refusal, usize),
 }
 
 // The texts are equal byte for byte. Each byte is compared, so that the loop compiles to no branch.
@@ -56,7 +55,7 @@ fn answer_of(format: Format, text: &[u8]) -> Answer
 
 // Where two texts part, if they do: both are read side by side.
 fn parting(format: Format, first: &[u8], second: &[u8]) -> Compared
-    ensures { compared_as result ≡ parts_of format first.now second.now }
+    ensures { found_as result ≡ parts_of format first.now second.now }
 {
     let mut p = stepper::start(format);
     let mut q = stepper::start(format);
@@ -93,27 +92,27 @@ fn parting(format: Format, first: &[u8], second: &[u8]) -> Compared
     }
 }
 
-// Each text is judged to its end, the first before the second; equal bytes are read once.
-pub fn compare(format: Format, first: &[u8], second: &[u8]) -> Compared
+// Each text is judged to its end, the first before the second; equal bytes are read once. What is refused is told with
+// the text that it is of.
+pub fn compare(
+    format: Format,
+    first: &[u8],
+    second: &[u8],
+) -> Result<Compared, (Text, Refused)>
     ensures { compared_as result ≡ compare_of format first.now second.now }
 {
-    let one = answer_of(format, first);
-    match one {
-        Err(Refused(why, place)) => Compared::Refused(Text::First, why, place),
-        Ok(count) => {
-            if alike(first, second) {
-                return Compared::Same(count);
-            }
-            let two = answer_of(format, second);
-            match two {
-                Err(Refused(why, place)) => Compared::Refused(Text::Second, why, place),
-                Ok(_) => {
-                    if blocks::read_alike(format, first, second) {
-                        return Compared::Same(count);
-                    }
-                    parting(format, first, second)
-                }
-            }
-        }
+    let count = match answer_of(format, first) {
+        Ok(count) => count,
+        Err(refused) => return Err((Text::First, refused)),
+    };
+    if alike(first, second) {
+        return Ok(Compared::Same(count));
     }
+    if let Err(refused) = answer_of(format, second) {
+        return Err((Text::Second, refused));
+    }
+    if blocks::read_alike(format, first, second) {
+        return Ok(Compared::Same(count));
+    }
+    Ok(parting(format, first, second))
 }

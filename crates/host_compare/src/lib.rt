@@ -7,7 +7,7 @@ ghost use Rattle.host_compare.specs.Compared.{in_host, hears};
 
 use answer::Refused;
 use codec::Format;
-use comparer::Compared;
+use comparer::{Compared, Text};
 use host_numbers::{Numbers, in_numbers};
 
 // The answer, which text is refused (0: none, 1, 2), whether they are the same (1) and else where they part: the cell's
@@ -23,11 +23,11 @@ pub struct HostCompared {
     pub second: usize,
 }
 
-fn in_host(found: Compared) -> HostCompared
+fn in_host(found: Result<Compared, (Text, Refused)>) -> HostCompared
     ensures { hears result ≡ in_host (compared_as found) }
 {
     match found {
-        Compared::Same(count) => HostCompared {
+        Ok(Compared::Same(count)) => HostCompared {
             answer: Numbers {
                 number: 0,
                 place: count,
@@ -38,7 +38,7 @@ fn in_host(found: Compared) -> HostCompared
             first: 0,
             second: 0,
         },
-        Compared::Part(index, first, second) => HostCompared {
+        Ok(Compared::Part(index, first, second)) => HostCompared {
             answer: Numbers {
                 number: 0,
                 place: 0,
@@ -49,8 +49,8 @@ fn in_host(found: Compared) -> HostCompared
             first,
             second,
         },
-        Compared::Refused(which, why, place) => {
-            let answer = in_numbers(Err(Refused(why, place)));
+        Err((which, refused)) => {
+            let answer = in_numbers(Err(refused));
             let text = which as u32;
             HostCompared {
                 answer,

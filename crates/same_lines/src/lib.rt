@@ -8,7 +8,7 @@ ghost use Rattle.same_lines.specs.Inner.{Holds};
 ghost use Rattle.listing.specs.Listing.{status_name};
 
 use answer::Refused;
-use comparer::Compared;
+use comparer::{Compared, Text};
 
 // Lines: so many of the bytes.
 #[derive(Clone, Copy)]
@@ -41,18 +41,20 @@ fn status(number: usize) -> Lines
     with_line(none, b"status", number)
 }
 
-pub fn print(found: Compared) -> Lines
+pub fn print(found: Result<Compared, (Text, Refused)>) -> Lines
     ensures { result ≡ laid (printed (compared_as found)) }
 {
     match found {
-        Compared::Same(count) => with_line(status(0), b"count", count),
-        Compared::Part(index, first, second) => {
-            let one = with_line(status(0), b"index", index);
-            let two = with_line(one, b"first", first);
-            with_line(two, b"second", second)
-        }
-        Compared::Refused(which, why, place) => {
-            let number = answer::number(Err(Refused(why, place))) as usize;
+        Ok(found) => match found {
+            Compared::Same(count) => with_line(status(0), b"count", count),
+            Compared::Part(index, first, second) => {
+                let one = with_line(status(0), b"index", index);
+                let two = with_line(one, b"first", first);
+                with_line(two, b"second", second)
+            }
+        },
+        Err((which, Refused(why, place))) => {
+            let number = u32::from(why) as usize;
             let one = with_line(status(number), b"text", which as usize);
             with_line(one, b"place", place)
         }
