@@ -61,8 +61,8 @@ saved-as :
     ≡ laid (bench s) t (saved_as (space_in t s) e (output.leaves a out))
 saved-as t s e (Ok n) out = refl
 saved-as t s e (Err deny) out =
-    rw (ne_eqb (number_of why) 0 (λ (z : number_of why ≡ 0). omega (arith, number-pos why)))
-    (same-saved t s (numbered (number_of why) place) out)
+    rw (ne_eqb (number_of deny.0) 0 (λ (z : number_of deny.0 ≡ 0). omega (arith, number-pos deny.0)))
+    (same-saved t s (numbered (number_of deny.0) deny.1) out)
 
 module _ {t : State} {s : Side} {p : Pass} (f : Fit t s p) where
   abbrev b : Bench

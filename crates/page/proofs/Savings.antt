@@ -65,7 +65,7 @@ saved-as :
     ≡ keeping s (output.leaves a out)
 saved-as s (Ok n) out = refl
 saved-as s (Err deny) out =
-    rw (ne_eqb (number_of why) 0 (λ (z : number_of why ≡ 0). omega (arith, number-pos why)))
+    rw (ne_eqb (number_of deny.0) 0 (λ (z : number_of deny.0 ≡ 0). omega (arith, number-pos deny.0)))
 
 pub saved-given :
     (s : State) (r : Edited) (out : List ℕ) (o : output.Outcome) → r.page ≡ saved_page s.page r.answer →

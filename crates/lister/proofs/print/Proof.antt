@@ -52,7 +52,7 @@ returns-3 c =
     let a = e.args in
     l.list-in-Err.ensures
     ∙ refused-prints a.format a.text.now _ _ r.read-found.result e.if-text-gt-MOST.false (search rules) r.read-found.ensures
-    _ _ t.in-Err.is a.out.now
+    _ t.in-Err.is a.out.now
 
 pub print_spec : {M : Type 1} → statement M
 print_spec =

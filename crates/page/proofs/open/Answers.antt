@@ -42,5 +42,5 @@ returns-in-Err c =
     (sym c.over_limit.ensures ∙ c.if-over_limit.false)
     (sym c.over_limit-else-over_limit.ensures ∙ c.if-over_limit-2.false)
     (sym c.over_limit-else-over_limit-2.ensures ∙ c.if-over_limit-3.false)
-    c.format.result c.format.ensures c.read-answer.result c.read-answer.new.out c.read-answer.ensures _ _ c.in-Err.is in
+    c.format.result c.format.ensures c.read-answer.result c.read-answer.new.out c.read-answer.ensures _ c.in-Err.is in
     rw (c.refused-in-Err.ensures, c.fresh-none.ensures, q.0) (sym q.1)
