@@ -183,7 +183,7 @@ fn step_on(
     }
 }
 
-// The caller is bench 0, or else bench 1.
+// The caller is bench 0, or else bench 1. Two branches: a `&mut` chosen by a test is not covered by the checker.
 fn step_sound(
     b: Benches,
     bench: usize,
@@ -336,7 +336,7 @@ fn replace_on(
     )
 }
 
-// The caller is bench 0, or else bench 1.
+// The caller is bench 0, or else bench 1. Two branches: a `&mut` chosen by a test is not covered by the checker.
 fn replace_sound(
     b: Benches,
     bench: usize,

@@ -39,7 +39,7 @@ fn block_at(s: &[u32], at: usize) -> u32
     all
 }
 
-// Past blocks that are all 0.
+// Past blocks that are all 0. An index loop, as the loops below: each call on a page judges it whole, so they are hot.
 fn past_blocks(s: &[u32], at: usize) -> usize
     requires { at ≤ length s.now }
     ensures { zeros (drop result s.now) ≡ zeros (drop at s.now) }
