@@ -3,7 +3,7 @@ use Prim.Native.Nat.{ℕ, suc, ◌+◌, ◌-◌, ◌≤◌}
 use mathlib.Core.Path.{◌≡◌, refl, sym, ap, ◌∙◌}
 use mathlib.Core.Bool.{Bool, true, false, cond}
 use mathlib.Core.List.{List, [], ◌∷◌, ◌++◌, reverse, append-nil}
-use Rattle.std.specs.Prelude.{Option, None, Some}
+use Rattle.std.specs.Prelude.{Option, None, Some, Ok}
 use native.Mathlib.Omega.{arith}
 use lib.ListN.{length, take, drop, length-append, length-reverse}
 use lib.Seq.{length-take-le}
@@ -24,7 +24,6 @@ use Rattle.benches.specs.Layout.{editor_of, editor_for, these, lying_in, space_i
 use Rattle.benches.specs.Calls.{outcome_at, replace_of}
 use Rattle.benches.proofs.Words.{words_append}
 use Rattle.bench_records.specs.declared.Pass.{Pass}
-use Rattle.bench_records.specs.declared.Judged.TheVariants.{Sound}
 use Rattle.bench_records.specs.Judging.{judge_of}
 use Rattle.bench_records.proofs.Found.{Fit, fit-first, second-named, fit-second}
 use Rattle.bench_records.proofs.Ended.{fitting, pass-spare}
@@ -142,7 +141,7 @@ module _ {t : State} {s : Side} {p : Pass} (f : Fit t s p) (place count : ℕ) (
     replaced-is few = replace-is few ∙ replaced-laid
 
 -- as the code has it: the caller is bench 0, or else bench 1
-module _ (t : State) (n : ℕ) (p : Pass) (d : judge_of t n ≡ Sound p) where
+module _ (t : State) (n : ℕ) (p : Pass) (d : judge_of t n ≡ Ok p) where
   pub first-shared : n ≡ 0 → Shared t.benches.bench0 0 t.used p t.texts.bench0 t.history
   first-shared q = let f = fit-first t n refl d q in shared f f.short-first
 

@@ -4,7 +4,7 @@ use mathlib.Core.Path.{◌≡◌, refl, sym, ap, ◌∙◌}
 use mathlib.Core.Bool.{Bool, true, false}
 use mathlib.Core.List.{List, reverse}
 use Rattle.std.specs.declared.result.Result.TheVariants.{Ok, Err}
-use Rattle.std.specs.Prelude.{Option, None, Some}
+use Rattle.std.specs.Prelude.{Option, None, Some, Ok}
 use native.Mathlib.Omega.{arith}
 use lib.ListN.{length, take}
 use lib.Dec.{eqb}
@@ -26,9 +26,7 @@ use Rattle.benches.specs.Benches.{State, state_of, Outcome, leaves}
 use Rattle.benches.specs.Layout.{editor_of, editor_for, space_in, marked_as, bench}
 use Rattle.benches.specs.Calls.{outcome_at, save_of, reply_at, unchanged_of}
 use Rattle.bench_records.specs.declared.Pass.{Pass}
-use Rattle.bench_records.specs.declared.Judged.{Judged}
-use Rattle.bench_records.specs.declared.Judged.TheVariants.{Sound}
-use Rattle.bench_records.specs.Judging.{judge_of}
+use Rattle.bench_records.specs.Judging.{Judged, judge_of}
 use Rattle.bench_records.proofs.Found.{Fit, fit-first, second-named, fit-second}
 use Rattle.bench_records.proofs.Ended.{fitting, lengths-fit}
 use Rattle.bench_calls.specs.declared.Turned.{Turned}
@@ -115,7 +113,7 @@ module _ (b : Benches) (text0 text1 history : List ℕ) (n : ℕ) where
   abbrev t : State
   t = state_of b text0 text1 history
 
-  module _ {j : Judged} {p : Pass} (d : j ≡ judge_of t n) (e : j ≡ Sound p) where
+  module _ {j : Judged} {p : Pass} (d : j ≡ judge_of t n) (e : j ≡ Ok p) where
     pub texts-fit : (b.bench0.length ≤ length text0) × (b.bench1.length ≤ length text1)
     texts-fit = by n refl
       where

@@ -3,13 +3,13 @@ use Prim.Native.Nat.{ℕ, zero, suc, ◌+◌, ◌-◌, ◌≤◌, ◌<◌}
 use mathlib.Core.Path.{◌≡◌, refl, sym, ap, ◌∙◌}
 use mathlib.Core.Bool.{Bool, true, false, cond, ◌&&◌}
 use mathlib.Core.List.{List, [], ◌∷◌, ◌++◌, reverse, reverse-append, append_assoc}
-use Rattle.std.specs.Prelude.{Some}
+use Rattle.std.specs.Prelude.{Some, Ok, Err}
 use native.Mathlib.Omega.{arith}
 use lib.ListN.{length, take, drop, length-append, length-reverse, drop_of_length-le}
 use lib.Seq.{take_at, drop_at}
 use lib.Dec.{leb, eqb}
 use borrow.Author.Tests.{leb-true, leb-false, le-leb, lt-leb, eq-eqb, ne_eqb}
-use Rattle.answer.specs.Answer.{Verdict, numbered, in_numbers, Answer}
+use Rattle.answer.specs.Answer.{Verdict, numbered, in_numbers}
 use Rattle.answer.proofs.Below.{both}
 use Rattle.editor.specs.Ledger.{undo, redo}
 use Rattle.editor.specs.Records.{Entry, applied, turned, length_after, lengths_fit, reached}
@@ -25,9 +25,8 @@ use Rattle.benches.specs.Benches.{State, Outcome}
 use Rattle.benches.specs.Layout.{editor_of, bench}
 use Rattle.benches.specs.Calls.{outcome_at}
 use Rattle.bench_records.specs.declared.Pass.{Pass}
-use Rattle.bench_records.specs.declared.Judged.{Judged}
-use Rattle.bench_records.specs.declared.Judged.TheVariants.{Unfit, Sound}
-use Rattle.bench_records.specs.Judging.{judge_of}
+use Rattle.answer.specs.declared.Refused.{Refused}
+use Rattle.bench_records.specs.Judging.{Judged, judge_of}
 use Rattle.bench_records.proofs.Found.{Fit, fit-first, second-named, fit-second, call-unfit}
 use Rattle.bench_records.proofs.Ended.{Fitting, fitting, pass-seen, last-at, next-at}
 use Rattle.bench_calls.specs.Leaving.{Left, placed, edited_to, refused_with}
@@ -287,7 +286,7 @@ module _ {t : State} {s : Side} {p : Pass} (f : Fit t s p) where
   stepped-is true = redo-is ∙ redo-by (leb p.seen b.standing) refl
 
 -- as the code has it: the caller is bench 0, or else bench 1
-module _ (t : State) (n : ℕ) (p : Pass) (d : judge_of t n ≡ Sound p) (forward : Bool) where
+module _ (t : State) (n : ℕ) (p : Pass) (d : judge_of t n ≡ Ok p) (forward : Bool) where
   abbrev left_of : Bench → List ℕ → Left
   left_of b text = stepped_on forward b t.used p text t.history
 
@@ -317,8 +316,8 @@ module _ (t : State) (n : ℕ) (p : Pass) (d : judge_of t n ≡ Sound p) (forwar
   second-steppable q = steppable (fit-second t n refl d q) forward
 
 pub step-unfit :
-    (t : State) (n : ℕ) (forward : Bool) {j : Judged} {a : Answer} → j ≡ judge_of t n → j ≡ Unfit a →
-    stepped_of forward t n ≡ refusing t [] (in_numbers a)
+    (t : State) (n : ℕ) (forward : Bool) {j : Judged} {a : Refused} → j ≡ judge_of t n → j ≡ Err a →
+    stepped_of forward t n ≡ refusing t [] (in_numbers (Err a))
 step-unfit t n false d e = call-unfit t undo n refl d e
 step-unfit t n true d e = call-unfit t redo n refl d e
 

@@ -9,7 +9,7 @@ ghost use Rattle.benches.specs.Benches.{leaves};
 ghost use Rattle.benches.specs.Calls.{no_bench, open_of};
 ghost use Rattle.bench_open.specs.Opens.{in_room, bench_of, refused_with, opened_with, both_of};
 
-use answer::Answer;
+use answer::{Answer, Refusal, Refused};
 use benches::{Bench, Benches, Edited};
 use codec::Kind;
 use ledger::Page;
@@ -18,14 +18,10 @@ use ledger::Page;
 fn in_room(room: usize, answer: Answer) -> Answer
     ensures { in_numbers result ≡ in_room room (in_numbers answer) }
 {
-    if answer::number(answer) != 9 {
-        return answer;
+    match answer {
+        Err(Refused(Refusal::NoRoom, count)) if count <= room => Ok(count),
+        _ => answer,
     }
-    let count = answer::place(answer);
-    if room < count {
-        return answer;
-    }
-    Ok(count)
 }
 
 // What the open of a page would answer: a reading into no room judges and counts, and writes nothing.

@@ -3,7 +3,7 @@ use Prim.Native.Nat.{ℕ, zero, suc, ◌+◌, ◌≤◌}
 use mathlib.Core.Path.{◌≡◌, refl, sym, ap, ◌∙◌}
 use mathlib.Core.Bool.{Bool, true, false, cond, ◌&&◌, ◌||◌, false≢true}
 use mathlib.Core.List.{List, [], ◌∷◌, ◌++◌}
-use Rattle.std.specs.Prelude.{Option, None, Some}
+use Rattle.std.specs.Prelude.{Option, None, Some, Ok, Err}
 use native.Mathlib.Omega.{arith}
 use lib.ListN.{length, take, drop, length-drop, take-append-drop}
 use lib.Seq.{take-add, length-take-le}
@@ -25,11 +25,10 @@ use Rattle.benches.specs.Benches.{State, Outcome, sound_at, judged, records}
 use Rattle.benches.specs.Layout.{long, bench, editor_for}
 use Rattle.benches.specs.Calls.{outcome_at, reply_at}
 use Rattle.bench_records.specs.declared.Pass.{Pass}
-use Rattle.bench_records.specs.declared.Judged.{Judged}
-use Rattle.bench_records.specs.declared.Judged.TheVariants.{Unfit, Sound}
+use Rattle.answer.specs.declared.Refused.{Refused}
 use Rattle.bench_records.specs.Passing.{Passed, leads, pass_sound}
 use Rattle.bench_records.specs.Turning.{side_at}
-use Rattle.bench_records.specs.Judging.{pass_at, judged_at, sound_by, named_by, judge_of}
+use Rattle.bench_records.specs.Judging.{Judged, pass_at, judged_at, unfit, sound_by, named_by, judge_of}
 use Rattle.bench_records.proofs.Passes.{pass-sound}
 
 -- the records found in any words have those words
@@ -132,7 +131,7 @@ pub record Fit (t : State) (s : Side) (p : Pass) : Type 0 where
 module _ (t : State) where
   fit-cases :
       (p : Pass) (s : Side) (l : Bool) (x : Option (List Record)) → long t ≡ l → records t ≡ x → Whole (Tiled t) x →
-      cond l (Unfit (refused_at OverLimit limit)) (sound_by (judged_at t (number_of s) x)) ≡ Sound p → Fit t s p
+      cond l (unfit OverLimit limit) (sound_by (judged_at t (number_of s) x)) ≡ Ok p → Fit t s p
   fit-cases p s true x q r w e = let z : ◌≡◌ {A = ℕ} 0 1 = cc in absurd (omega arith)
   fit-cases p s false None q r w e = let z : ◌≡◌ {A = ℕ} 0 1 = cc in absurd (omega arith)
   fit-cases p s false (Some rs) q r w e =
@@ -149,16 +148,16 @@ module _ (t : State) where
         passes = through (pass_at t rs s) (rw (side-at s) at e);
       }
     where
-      through : (x : Passed) → sound_by x ≡ Sound p → x ≡ Some p
+      through : (x : Passed) → sound_by x ≡ Ok p → x ≡ Some p
       through None e = let z : ◌≡◌ {A = ℕ} 0 1 = cc in absurd (omega arith)
       through (Some q) e = let z : q ≡ p = cc in ap Some z
 
-  module _ {j : Judged} {p : Pass} (n : ℕ) (d : j ≡ judge_of t n) (e : j ≡ Sound p) where
+  module _ {j : Judged} {p : Pass} (n : ℕ) (d : j ≡ judge_of t n) (e : j ≡ Ok p) where
     fit-side : (s : Side) → side_of n ≡ Some s → Fit t s p
     unfolding judge_of
     fit-side s q =
         fit-cases p s (long t) (records t) refl refl (records-tiled t)
-        (ap (λ (x : Option Side). cond (long t) (Unfit (refused_at OverLimit limit)) (named_by t x)) (sym q) ∙ sym d ∙ e)
+        (ap (λ (x : Option Side). cond (long t) (unfit OverLimit limit) (named_by t x)) (sym q) ∙ sym d ∙ e)
 
     -- the caller is bench 0, or else bench 1
     pub fit-first : n ≡ 0 → Fit t first p
@@ -168,12 +167,12 @@ module _ (t : State) where
     unfolding judge_of
     second-named q = by n q (sym d ∙ e)
       where
-        never : (l : Bool) → cond l (Unfit (refused_at OverLimit limit)) (Unfit (refused_at NoSuchBench 0)) ≡ Sound p → ⊥
+        never : (l : Bool) → cond l (unfit OverLimit limit) (unfit NoSuchBench 0) ≡ Ok p → ⊥
         never true e = let z : ◌≡◌ {A = ℕ} 0 1 = cc in omega arith
         never false e = let z : ◌≡◌ {A = ℕ} 0 1 = cc in omega arith
 
         by : (n : ℕ) → (n ≡ 0 → ⊥) →
-            cond (long t) (Unfit (refused_at OverLimit limit)) (named_by t (side_of n)) ≡ Sound p → side_of n ≡ Some second
+            cond (long t) (unfit OverLimit limit) (named_by t (side_of n)) ≡ Ok p → side_of n ≡ Some second
         by zero q e = absurd (q refl)
         by (suc zero) q e = refl
         by (suc (suc n)) q e = absurd (never (long t) e)
@@ -183,7 +182,7 @@ module _ (t : State) where
 
   -- benches that were refused: every call, and the question, gives that answer by its way to refuse
   module _
-      (a : Answer)
+      (a : Refused)
       {R : Type 0}
       (refuse : Verdict → R)
       (call : Side → Option (List Record) → R)
@@ -192,36 +191,36 @@ module _ (t : State) where
     called None = cond (long t) (refuse too_long) (refuse (numbered 20 0))
     called (Some s) = cond (long t) (refuse too_long) (call s (records t))
 
-    refused_as : (b : Answer) → b ≡ a → refuse (in_numbers b) ≡ refuse (in_numbers a)
+    refused_as : (b : Answer) → b ≡ Err a → refuse (in_numbers b) ≡ refuse (in_numbers (Err a))
     refused_as b z = ap (λ (b : Answer). refuse (in_numbers b)) z
 
     unfit-named :
         (s : Side) (l : Bool) (x : Option (List Record)) → Whole (Tiled t) x →
-        cond l (Unfit (refused_at OverLimit limit)) (sound_by (judged_at t (number_of s) x)) ≡ Unfit a →
-        cond l (refuse too_long) (call s x) ≡ refuse (in_numbers a)
+        cond l (unfit OverLimit limit) (sound_by (judged_at t (number_of s) x)) ≡ Err a →
+        cond l (refuse too_long) (call s x) ≡ refuse (in_numbers (Err a))
     unfit-named s true x w e = refused_as (refused_at OverLimit limit) (cc)
     unfit-named s false None w e = none-refused s ∙ refused_as (refused_at Unsound 0) (cc)
     unfit-named s false (Some rs) w e = absurd (broken (pass_at t rs s) refl (rw (side-at s) at e))
       where
-        broken : (x : Passed) → pass_at t rs s ≡ x → sound_by x ≡ Unfit a → ⊥
+        broken : (x : Passed) → pass_at t rs s ≡ x → sound_by x ≡ Err a → ⊥
         broken None q e = pass-through t rs s (w.sound s) q
         broken (Some p) q e = let z : ◌≡◌ {A = ℕ} 0 1 = cc in omega arith
 
     unfit-nobody :
-        (l : Bool) → cond l (Unfit (refused_at OverLimit limit)) (Unfit (refused_at NoSuchBench 0)) ≡ Unfit a →
-        cond l (refuse too_long) (refuse (numbered 20 0)) ≡ refuse (in_numbers a)
+        (l : Bool) → cond l (unfit OverLimit limit) (unfit NoSuchBench 0) ≡ Err a →
+        cond l (refuse too_long) (refuse (numbered 20 0)) ≡ refuse (in_numbers (Err a))
     unfit-nobody true e = refused_as (refused_at OverLimit limit) (cc)
     unfit-nobody false e = refused_as (refused_at NoSuchBench 0) (cc)
 
     unfit-side :
-        (x : Option Side) → cond (long t) (Unfit (refused_at OverLimit limit)) (named_by t x) ≡ Unfit a →
-        called x ≡ refuse (in_numbers a)
+        (x : Option Side) → cond (long t) (unfit OverLimit limit) (named_by t x) ≡ Err a →
+        called x ≡ refuse (in_numbers (Err a))
     unfit-side None e = unfit-nobody (long t) e
     unfit-side (Some s) e = unfit-named s (long t) (records t) (records-tiled t) e
 
-    unfit : {j : Judged} (n : ℕ) → j ≡ judge_of t n → j ≡ Unfit a → called (side_of n) ≡ refuse (in_numbers a)
+    unsound : {j : Judged} (n : ℕ) → j ≡ judge_of t n → j ≡ Err a → called (side_of n) ≡ refuse (in_numbers (Err a))
     unfolding judge_of
-    unfit n d e = unfit-side (side_of n) (sym d ∙ e)
+    unsound n d e = unfit-side (side_of n) (sym d ∙ e)
 
   module _ (c : editor.Call) where
     abbrev call : Side → Option (List Record) → Outcome
@@ -232,17 +231,17 @@ module _ (t : State) where
     call_none s = refl
 
     call-named :
-        (a : Answer) → overlong c ≡ false → (x : Option Side) →
+        (a : Refused) → overlong c ≡ false → (x : Option Side) →
         outcome_at t x c ≡ called a (refusing t (output_of c)) call call_none x
     unfolding outcome_at layout.outcome_of
     call-named a few None = rw few
     call-named a few (Some s) = rw few
 
     pub call-unfit :
-        {j : Judged} {a : Answer} (n : ℕ) → overlong c ≡ false → j ≡ judge_of t n → j ≡ Unfit a →
-        outcome_at t (side_of n) c ≡ refusing t (output_of c) (in_numbers a)
+        {j : Judged} {a : Refused} (n : ℕ) → overlong c ≡ false → j ≡ judge_of t n → j ≡ Err a →
+        outcome_at t (side_of n) c ≡ refusing t (output_of c) (in_numbers (Err a))
     call-unfit {a = a} n few d e =
-        call-named a few (side_of n) ∙ unfit a (refusing t (output_of c)) call call_none n d e
+        call-named a few (side_of n) ∙ unsound a (refusing t (output_of c)) call call_none n d e
 
   abbrev refuse : Verdict → Reply
   refuse v = record { verdict = v; unchanged = false }
@@ -253,11 +252,11 @@ module _ (t : State) where
   ask-none : (s : Side) → ask s None ≡ refuse (numbered 14 0)
   ask-none s = refl
 
-  ask-named : (a : Answer) (x : Option Side) → reply_at t x ≡ called a refuse ask ask-none x
+  ask-named : (a : Refused) (x : Option Side) → reply_at t x ≡ called a refuse ask ask-none x
   unfolding reply_at layout.reply_of
   ask-named a None = refl
   ask-named a (Some s) = refl
 
   pub ask-unfit :
-      {j : Judged} {a : Answer} (n : ℕ) → j ≡ judge_of t n → j ≡ Unfit a → reply_at t (side_of n) ≡ refuse (in_numbers a)
-  ask-unfit {a = a} n d e = ask-named a (side_of n) ∙ unfit a refuse ask ask-none n d e
+      {j : Judged} {a : Refused} (n : ℕ) → j ≡ judge_of t n → j ≡ Err a → reply_at t (side_of n) ≡ refuse (in_numbers (Err a))
+  ask-unfit {a = a} n d e = ask-named a (side_of n) ∙ unsound a refuse ask ask-none n d e

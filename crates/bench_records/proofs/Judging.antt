@@ -8,24 +8,22 @@ use native.Mathlib.Omega.{arith}
 use lib.ListN.{length, take, drop}
 use lib.Seq.{length-take-le}
 use borrow.Author.Tests.{le-leb, lt-leb}
-use Rattle.answer.specs.Answer.{limit, in_numbers, too_long, refused_at, Answer}
+use Rattle.answer.specs.Answer.{limit}
 use Rattle.answer.specs.declared.Refusal.TheVariants.{OverLimit, NoSuchBench}
-use Rattle.answer.proofs.Once.{numbers-once}
 use Rattle.editor.specs.Editor.{over}
 use Rattle.ledger.specs.Words.{zeros}
 use Rattle.benches.specs.declared.Bench.{Bench}
 use Rattle.benches.specs.Words.{Side, first, second, side_of, at, Record, records_in, own}
 use Rattle.benches.specs.Benches.{State, bench_sound, sound_at, judged, records}
 use Rattle.bench_records.specs.declared.Pass.{Pass}
-use Rattle.bench_records.specs.declared.Judged.TheVariants.{Unfit}
 use Rattle.bench_records.specs.Passing.{Passed, passed, begun, leads, pass_sound}
 use Rattle.bench_records.specs.Turning.{side_at}
-use Rattle.bench_records.specs.Judging.{text_fits, fitted_by, fitted_of, pass_at, judged_at, sound_by, named_by, judge_of}
+use Rattle.bench_records.specs.Judging.{text_fits, fitted_by, fitted_of, pass_at, judged_at, unfit, sound_by, named_by, judge_of}
 use Rattle.bench_records.proofs.Passes.{pass-sound}
 
 -- a bench that is not sound, or that is and where its pass stands
 pub data Fitted (sound : Bool) (pass : Passed) : Passed → Type 0 where
-  unfit : sound ≡ false → Fitted sound pass None
+  off : sound ≡ false → Fitted sound pass None
   fit : (p : Pass) → sound ≡ true → pass ≡ Some p → Fitted sound pass (Some p)
 
 and-false : (a : Bool) → (a && false) ≡ false
@@ -35,13 +33,13 @@ and-false false = refl
 module _ (b : Bench) where
   fitted-case : (t : Bool) (pass : Passed) → Fitted (t && leads b pass) pass (cond t (fitted_by b pass) None)
   unfolding leads
-  fitted-case false pass = unfit refl
-  fitted-case true None = unfit refl
+  fitted-case false pass = off refl
+  fitted-case true None = off refl
   fitted-case true (Some p) = by _ refl
     where
       by : (t : Bool) → leads b (Some p) ≡ t → Fitted (leads b (Some p)) (Some p) (cond t (Some p) None)
       by true e = fit p e refl
-      by false e = unfit e
+      by false e = off e
 
   module _ (text : List ℕ) (used mine : ℕ) (words : List ℕ) (all : length words ≡ used) where
     pub fitted_none : records_in used words ≡ None → fitted_of b text used mine words ≡ None
@@ -68,14 +66,14 @@ module _ {sound : Bool} {pass r : Passed} (f : Fitted sound pass r) where
   unfit-is = told f
     where
       told : {r : Passed} → Fitted sound pass r → r ≡ None → sound ≡ false
-      told (unfit q) e = q
+      told (off q) e = q
       told (fit p q u) e = let z : ◌≡◌ {A = ℕ} 0 1 = cc in absurd (omega arith)
 
   fit_is : (p : Pass) → r ≡ Some p → (sound ≡ true) × (pass ≡ Some p)
   fit_is p = told f
     where
       told : {r : Passed} → Fitted sound pass r → r ≡ Some p → (sound ≡ true) × (pass ≡ Some p)
-      told (unfit q) e = let z : ◌≡◌ {A = ℕ} 0 1 = cc in absurd (omega arith)
+      told (off q) e = let z : ◌≡◌ {A = ℕ} 0 1 = cc in absurd (omega arith)
       told (fit p q u) e = (q, u ∙ e)
 
 -- both benches, by the tests in order
@@ -159,33 +157,29 @@ module _ (t : State) (mine : ℕ) where
 
 -- 16, then 20, then 14
 module _ (t : State) (n : ℕ) where
-  module _ (a : Answer) (e : in_numbers a ≡ too_long) where
-    answered : Unfit a ≡ Unfit (refused_at OverLimit limit)
-    answered = rw (numbers-once a (refused_at OverLimit limit) e)
+  pub long_first : over t.texts.bench0 ≡ true → unfit OverLimit limit ≡ judge_of t n
+  unfolding judge_of
+  long_first q = rw q
 
-    pub long-first : over t.texts.bench0 ≡ true → Unfit a ≡ judge_of t n
-    unfolding judge_of
-    long-first q = answered ∙ rw q
+  pub long_second : over t.texts.bench0 ≡ false → over t.texts.bench1 ≡ true → unfit OverLimit limit ≡ judge_of t n
+  unfolding judge_of
+  long_second q r = rw (q, r)
 
-    pub long-second : over t.texts.bench0 ≡ false → over t.texts.bench1 ≡ true → Unfit a ≡ judge_of t n
-    unfolding judge_of
-    long-second q r = answered ∙ rw (q, r)
-
-    pub long-history :
-        over t.texts.bench0 ≡ false → over t.texts.bench1 ≡ false → over t.history ≡ true →
-        Unfit a ≡ judge_of t n
-    unfolding judge_of
-    long-history q r h = answered ∙ rw (q, r, h)
+  pub long_history :
+      over t.texts.bench0 ≡ false → over t.texts.bench1 ≡ false → over t.history ≡ true →
+      unfit OverLimit limit ≡ judge_of t n
+  unfolding judge_of
+  long_history q r h = rw (q, r, h)
 
   module _
       (q : over t.texts.bench0 ≡ false)
       (r : over t.texts.bench1 ≡ false)
       (h : over t.history ≡ false) where
-    pub nobody : 1 < n → Unfit (refused_at NoSuchBench 0) ≡ judge_of t n
+    pub nobody : 1 < n → unfit NoSuchBench 0 ≡ judge_of t n
     unfolding judge_of
     nobody m = rw (q, r, h) (by n m)
       where
-        by : (k : ℕ) → 1 < k → Unfit (refused_at NoSuchBench 0) ≡ named_by t (side_of k)
+        by : (k : ℕ) → 1 < k → unfit NoSuchBench 0 ≡ named_by t (side_of k)
         by zero m = absurd (omega arith)
         by (suc zero) m = absurd (omega arith)
         by (suc (suc k)) m = refl

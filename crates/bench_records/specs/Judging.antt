@@ -1,6 +1,10 @@
 -- What the code finds of a bench, over its words.
-use Rattle.std.specs.Prelude.{ℕ, Bool, cond, ◌&&◌, List, length, drop, leb, eqb, Option, None, Some}
-use Rattle.answer.specs.Answer.{limit, refused_at}
+use Rattle.std.specs.Prelude.{ℕ, Bool, cond, ◌&&◌, List, length, drop, leb, eqb, Option, None, Some, Err}
+use Rattle.std.specs.declared.result.Result.{Result}
+use Rattle.std.specs.Option.{ok_or}
+use Rattle.answer.specs.Answer.{limit}
+use Rattle.answer.specs.declared.Refusal.{Refusal}
+use Rattle.answer.specs.declared.Refused.{Refused}
 use Rattle.answer.specs.declared.Refusal.TheVariants.{Unsound, OverLimit, NoSuchBench}
 use Rattle.ledger.specs.Words.{zeros}
 use Rattle.ledger.specs.Parts.{mark_within}
@@ -9,8 +13,6 @@ use Rattle.benches.specs.Words.{Side, number_of, side_of, at, Record}
 use Rattle.benches.specs.Benches.{State, records}
 use Rattle.benches.specs.Layout.{long}
 use Rattle.bench_records.specs.declared.Pass.{Pass}
-use Rattle.bench_records.specs.declared.Judged.{Judged}
-use Rattle.bench_records.specs.declared.Judged.TheVariants.{Unfit, Sound}
 use Rattle.bench_records.specs.Passing.{Passed, passed, begun}
 use Rattle.bench_records.specs.Turning.{side_at, pass_in}
 
@@ -42,16 +44,22 @@ abbrev pub judged_at : State → ℕ → Option (List Record) → Passed
 judged_at t mine None = None
 judged_at t mine (Some rs) = pass_at t rs (side_at mine)
 
+-- a refusal, or where the pass stands
+abbrev pub Judged : Type 0
+Judged = Result Pass Refused
+
+abbrev pub unfit : Refusal → ℕ → Judged
+unfit why place = Err (record { 0 = why; 1 = place })
+
 -- 14, or where the pass stands
 abbrev pub sound_by : Passed → Judged
-sound_by None = Unfit (refused_at Unsound 0)
-sound_by (Some p) = Sound p
+sound_by found = ok_or found (record { 0 = Unsound; 1 = 0 })
 
 -- 20, then 14
 abbrev pub named_by : State → Option Side → Judged
-named_by t None = Unfit (refused_at NoSuchBench 0)
+named_by t None = unfit NoSuchBench 0
 named_by t (Some s) = sound_by (judged_at t (number_of s) (records t))
 
 -- 16 comes first
 unfoldable pub judge_of : State → ℕ → Judged
-judge_of t n = cond (long t) (Unfit (refused_at OverLimit limit)) (named_by t (side_of n))
+judge_of t n = cond (long t) (unfit OverLimit limit) (named_by t (side_of n))

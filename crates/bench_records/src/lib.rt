@@ -5,10 +5,10 @@ ghost use Rattle.std.specs.Prelude.{◌≡◌, ◌+◌, ◌≤◌, ◌<◌, ◌^
 ghost use Rattle.answer.specs.Answer.{limit};
 ghost use Rattle.bench_records.specs.Passing.{onward, begun};
 ghost use Rattle.benches.specs.Benches.{state_of, records};
-ghost use Rattle.bench_records.specs.Judging.{text_fits, leads_as, fitted_of, judged_at, sound_by, judge_of};
+ghost use Rattle.bench_records.specs.Judging.{text_fits, leads_as, fitted_of, judged_at, judge_of};
 ghost use Rattle.bench_records.specs.Turning.{head_at, size_at, Bounded, turned, pass_in, pass_from};
 
-use answer::{Answer, Refusal, Refused};
+use answer::{Refusal, Refused};
 use benches::{Bench, Benches};
 
 // The first four words of a record.
@@ -38,13 +38,6 @@ pub struct Pass {
 struct Spot {
     at: usize,
     pass: Pass,
-}
-
-// What is found of both benches and their buffers: the refusal 16, 20 or 14, or where the caller's pass stands.
-#[derive(Clone, Copy)]
-pub enum Judged {
-    Unfit(Answer),
-    Sound(Pass),
 }
 
 fn head_at(history: &[u32], at: usize) -> Head
@@ -244,33 +237,30 @@ fn survey(b: Benches, text0: &[u32], text1: &[u32], history: &[u32], mine: usize
     Some(second)
 }
 
-// 14, or where the pass stands.
-fn sound_by(found: Option<Pass>) -> Judged
-    ensures { result ≡ sound_by found }
-{
-    let Some(p) = found else {
-        return Judged::Unfit(Err(Refused(Refusal::Unsound, 0)));
-    };
-    Judged::Sound(p)
-}
-
-// For the calls of the bench of a number: 16, 20, 14, or where that bench's pass stands.
-#[tactic(auto, using(crate::proofs::Judging::nobody))]
-pub fn judge(b: Benches, bench: usize, text0: &[u32], text1: &[u32], history: &[u32]) -> Judged
+// What is found of both benches and their buffers, for the calls of the bench of a number: 16, 20, 14, or else where
+// that bench's pass stands.
+#[tactic(auto, using(crate::proofs::Judging::long_first, crate::proofs::Judging::long_second,
+    crate::proofs::Judging::long_history, crate::proofs::Judging::nobody), unfolding(answer::specs::Answer::limit))]
+pub fn judge(
+    b: Benches,
+    bench: usize,
+    text0: &[u32],
+    text1: &[u32],
+    history: &[u32],
+) -> Result<Pass, Refused>
     ensures { result ≡ judge_of (state_of b text0.now text1.now history.now) bench }
 {
     if answer::over_limit(text0.len()) {
-        return Judged::Unfit(answer::too_long());
+        return Err(Refused(Refusal::OverLimit, answer::LIMIT));
     }
     if answer::over_limit(text1.len()) {
-        return Judged::Unfit(answer::too_long());
+        return Err(Refused(Refusal::OverLimit, answer::LIMIT));
     }
     if answer::over_limit(history.len()) {
-        return Judged::Unfit(answer::too_long());
+        return Err(Refused(Refusal::OverLimit, answer::LIMIT));
     }
     if 1 < bench {
-        return Judged::Unfit(Err(Refused(Refusal::NoSuchBench, 0)));
+        return Err(Refused(Refusal::NoSuchBench, 0));
     }
-    let found = survey(b, text0, text1, history, bench);
-    sound_by(found)
+    survey(b, text0, text1, history, bench).ok_or(Refused(Refusal::Unsound, 0))
 }

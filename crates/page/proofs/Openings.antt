@@ -12,7 +12,6 @@ use Rattle.std.specs.declared.result.Result.TheVariants.{Ok, Err}
 use Rattle.answer.specs.declared.Refused.{Refused}
 use Rattle.answer.specs.Answer.{Verdict, numbered, in_numbers, too_long, Answer}
 use Rattle.std.specs.Prelude.{Some}
-use Rattle.answer.specs.declared.Refusal.{Refusal}
 use Rattle.answer.specs.Output as output
 use Rattle.answer.proofs.Once.{number-pos}
 use Rattle.reading.specs.Reading.{Ending, accepted, fault, on_ending}

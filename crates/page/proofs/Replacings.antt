@@ -8,6 +8,7 @@ use lib.ListN.{length, take, drop, length-append, length-take, length-drop}
 use lib.Seq.{length-take-le, take-take}
 use lib.Dec.{ltb}
 use borrow.Author.Tests.{lt-ltb, le-ltb}
+use Rattle.std.specs.Prelude.{Err}
 use Rattle.answer.specs.Answer.{numbered, in_numbers, too_long, Answer}
 use Rattle.codec.specs.Kinds.{first_unwritable}
 use Rattle.ledger.specs.Words.{Entry, Parted, size_of, words_of, pad}
@@ -20,8 +21,7 @@ use Rattle.editor.specs.Layout.{laid, call_on, outcome_of}
 use Rattle.ledger.specs.Layout.{editor_of, editor_for, space_in, page}
 use Rattle.ledger.proofs.Words.{drop-take}
 use Rattle.ledger.specs.declared.Edited.{Edited}
-use Rattle.records.specs.declared.Judged.{Judged}
-use Rattle.records.specs.declared.Judged.TheVariants.{Unfit}
+use Rattle.answer.specs.declared.Refused.{Refused}
 use Rattle.records.specs.Walking.{judge_of}
 use Rattle.records.proofs.Found.{Fit, unfit}
 use Rattle.splice.specs.Splice.{spliced}
@@ -131,7 +131,7 @@ module _ (s : State) (place count : ℕ) (cells : List ℕ) where
       (by-test (laid page s) (ltb (length s.history) (s.page.done + size_of step)) refl refl)))
 
   module _ (few : over cells ≡ false) where
-    pub replace-unfit : {j : Judged} {a : Answer} → j ≡ judge_of s → j ≡ Unfit a → replace_of s place count cells ≡ refusing s [] (in_numbers a)
+    pub replace-unfit : {j : Answer} {a : Refused} → j ≡ judge_of s → j ≡ Err a → replace_of s place count cells ≡ refusing s [] (in_numbers (Err a))
     unfolding outcome_of call_on
     replace-unfit d e = rw few (unfit s _ (refusing s []) (λ x. call_on page s (replace place count cells) (editor_for s x)) refl d e)
 

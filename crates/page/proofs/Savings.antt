@@ -9,6 +9,7 @@ use lib.ListN.{length, get_or, drop, set, drop_of_length-le}
 use lib.Seq.{drop-cons}
 use lib.Dec.{eqb}
 use borrow.Author.Tests.{lt-ltb, le-ltb, eq-eqb, ne_eqb}
+use Rattle.std.specs.Prelude.{Err}
 use Rattle.std.specs.declared.result.Result.TheVariants.{Ok, Err}
 use Rattle.answer.specs.Answer.{numbered, number_of, in_numbers, too_long, refused_at, Answer}
 use Rattle.answer.specs.declared.Refusal.TheVariants.{NoRoom}
@@ -25,8 +26,7 @@ use Rattle.editor.specs.Editor.{saved_as, save_standing}
 use Rattle.editor.specs.Layout.{laid, call_on, outcome_of}
 use Rattle.ledger.specs.Layout.{editor_of, editor_for, space_in, page}
 use Rattle.ledger.proofs.Words.{sizes}
-use Rattle.records.specs.declared.Judged.{Judged}
-use Rattle.records.specs.declared.Judged.TheVariants.{Unfit}
+use Rattle.answer.specs.declared.Refused.{Refused}
 use Rattle.records.specs.Walking.{judge_of}
 use Rattle.records.proofs.Found.{Fit, unfit}
 use Rattle.page.specs.Outcomes.{bare, saved_in, saved_page}
@@ -96,7 +96,7 @@ module _ (s : State) (arrived out : List ℕ) where
   save-long q = rw q
 
   module _ (few : over arrived ≡ false) where
-    pub save-unfit : {j : Judged} {a : Answer} → j ≡ judge_of s → j ≡ Unfit a → save_of s arrived out ≡ refusing s out (in_numbers a)
+    pub save-unfit : {j : Answer} {a : Refused} → j ≡ judge_of s → j ≡ Err a → save_of s arrived out ≡ refusing s out (in_numbers (Err a))
     unfolding outcome_of call_on
     save-unfit d e = rw few (unfit s _ (refusing s out) (λ x. call_on page s (save arrived out) (editor_for s x)) refl d e)
 

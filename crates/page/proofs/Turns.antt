@@ -8,6 +8,7 @@ use lib.ListN.{length, get_or, take, drop, take-append-drop}
 use lib.Seq.{length-take-le}
 use lib.Dec.{leb}
 use borrow.Author.Tests.{leb-true, le-leb}
+use Rattle.std.specs.Prelude.{Err}
 use Rattle.answer.specs.Answer.{numbered, in_numbers, Answer}
 use Rattle.answer.proofs.Below.{both}
 use Rattle.ledger.specs.Words.{Entry, words_of, size_of, length_after, lengths_fit, reached}
@@ -23,8 +24,7 @@ use Rattle.ledger.proofs.Words.{reached-append, reached-fits}
 use Rattle.ledger.proofs.Sound.{Sound}
 use Rattle.records.specs.Walking.{last_begin, judge_of}
 use Rattle.records.proofs.Judging.{Frame}
-use Rattle.records.specs.declared.Judged.{Judged}
-use Rattle.records.specs.declared.Judged.TheVariants.{Unfit}
+use Rattle.answer.specs.declared.Refused.{Refused}
 use Rattle.records.proofs.Found.{Fit, unfit}
 use Rattle.page.specs.declared.Span.{Span}
 use Rattle.page.specs.declared.Change.{Change}
@@ -215,7 +215,7 @@ module _ (s : State) where
           stepped-next forward ∙ none-next last f.frame forward f.parted.standing f.parted.undone f.sound f.begins (rw e at q)
 
   -- a page that was refused, in either direction
-  pub step-unfit : (forward : Bool) {j : Judged} {a : Answer} → j ≡ judge_of s → j ≡ Unfit a → stepped_of forward s ≡ refusing s [] (in_numbers a)
+  pub step-unfit : (forward : Bool) {j : Answer} {a : Refused} → j ≡ judge_of s → j ≡ Err a → stepped_of forward s ≡ refusing s [] (in_numbers (Err a))
   unfolding outcome_of call_on
   step-unfit false d e = unfit s _ (refusing s []) (λ x. call_on page s undo (editor_for s x)) refl d e
   step-unfit true d e = unfit s _ (refusing s []) (λ x. call_on page s redo (editor_for s x)) refl d e

@@ -3,10 +3,9 @@
 
 mod output;
 
-ghost use Rattle.std.specs.Prelude.{◌≡◌, ◌+◌, ◌-◌, ◌≤◌, ◌<◌, ◌^◌, [], ◌++◌, length, take, replicate, Some};
+ghost use Rattle.std.specs.Prelude.{◌≡◌, ◌+◌, ◌-◌, ◌≤◌, ◌<◌, ◌^◌, [], ◌++◌, length, take, replicate, Some, Ok};
 ghost use Rattle.answer.specs.Answer.{limit, numbered};
 ghost use Rattle.answer.specs.Output as output;
-ghost use Rattle.records.specs.declared.Judged.TheVariants.{Sound};
 ghost use Rattle.records.specs.Walking.{judge_of};
 ghost use Rattle.ledger.specs.Words.{words_of, pad};
 ghost use Rattle.editor.specs.Marks.{replaced_mark, unchanged_at};
@@ -19,7 +18,6 @@ ghost use Rattle.page.specs.Outcomes.{edited_as, replace_fitting, replace_sound,
 use answer::{Answer, Refusal, Refused};
 use codec::Kind;
 use ledger::{Asked, Edited, Page};
-use records::Judged;
 
 // Words of the history: those of the step to be moved over, or none.
 #[derive(Clone, Copy)]
@@ -135,7 +133,7 @@ pub fn change_at(history: &[u32], at: usize, forward: bool) -> Change
 
 // On a sound page: 13, or the step done again or taken back.
 fn move_over(page: Page, forward: bool, last: usize, text: &mut [u32], history: &[u32]) -> Edited
-    requires { judge_of (state_of page text.old history.now) ≡ Sound last }
+    requires { judge_of (state_of page text.old history.now) ≡ Ok last }
     ensures { leaves result text.new history.now
         ≡ stepped_of forward (state_of page text.old history.now) }
 {
@@ -161,10 +159,9 @@ fn step_over(page: Page, forward: bool, text: &mut [u32], history: &[u32]) -> Ed
     ensures { leaves result text.new history.now
         ≡ stepped_of forward (state_of page text.old history.now) }
 {
-    let found = records::judge(page, &*text, history);
-    match found {
-        Judged::Unfit(answer) => refused(page, answer),
-        Judged::Sound(last) => move_over(page, forward, last, &mut *text, history),
+    match records::judge(page, &*text, history) {
+        Err(why) => refused(page, Err(why)),
+        Ok(last) => move_over(page, forward, last, &mut *text, history),
     }
 }
 
@@ -288,10 +285,9 @@ pub fn replace(
     if answer::over_limit(cells.len()) {
         return refused(page, answer::too_long());
     }
-    let found = records::judge(page, &*text, &*history);
-    match found {
-        Judged::Unfit(answer) => refused(page, answer),
-        Judged::Sound(_) => replace_sound(page, place, count, cells, &mut *text, &mut *history),
+    match records::judge(page, &*text, &*history) {
+        Err(why) => refused(page, Err(why)),
+        Ok(_) => replace_sound(page, place, count, cells, &mut *text, &mut *history),
     }
 }
 
@@ -392,11 +388,9 @@ pub fn save(page: Page, text: &[u32], history: &[u32], arrived: &[u8], out: &mut
     if answer::over_limit(arrived.len()) {
         return refused(page, answer::too_long());
     }
-    let found = records::judge(page, text, history);
-    let length = page.length;
-    match found {
-        Judged::Unfit(answer) => refused(page, answer),
-        Judged::Sound(_) => save_sound(page, &text[..length], arrived, &mut *out),
+    match records::judge(page, text, history) {
+        Err(why) => refused(page, Err(why)),
+        Ok(_) => save_sound(page, &text[..page.length], arrived, &mut *out),
     }
 }
 
@@ -414,12 +408,11 @@ pub fn told(page: Page) -> Asked
 pub fn unchanged(page: Page, text: &[u32], history: &[u32]) -> Asked
     ensures { replies result ≡ unchanged_of (state_of page text.now history.now) }
 {
-    let found = records::judge(page, text, history);
-    match found {
-        Judged::Unfit(answer) => Asked {
-            answer,
+    match records::judge(page, text, history) {
+        Err(why) => Asked {
+            answer: Err(why),
             unchanged: false,
         },
-        Judged::Sound(_) => told(page),
+        Ok(_) => told(page),
     }
 }

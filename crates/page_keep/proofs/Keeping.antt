@@ -9,6 +9,7 @@ use native.Mathlib.Nat.{zero-add}
 use lib.ListN.{length, take, length-append}
 use lib.Seq.{sets, sets-eq, length-take-le}
 use borrow.Author.Tests.{lt-ltb, le-ltb}
+use Rattle.std.specs.Prelude.{Err}
 use Rattle.std.specs.declared.result.Result.TheVariants.{Ok}
 use Rattle.answer.specs.Answer.{numbered, in_numbers, too_long, refused_at, Answer}
 use Rattle.answer.specs.declared.Refusal.TheVariants.{NoRoom}
@@ -17,8 +18,7 @@ use Rattle.answer.specs.Output.{leaves, refusing, filled, deliver}
 use Rattle.ledger.specs.declared.Page.{Page}
 use Rattle.ledger.specs.Page.{State, text_in}
 use Rattle.ledger.specs.Calls.{over}
-use Rattle.records.specs.declared.Judged.{Judged}
-use Rattle.records.specs.declared.Judged.TheVariants.{Unfit}
+use Rattle.answer.specs.declared.Refused.{Refused}
 use Rattle.records.specs.Walking.{judge_of}
 use Rattle.records.proofs.Found.{Fit, unfit}
 use Rattle.parsing.specs.Digits.{groups}
@@ -152,7 +152,7 @@ module _ (s : State) (arrived out : List ℕ) where
   keep-long a q e = rw (q, e)
 
   module _ (few : over arrived ≡ false) where
-    pub keep-unfit : {j : Judged} {a : Answer} → j ≡ judge_of s → j ≡ Unfit a → leaves a out ≡ keep_of s arrived out
+    pub keep-unfit : {j : Answer} {a : Refused} → j ≡ judge_of s → j ≡ Err a → leaves (Err a) out ≡ keep_of s arrived out
     unfolding keep_of keep_parted
     keep-unfit {j} {a} d e = rw few (sym (unfit s a (λ v. refusing v out) (keep_parted (content_of s arrived) out) refl d
         e))

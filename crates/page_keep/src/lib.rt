@@ -17,7 +17,6 @@ ghost use Rattle.page_keep.specs.Inner.{form_line, head_of, content_by, is_long}
 use answer::{Answer, Refusal, Refused};
 use codec::Kind;
 use ledger::Page;
-use records::Judged;
 
 fn name_size(kind: Kind) -> usize
     ensures { (result ≡ length (name_of kind)) × (result ≤ 5) }
@@ -152,11 +151,6 @@ pub fn keep(page: Page, text: &[u32], history: &[u32], arrived: &[u8], out: &mut
     if answer::over_limit(arrived.len()) {
         return answer::too_long();
     }
-    let found = records::judge(page, text, history);
-    let length = page.length;
-    let used = page.used;
-    match found {
-        Judged::Unfit(answer) => answer,
-        Judged::Sound(_) => keep_sound(page, &text[..length], &history[..used], arrived, &mut *out),
-    }
+    records::judge(page, text, history)?;
+    keep_sound(page, &text[..page.length], &history[..page.used], arrived, &mut *out)
 }

@@ -35,7 +35,8 @@ pub fn word_at(s: &[u8], at: usize) -> u32
     v
 }
 
-// The bytes of digits from a place on go to the front of a buffer.
+// The bytes of digits from a place on go to the front of a buffer. Its elements and its reader differ from those of
+// `read_words`: a generic function would be no plainer than the one line.
 pub fn read_bytes(s: &[u8], from: usize, n: usize, out: &mut [u8])
     requires { (from + n * 2 ≤ length s.now) × (n ≤ length out.old) }
     ensures { out.new ≡ filled (hexes_at s.now from 2 n) out.old }

@@ -4,7 +4,7 @@ use mathlib.Core.Path.{◌≡◌, refl, sym, ap, ◌∙◌}
 use mathlib.Core.Bool.{Bool, true, false, cond, ◌||◌}
 use mathlib.Core.List.{List, reverse_aux}
 use Rattle.answer.specs.declared.Refused.{Refused}
-use Rattle.std.specs.Prelude.{Option, None, Some}
+use Rattle.std.specs.Prelude.{Option, None, Some, Ok, Err}
 use native.Mathlib.Omega.{arith}
 use lib.ListN.{length, length-take}
 use borrow.Author.Tests.{ltb-false}
@@ -16,8 +16,6 @@ use Rattle.ledger.specs.Page.{State, records}
 use Rattle.ledger.specs.Calls.{over}
 use Rattle.ledger.proofs.Words.{Whole, sizes-reverse, length-words}
 use Rattle.ledger.proofs.Sound.{Sound, framed-parts, records-sound}
-use Rattle.records.specs.declared.Judged.{Judged}
-use Rattle.records.specs.declared.Judged.TheVariants as judged
 use Rattle.records.specs.Walking.{last_begin, judged_as, judge_of}
 use Rattle.records.proofs.Judging.{Frame}
 
@@ -46,7 +44,7 @@ module _ (s : State) where
 
   fit-cases :
       (last : ℕ) (t : Bool) (x : Option Parted) → (over s.text || over s.history) ≡ t → records s ≡ x → Whole (Sound s) x →
-      cond t (judged.Unfit (refused_at OverLimit limit)) (judged_as s.page.done x) ≡ judged.Sound last → Fit s last
+      cond t (refused_at OverLimit limit) (judged_as s.page.done x) ≡ Ok last → Fit s last
   fit-cases last true x q r w e = let z : ◌≡◌ {A = ℕ} 0 1 = cc in absurd (omega arith)
   fit-cases last false None q r w e = let z : ◌≡◌ {A = ℕ} 0 1 = cc in absurd (omega arith)
   fit-cases last false (Some v) q r w e =
@@ -62,26 +60,26 @@ module _ (s : State) where
         frame = sound-frame v w;
       }
 
-  pub fit : {j : Judged} {last : ℕ} → j ≡ judge_of s → j ≡ judged.Sound last → Fit s last
+  pub fit : {j : Answer} {last : ℕ} → j ≡ judge_of s → j ≡ Ok last → Fit s last
   unfolding judge_of
   fit d e = fit-cases _ (over s.text || over s.history) (records s) refl refl (records-sound s) (sym d ∙ e)
 
   -- a page that was refused: every call, and the question, gives that answer, 16 or 14, by its way to refuse
   module _
-      (a : Answer)
+      (a : Refused)
       {R : Type 0}
       (refuse : Verdict → R)
       (call : Option Parted → R)
       (none-refused : call None ≡ refuse (numbered 14 0)) where
     unfit-cases :
-        (t : Bool) (x : Option Parted) → cond t (judged.Unfit (refused_at OverLimit limit)) (judged_as s.page.done x) ≡ judged.Unfit a →
-        cond t (refuse too_long) (call x) ≡ refuse (in_numbers a)
-    unfit-cases true x e = let z : refused_at OverLimit limit ≡ a = cc in ap (λ (b : Answer). refuse (in_numbers b)) z
-    unfit-cases false None e = let z : refused_at Unsound 0 ≡ a = cc in none-refused ∙ ap (λ (b : Answer). refuse (in_numbers b)) z
+        (t : Bool) (x : Option Parted) → cond t (refused_at OverLimit limit) (judged_as s.page.done x) ≡ Err a →
+        cond t (refuse too_long) (call x) ≡ refuse (in_numbers (Err a))
+    unfit-cases true x e = let z : refused_at OverLimit limit ≡ Err a = cc in ap (λ (b : Answer). refuse (in_numbers b)) z
+    unfit-cases false None e = let z : refused_at Unsound 0 ≡ Err a = cc in none-refused ∙ ap (λ (b : Answer). refuse (in_numbers b)) z
     unfit-cases false (Some v) e = let z : ◌≡◌ {A = ℕ} 0 1 = cc in absurd (omega arith)
 
     pub unfit :
-        {j : Judged} → j ≡ judge_of s → j ≡ judged.Unfit a →
-        cond (over s.text || over s.history) (refuse too_long) (call (records s)) ≡ refuse (in_numbers a)
+        {j : Answer} → j ≡ judge_of s → j ≡ Err a →
+        cond (over s.text || over s.history) (refuse too_long) (call (records s)) ≡ refuse (in_numbers (Err a))
     unfolding judge_of
     unfit d e = unfit-cases (over s.text || over s.history) (records s) (sym d ∙ e)

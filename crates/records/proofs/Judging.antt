@@ -22,7 +22,6 @@ use Rattle.ledger.specs.Calls.{over}
 use Rattle.ledger.proofs.Words.{Whole, drop-take, words, sizes, length-words, exact}
 use Rattle.ledger.proofs.Sound.{framed-parts}
 use Rattle.ledger.proofs.Parts.{two-parts}
-use Rattle.records.specs.declared.Judged.TheVariants.{Unfit}
 use Rattle.records.specs.Walking.{Walk, last_from, walk_of, walk_cut, last_begin, last_of, judged_as, judge_of}
 use Rattle.records.proofs.Walks.{records-enough}
 use Rattle.records.proofs.Cuts.{led, broken}
@@ -163,14 +162,14 @@ module _ (p : Page) (t h : List ℕ) where
 
   -- 16 comes first
   module _ (a : Answer) (e : in_numbers a ≡ too_long) where
-    answered : Unfit a ≡ Unfit (refused_at OverLimit limit)
-    answered = rw (numbers-once a (refused_at OverLimit limit) e)
+    answered : a ≡ refused_at OverLimit limit
+    answered = numbers-once a (refused_at OverLimit limit) e
 
-    pub long-text : over t ≡ true → Unfit a ≡ judge_of s
+    pub long-text : over t ≡ true → a ≡ judge_of s
     unfolding judge_of
     long-text q = answered ∙ rw q
 
-    pub long-history : over t ≡ false → over h ≡ true → Unfit a ≡ judge_of s
+    pub long-history : over t ≡ false → over h ≡ true → a ≡ judge_of s
     unfolding judge_of
     long-history q r = answered ∙ rw (q, r)
 

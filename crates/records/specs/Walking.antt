@@ -1,15 +1,14 @@
 -- What the code finds of a page's records, over their definition in the crate ledger.
 use Rattle.std.specs.Prelude.{ℕ, ◌+◌, ◌-◌, cond, ◌||◌, List, [], ◌∷◌, length, Option, None, Some}
+use Rattle.std.specs.Option.{ok_or}
 use Rattle.std.proofs.Math.Seq.{slice}
-use Rattle.answer.specs.Answer.{limit, refused_at}
+use Rattle.answer.specs.Answer.{Answer, limit, refused_at}
 use Rattle.answer.specs.declared.Refusal.TheVariants.{Unsound, OverLimit}
 use Rattle.ledger.specs.Words.{Entry, Parted, size_of, records_in, lengths_fit, reached}
 use Rattle.ledger.specs.Parts.{ending_at}
 use Rattle.ledger.specs.Page.{State, records}
 use Rattle.ledger.specs.Calls.{over}
 use Rattle.records.specs.declared.Spot.{Spot}
-use Rattle.records.specs.declared.Judged.{Judged}
-use Rattle.records.specs.declared.Judged.TheVariants.{Unfit, Sound}
 
 -- the length that records lead to, and the word where the last of them begins; none where they do not fit
 abbrev pub Walk : Type 0
@@ -47,13 +46,12 @@ last_of done None = None
 last_of done (Some v) = Some (last_begin done v.standing)
 
 -- 14, or where the last standing record begins
-abbrev pub judged_of : Option ℕ → Judged
-judged_of None = Unfit (refused_at Unsound 0)
-judged_of (Some last) = Sound last
+abbrev pub judged_of : Option ℕ → Answer
+judged_of found = ok_or found (record { 0 = Unsound; 1 = 0 })
 
-abbrev pub judged_as : ℕ → Option Parted → Judged
+abbrev pub judged_as : ℕ → Option Parted → Answer
 judged_as done x = judged_of (last_of done x)
 
 -- 16 comes first
-unfoldable pub judge_of : State → Judged
-judge_of s = cond (over s.text || over s.history) (Unfit (refused_at OverLimit limit)) (judged_as s.page.done (records s))
+unfoldable pub judge_of : State → Answer
+judge_of s = cond (over s.text || over s.history) (refused_at OverLimit limit) (judged_as s.page.done (records s))

@@ -9,7 +9,7 @@ ghost use Rattle.ledger.specs.Page.{state_of, records};
 ghost use Rattle.ledger.specs.Parts.{mark_within, cut_in, bounded};
 ghost use Rattle.records.specs.Walking.{walk_in, walk_cut, walk_from, last_of, judge_of};
 
-use answer::{Answer, Refusal, Refused};
+use answer::{Refusal, Refused};
 use ledger::Page;
 
 // Where a walk over records stands: at a word, with a length, and where the last record passed begins.
@@ -18,13 +18,6 @@ struct Spot {
     at: usize,
     len: usize,
     last: usize,
-}
-
-// What is found of a page and its buffers: the refusal 16 or 14, or the word where the last standing record begins.
-#[derive(Clone, Copy)]
-pub enum Judged {
-    Unfit(Answer),
-    Sound(usize),
 }
 
 // A word as a number.
@@ -46,7 +39,7 @@ fn block_at(s: &[u32], at: usize) -> u32
     all
 }
 
-// Past blocks that are all 0.
+// Past blocks that are all 0. An index loop, as the loops below: each call on a page judges it whole, so they are hot.
 fn past_blocks(s: &[u32], at: usize) -> usize
     requires { at ≤ length s.now }
     ensures { zeros (drop result s.now) ≡ zeros (drop at s.now) }
@@ -235,15 +228,12 @@ fn survey(page: Page, text: &[u32], history: &[u32]) -> Option<usize>
     Some(last)
 }
 
-// 16, then 14, then where the last standing record begins.
-pub fn judge(page: Page, text: &[u32], history: &[u32]) -> Judged
+// What is found of a page and its buffers: 16, then 14, or else the word where the last standing record begins.
+pub fn judge(page: Page, text: &[u32], history: &[u32]) -> Result<usize, Refused>
     ensures { result ≡ judge_of (state_of page text.now history.now) }
 {
     if answer::over_limit(text.len()) || answer::over_limit(history.len()) {
-        return Judged::Unfit(answer::too_long());
+        return answer::too_long();
     }
-    match survey(page, text, history) {
-        Some(last) => Judged::Sound(last),
-        None => Judged::Unfit(Err(Refused(Refusal::Unsound, 0))),
-    }
+    survey(page, text, history).ok_or(Refused(Refusal::Unsound, 0))
 }

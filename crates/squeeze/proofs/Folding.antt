@@ -3,7 +3,7 @@ use Prim.Native.Nat.{ℕ, ◌+◌, ◌-◌, ◌≤◌, ◌<◌}
 use mathlib.Core.Path.{◌≡◌, refl, sym, ap, ◌∙◌}
 use mathlib.Core.Bool.{Bool, true, false, cond, ◌||◌}
 use mathlib.Core.List.{List, [], ◌∷◌, ◌++◌, reverse_aux, reverse, reverse_aux-eq, reverse-append, append-nil}
-use Rattle.std.specs.Prelude.{Some}
+use Rattle.std.specs.Prelude.{Some, Err}
 use native.Mathlib.Omega.{arith}
 use native.Mathlib.Nat.{zero-add}
 use lib.ListN.{length, take, drop, length-reverse, length-drop, length-take, take-append-drop}
@@ -31,8 +31,7 @@ use Rattle.ledger.proofs.Marks.{weight-sizes}
 use Rattle.ledger.proofs.Sound.{Sound, framed-parts}
 use Rattle.ledger.proofs.Lying.{words-in}
 use Rattle.ledger.proofs.Squeezed.{sound-legal}
-use Rattle.records.specs.declared.Judged.{Judged}
-use Rattle.records.specs.declared.Judged.TheVariants.{Unfit}
+use Rattle.answer.specs.declared.Refused.{Refused}
 use Rattle.records.specs.Walking.{judge_of}
 use Rattle.records.proofs.Found.{Fit, unfit}
 use Rattle.splice.specs.Splice.{Filled, spliced_in}
@@ -377,8 +376,8 @@ module _
 
 -- 16 and 14
 pub squeeze-unfit :
-    (s : State) (k : ℕ) (work : List ℕ) {j : Judged} {a : Answer} → j ≡ judge_of s → j ≡ Unfit a →
-    squeeze_of s k work ≡ refusing s work (in_numbers a)
+    (s : State) (k : ℕ) (work : List ℕ) {j : Answer} {a : Refused} → j ≡ judge_of s → j ≡ Err a →
+    squeeze_of s k work ≡ refusing s work (in_numbers (Err a))
 unfolding outcome_of call_on
 squeeze-unfit s k work {j} {a} d e =
     unfit s a (refusing s work) (λ x. call_on page s (squeeze k work) (editor_for s x)) refl d e

@@ -2,11 +2,10 @@
 // before are followed through the records to where they stand, in a record or in the present text, a stretch at a time.
 #![tactic(auto)]
 
-ghost use Rattle.std.specs.Prelude.{◌≡◌, false, ◌+◌, ◌≤◌, ◌<◌, length, get_or, take, drop};
+ghost use Rattle.std.specs.Prelude.{◌≡◌, false, ◌+◌, ◌≤◌, ◌<◌, length, get_or, take, drop, Ok};
 ghost use Rattle.std.proofs.Math.Seq.{paste};
 ghost use Rattle.answer.specs.Answer.{limit, numbered, in_numbers};
 ghost use Rattle.answer.specs.Output.{filled};
-ghost use Rattle.records.specs.declared.Judged.TheVariants.{Sound};
 ghost use Rattle.records.specs.Walking.{judge_of};
 ghost use Rattle.ledger.specs.Words.{words_of};
 ghost use Rattle.editor.specs.Marks.{folded_mark};
@@ -19,7 +18,6 @@ ghost use Rattle.squeeze.specs.Folding.{fold_from, fold_of, Foldable, folded_to,
 
 use answer::{Answer, Refusal, Refused};
 use ledger::{Edited, Page};
-use records::Judged;
 
 // Where the oldest records end, the length of the text there, and how many records they are.
 #[derive(Clone, Copy)]
@@ -340,7 +338,7 @@ fn squeeze_sound(
     work: &mut [u32],
     last: usize,
 ) -> Edited
-    requires { judge_of (state_of page text.now history.old) ≡ Sound last }
+    requires { judge_of (state_of page text.now history.old) ≡ Ok last }
     ensures { keeps result text.now history.new work.new
         ≡ squeeze_of (state_of page text.now history.old) k work.old }
 {
@@ -360,9 +358,8 @@ pub fn squeeze(page: Page, k: usize, text: &[u32], history: &mut [u32], work: &m
     ensures { keeps result text.now history.new work.new
         ≡ squeeze_of (state_of page text.now history.old) k work.old }
 {
-    let found = records::judge(page, text, &*history);
-    match found {
-        Judged::Unfit(answer) => refused(page, answer),
-        Judged::Sound(last) => squeeze_sound(page, k, text, &mut *history, &mut *work, last),
+    match records::judge(page, text, &*history) {
+        Err(why) => refused(page, Err(why)),
+        Ok(last) => squeeze_sound(page, k, text, &mut *history, &mut *work, last),
     }
 }

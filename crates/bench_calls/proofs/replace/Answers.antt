@@ -13,11 +13,11 @@ returns-then-over_limit c =
     rw (c.refused.ensures, c.too_long.ensures)
     (sym (replace-long t a.bench a.place a.count a.cells.now (sym c.over_limit.ensures ∙ c.if-over_limit.true)))
 
-pub returns-in-Unfit : goal.returns-in-Unfit
-returns-in-Unfit c =
+pub returns-in-Err : goal.returns-in-Err
+returns-in-Err c =
     let a = c.args in
     let t : State = state_of a.b a.text0.now a.text1.now a.history.now in
-    rw c.refused-in-Unfit.ensures
+    rw c.refused-in-Err.ensures
     (sym
     (call-unfit t (replace a.place a.count a.cells.now) a.bench (sym c.over_limit.ensures ∙ c.if-over_limit.false)
-    c.judge-found.ensures c.in-Unfit.is))
+    c.judge.ensures c.in-Err.is))

@@ -17,20 +17,20 @@ returns-then-over_limit c =
 pub save_sound-requires : goal.save_sound-requires
 save_sound-requires c =
     let a = c.args in
-    texts-fit a.b a.text0.now a.text1.now a.history.now a.bench c.judge-found.ensures c.in-Sound.is
+    texts-fit a.b a.text0.now a.text1.now a.history.now a.bench c.judge.ensures c.in-Ok.is
 
-pub returns-in-Unfit : goal.returns-in-Unfit
-returns-in-Unfit c =
+pub returns-in-Err : goal.returns-in-Err
+returns-in-Err c =
     let a = c.args in
     let t : State = state_of a.b a.text0.now a.text1.now a.history.now in
-    rw c.refused-in-Unfit.ensures
+    rw c.refused-in-Err.ensures
     (sym
     (call-unfit t (save a.arrived.now a.out.now) a.bench (sym c.over_limit.ensures ∙ c.if-over_limit.false)
-    c.judge-found.ensures c.in-Unfit.is))
+    c.judge.ensures c.in-Err.is))
 
-pub returns-in-Sound : goal.returns-in-Sound
-returns-in-Sound c =
+pub returns-in-Ok : goal.returns-in-Ok
+returns-in-Ok c =
     let a = c.args in
     let s = c.save_sound in
-    saved-given a.b a.text0.now a.text1.now a.history.now a.bench c.judge-found.ensures c.in-Sound.is a.arrived.now
+    saved-given a.b a.text0.now a.text1.now a.history.now a.bench c.judge.ensures c.in-Ok.is a.arrived.now
     a.out.now _ s.result (sym c.over_limit.ensures ∙ c.if-over_limit.false) s.ensures.0 s.ensures.1

@@ -17,16 +17,9 @@ returns-then-over_limit c =
           (sym w.over_limit-else-over_limit.ensures ∙ w.if-over_limit-2.true)
     ]
 
-pub returns-in-Some : goal.returns-in-Some
-returns-in-Some c =
+pub returns : goal.returns
+returns c =
     let a = c.args in
-    ap judged_of (sym c.in-Some.is ∙ c.survey.ensures)
-    ∙ not-long a.page a.text.now a.history.now (sym c.over_limit.ensures ∙ c.if-over_limit.false)
-    (sym c.over_limit-else-over_limit.ensures ∙ c.if-over_limit-2.false)
-
-pub returns-in-None : goal.returns-in-None
-returns-in-None c =
-    let a = c.args in
-    ap judged_of (sym c.in-None.is ∙ c.survey.ensures)
+    c.ok_or.ensures.value ∙ ap judged_of c.survey.ensures
     ∙ not-long a.page a.text.now a.history.now (sym c.over_limit.ensures ∙ c.if-over_limit.false)
     (sym c.over_limit-else-over_limit.ensures ∙ c.if-over_limit-2.false)
