@@ -4,13 +4,14 @@
 ghost use Rattle.std.specs.Prelude.{◌≡◌};
 ghost use Rattle.answer.specs.Output.{leaves};
 ghost use Rattle.codec.specs.Kinds.{format_of, bytes_per_cell, bytes_at_end, most_bytes};
+ghost use Rattle.codec.specs.Numbers.{kind_number, Decodes};
 ghost use Rattle.codec.specs.Kinds.{read_in, first_unwritable, write_in, reads_in};
 
 use answer::Answer;
 use utf7::Style;
 
 // What a text is read as. A mailbox name is no kind of page.
-#[derive(Clone, Copy)]
+#[derive(Clone, Copy, PartialEq, Eq, Debug)]
 pub enum Format {
     Utf7,
     Jp2,
@@ -18,11 +19,45 @@ pub enum Format {
 }
 
 // "A page has a kind (UTF-7 header, UTF-7 body, JP-2)."
-#[derive(Clone, Copy)]
+#[derive(Clone, Copy, PartialEq, Eq, Debug)]
 pub enum Kind {
     Utf7Header,
     Utf7Body,
     Jp2,
+}
+
+// A number that is no kind's.
+#[derive(Clone, Copy, PartialEq, Eq, Debug)]
+pub struct NoKind(pub u32);
+
+// The number of a kind, as it crosses to C.
+impl From<Kind> for u32 {
+    ghost from_gives = { λ kind r. r ≡ kind_number kind };
+
+    #[tactic(auto, unfolding(crate::specs::Numbers::kind_number))]
+    fn from(kind: Kind) -> u32 {
+        match kind {
+            Kind::Utf7Header => 0,
+            Kind::Utf7Body => 1,
+            Kind::Jp2 => 2,
+        }
+    }
+}
+
+impl TryFrom<u32> for Kind {
+    type Error = NoKind;
+
+    ghost try_from_gives = { Decodes };
+
+    #[tactic(auto, unfolding(crate::specs::Numbers::kind_number))]
+    fn try_from(number: u32) -> Result<Kind, NoKind> {
+        match number {
+            0 => Ok(Kind::Utf7Header),
+            1 => Ok(Kind::Utf7Body),
+            2 => Ok(Kind::Jp2),
+            _ => Err(NoKind(number)),
+        }
+    }
 }
 
 // "Each kind carries its own greatest number of bytes for one cell, 5, 5 and 6, and its bytes at the end, 0, 0 and 3."
@@ -44,32 +79,32 @@ impl Kind {
         Kind::MOST_BYTES
     }
 
+    #[tactic(auto, unfolding(crate::specs::Kinds::bytes_per_cell))]
     pub fn bytes_per_cell(self) -> usize
         ensures { result ≡ bytes_per_cell self }
     {
         match self {
-            Kind::Utf7Header => Kind::UTF7_PER_CELL,
-            Kind::Utf7Body => Kind::UTF7_PER_CELL,
+            Kind::Utf7Header | Kind::Utf7Body => Kind::UTF7_PER_CELL,
             Kind::Jp2 => Kind::JP2_PER_CELL,
         }
     }
 
+    #[tactic(auto, unfolding(crate::specs::Kinds::bytes_at_end))]
     pub fn bytes_at_end(self) -> usize
         ensures { result ≡ bytes_at_end self }
     {
         match self {
-            Kind::Utf7Header => Kind::UTF7_AT_END,
-            Kind::Utf7Body => Kind::UTF7_AT_END,
+            Kind::Utf7Header | Kind::Utf7Body => Kind::UTF7_AT_END,
             Kind::Jp2 => Kind::JP2_AT_END,
         }
     }
 
+    #[tactic(auto, unfolding(crate::specs::Kinds::format_of))]
     pub fn format(self) -> Format
         ensures { result ≡ format_of self }
     {
         match self {
-            Kind::Utf7Header => Format::Utf7,
-            Kind::Utf7Body => Format::Utf7,
+            Kind::Utf7Header | Kind::Utf7Body => Format::Utf7,
             Kind::Jp2 => Format::Jp2,
         }
     }
@@ -103,8 +138,7 @@ pub fn first_unwritable(kind: Kind, cells: &[u32]) -> usize
     ensures { result ≡ first_unwritable kind cells.now }
 {
     match kind {
-        Kind::Utf7Header => utf7::first_over(cells),
-        Kind::Utf7Body => utf7::first_over(cells),
+        Kind::Utf7Header | Kind::Utf7Body => utf7::first_over(cells),
         Kind::Jp2 => jp2::first_foreign(cells),
     }
 }

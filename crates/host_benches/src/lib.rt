@@ -11,7 +11,7 @@ ghost use Rattle.host_benches.specs.Benches.{no_host_bench, unopened, opened_on,
 
 use answer::{Refusal, Refused};
 use benches::{Bench, Benches, Edited};
-use host_numbers::{Numbers, in_numbers};
+use host_numbers::Numbers;
 use host_pages::HostAsked;
 
 // A bench: its kind (0 UTF-7 header, 1 UTF-7 body, 2 JP-2), its lengths, its standing steps, and its mark or NEVER.
@@ -45,27 +45,21 @@ pub struct HostBenchesEdited {
 fn bench_in(b: HostBench) -> Bench
     ensures { result ≡ bench_in b }
 {
-    let kind = host_pages::kind_of(b.kind);
-    let saved = host_pages::mark_in(b.saved);
     Bench {
-        kind,
+        kind: host_pages::kind_of(b.kind),
         opening: b.opening,
         length: b.length,
         standing: b.standing,
-        saved,
+        saved: host_pages::mark_in(b.saved),
     }
 }
 
 fn benches_in(b: HostBenches) -> Benches
     ensures { result ≡ benches_in b }
 {
-    let first = b.bench0;
-    let second = b.bench1;
-    let bench0 = bench_in(first);
-    let bench1 = bench_in(second);
     Benches {
-        bench0,
-        bench1,
+        bench0: bench_in(b.bench0),
+        bench1: bench_in(b.bench1),
         used: b.used,
     }
 }
@@ -73,48 +67,34 @@ fn benches_in(b: HostBenches) -> Benches
 fn host_bench(b: Bench) -> HostBench
     ensures { result ≡ host_bench b }
 {
-    let named = b.kind;
-    let kind = host_pages::kind_number(named);
-    let mark = b.saved;
-    let saved = host_pages::mark_number(mark);
     HostBench {
-        kind,
+        kind: b.kind.into(),
         opening: b.opening,
         length: b.length,
         standing: b.standing,
-        saved,
+        saved: host_pages::mark_number(b.saved),
     }
 }
 
 fn edited(e: Edited) -> HostBenchesEdited
     ensures { (verdict_in result.answer ≡ in_numbers e.answer) × (result.benches ≡ host_benches e.benches) }
 {
-    let given = e.answer;
-    let answer = in_numbers(given);
     let both = e.benches;
-    let first = both.bench0;
-    let second = both.bench1;
-    let bench0 = host_bench(first);
-    let bench1 = host_bench(second);
     HostBenchesEdited {
-        answer,
+        answer: e.answer.into(),
         benches: HostBenches {
-            bench0,
-            bench1,
+            bench0: host_bench(both.bench0),
+            bench1: host_bench(both.bench1),
             used: both.used,
         },
     }
 }
 
+#[tactic(auto, unfolding(crate::specs::Benches::no_kind_in))]
 fn no_kind(b: HostBenches) -> bool
     ensures { result ≡ no_kind_in b }
 {
-    let first = b.bench0;
-    if 2 < first.kind {
-        return true;
-    }
-    let second = b.bench1;
-    2 < second.kind
+    2 < b.bench0.kind || 2 < b.bench1.kind
 }
 
 // The answer to a bench of no kind: 16 if one of the lists lent is too long, then 20, else 14.
@@ -122,22 +102,17 @@ fn unsound(bench: usize, a: usize, b: usize, c: usize, d: usize) -> Numbers
     ensures { verdict_in result ≡ cond (ltb limit a || (ltb limit b || (ltb limit c || ltb limit d))) too_long
         (cond (ltb 1 bench) (numbered 20 0) (numbered 14 0)) }
 {
-    if answer::over_limit(a) {
-        return in_numbers(answer::too_long());
-    }
-    if answer::over_limit(b) {
-        return in_numbers(answer::too_long());
-    }
-    if answer::over_limit(c) {
-        return in_numbers(answer::too_long());
-    }
-    if answer::over_limit(d) {
-        return in_numbers(answer::too_long());
+    if answer::over_limit(a)
+        || answer::over_limit(b)
+        || answer::over_limit(c)
+        || answer::over_limit(d)
+    {
+        return answer::too_long().into();
     }
     if 1 < bench {
-        return in_numbers(Err(Refused(Refusal::NoSuchBench, 0)));
+        return Err(Refused(Refusal::NoSuchBench, 0)).into();
     }
-    in_numbers(Err(Refused(Refusal::Unsound, 0)))
+    Err(Refused(Refusal::Unsound, 0)).into()
 }
 
 fn no_host_bench(kind: u32) -> HostBench
@@ -156,11 +131,9 @@ fn no_host_bench(kind: u32) -> HostBench
 fn not_opened(kind0: u32, kind1: u32) -> HostBenches
     ensures { result ≡ unopened kind0 kind1 }
 {
-    let bench0 = no_host_bench(kind0);
-    let bench1 = no_host_bench(kind1);
     HostBenches {
-        bench0,
-        bench1,
+        bench0: no_host_bench(kind0),
+        bench1: no_host_bench(kind1),
         used: 0,
     }
 }
@@ -172,7 +145,7 @@ fn unread(a: usize, b: usize, c: usize, d: usize, e: usize) -> Numbers
         (numbered 14 0) }
 {
     if answer::over_limit(a) {
-        return in_numbers(answer::too_long());
+        return answer::too_long().into();
     }
     unsound(0, b, c, d, e)
 }

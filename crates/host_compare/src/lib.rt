@@ -8,7 +8,7 @@ ghost use Rattle.host_compare.specs.Compared.{in_host, hears};
 use answer::Refused;
 use codec::Format;
 use comparer::{Compared, Text};
-use host_numbers::{Numbers, in_numbers};
+use host_numbers::Numbers;
 
 // The answer, which text is refused (0: none, 1, 2), whether they are the same (1) and else where they part: the cell's
 // index, and where it begins in each.
@@ -28,10 +28,7 @@ fn in_host(found: Result<Compared, (Text, Refused)>) -> HostCompared
 {
     match found {
         Ok(Compared::Same(count)) => HostCompared {
-            answer: Numbers {
-                number: 0,
-                place: count,
-            },
+            answer: Ok(count).into(),
             text: 0,
             same: 1,
             index: 0,
@@ -39,28 +36,21 @@ fn in_host(found: Result<Compared, (Text, Refused)>) -> HostCompared
             second: 0,
         },
         Ok(Compared::Part(index, first, second)) => HostCompared {
-            answer: Numbers {
-                number: 0,
-                place: 0,
-            },
+            answer: Ok(0).into(),
             text: 0,
             same: 0,
             index,
             first,
             second,
         },
-        Err((which, refused)) => {
-            let answer = in_numbers(Err(refused));
-            let text = which as u32;
-            HostCompared {
-                answer,
-                text,
-                same: 0,
-                index: 0,
-                first: 0,
-                second: 0,
-            }
-        }
+        Err((which, refused)) => HostCompared {
+            answer: Err(refused).into(),
+            text: which as u32,
+            same: 0,
+            index: 0,
+            first: 0,
+            second: 0,
+        },
     }
 }
 

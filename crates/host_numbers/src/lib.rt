@@ -15,10 +15,13 @@ pub struct Numbers {
     pub place: usize,
 }
 
-pub fn in_numbers(a: Answer) -> Numbers
-    ensures { verdict_in result ≡ in_numbers a }
-{
-    let number = answer::number(a);
-    let place = answer::place(a);
-    Numbers { number, place }
+impl From<Answer> for Numbers {
+    ghost from_gives = { λ a r. verdict_in r ≡ in_numbers a };
+
+    fn from(a: Answer) -> Numbers {
+        Numbers {
+            number: answer::number(a),
+            place: answer::place(a),
+        }
+    }
 }

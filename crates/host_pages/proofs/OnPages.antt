@@ -4,10 +4,12 @@ use mathlib.Core.Path.{◌≡◌, refl, sym, ap, ◌∙◌}
 use mathlib.Core.List.{List, []}
 use lib.Dec.{eqb}
 use native.Mathlib.Omega.{arith}
-use borrow.Author.Tests.{lt-ltb, le-ltb, eqb-true}
+use borrow.Author.Tests.{lt-ltb, le-ltb, eqb-true, leb-true}
 use Rattle.answer.specs.Answer.{in_numbers, Answer}
 use Rattle.answer.specs.Output as output
 use Rattle.answer.proofs.Below.{all_below, below, cond-case}
+use Rattle.codec.specs.declared.Kind.{Kind}
+use Rattle.codec.specs.declared.Kind.TheVariants.{Utf7Header, Utf7Body, Jp2}
 use Rattle.editor.specs.Marks.{Mark}
 use Rattle.ledger.specs.Page.{State, state_of, Outcome, keeps, replies}
 use Rattle.ledger.specs.Calls.{unchanged_of}
@@ -37,6 +39,13 @@ edited-on r e text history out o h q =
 pub kind-back : (k : ℕ) → k ≤ 2 → kind_number (kind_of k) ≡ k
 unfolding kind_number kind_of all_below
 kind-back k h = eqb-true (kind_number (kind_of k)) k (below (λ j. eqb (kind_number (kind_of j)) j) 3 refl k (omega arith))
+
+-- the number of a kind is 2 or less, and that kind's
+pub decoded : (k : Kind) (n : ℕ) → kind_number k ≡ n → (n ≤ 2) × (kind_of n ≡ k)
+unfolding kind_number kind_of
+decoded Utf7Header n e = rw (← e) (leb-true 0 2 refl, refl)
+decoded Utf7Body n e = rw (← e) (leb-true 1 2 refl, refl)
+decoded Jp2 n e = rw (← e) (leb-true 2 2 refl, refl)
 
 -- every number is the number of its mark
 pub mark-back : (n : ℕ) → mark_number (mark_in n) ≡ n

@@ -4,6 +4,7 @@ use Rattle.std.specs.Prelude.{ℕ, cond, ◌||◌, List, [], ltb, eqb, None, Som
 use Rattle.answer.specs.Answer.{Verdict, numbered, too_long}
 use Rattle.answer.specs.Output as output
 use Rattle.codec.specs.declared.Kind.{Kind}
+unfoldable pub use Rattle.codec.specs.Numbers.{kind_number}
 use Rattle.codec.specs.declared.Kind.TheVariants.{Utf7Header, Utf7Body, Jp2}
 use Rattle.editor.specs.Marks.{Mark}
 use Rattle.ledger.specs.Page.{State, state_of, Outcome}
@@ -17,11 +18,6 @@ use Rattle.host_pages.specs.declared.HostAsked.{HostAsked}
 
 unfoldable pub kind_of : ℕ → Kind
 kind_of n = cond (eqb n 0) Utf7Header (cond (eqb n 1) Utf7Body Jp2)
-
-unfoldable pub kind_number : Kind → ℕ
-kind_number Utf7Header = 0
-kind_number Utf7Body = 1
-kind_number Jp2 = 2
 
 -- C's SIZE_MAX, the number of no mark; every other number is a mark
 abbrev pub never : ℕ

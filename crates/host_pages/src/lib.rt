@@ -1,18 +1,18 @@
 // The page for hosts: its six calls, the question and the page file, with the kind and the mark as numbers.
 #![tactic(auto)]
 
-ghost use Rattle.std.specs.Prelude.{◌≡◌, cond, ◌||◌, ltb, []};
+ghost use Rattle.std.specs.Prelude.{◌≡◌, cond, ◌||◌, ltb, ◌≤◌, ◌<◌, [], MatchResult};
 ghost use Rattle.answer.specs.Answer.{in_numbers, numbered, limit, too_long};
 ghost use Rattle.ledger.specs.Page.{replies};
 ghost use Rattle.ledger.specs.Calls.{open_of, replace_of, undo_of, redo_of, save_of, squeeze_of};
 ghost use Rattle.page_file.specs.Calls.{read_of};
 ghost use Rattle.host_numbers.specs.Numbers.{verdict_in, left};
-ghost use Rattle.host_pages.specs.Pages.{kind_of, kind_number, mark_in, mark_number, page_in, host_page};
+ghost use Rattle.host_pages.specs.Pages.{kind_of, mark_in, mark_number, page_in, host_page};
 ghost use Rattle.host_pages.specs.Pages.{hosted, on_page, finds, finds_output, in_reply, asked_on, hears, kept_on};
 
 use answer::{Refusal, Refused};
-use codec::Kind;
-use host_numbers::{Numbers, in_numbers};
+use codec::{Kind, NoKind};
+use host_numbers::Numbers;
 use ledger::{Asked, Edited, Page};
 
 // The number of no mark: C's SIZE_MAX.
@@ -46,80 +46,59 @@ pub struct HostAsked {
     pub unchanged: u32,
 }
 
+// Every number above 1 is taken for JP-2's.
+#[tactic(auto, unfolding(crate::specs::Pages::kind_of))]
 pub fn kind_of(number: u32) -> Kind
     ensures { result ≡ kind_of number }
 {
-    if number == 0 {
-        return Kind::Utf7Header;
-    }
-    if number == 1 {
-        return Kind::Utf7Body;
-    }
-    Kind::Jp2
-}
-
-pub fn kind_number(kind: Kind) -> u32
-    ensures { result ≡ kind_number kind }
-{
-    match kind {
-        Kind::Utf7Header => 0,
-        Kind::Utf7Body => 1,
-        Kind::Jp2 => 2,
+    match number {
+        0 => Kind::Utf7Header,
+        1 => Kind::Utf7Body,
+        _ => Kind::Jp2,
     }
 }
 
+#[tactic(auto, unfolding(crate::specs::Pages::mark_in))]
 pub fn mark_in(number: usize) -> Option<usize>
     ensures { result ≡ mark_in number }
 {
-    if number == NEVER {
-        return None;
-    }
-    Some(number)
+    (number != NEVER).then_some(number)
 }
 
+#[tactic(auto, unfolding(crate::specs::Pages::mark_number))]
 pub fn mark_number(mark: Option<usize>) -> usize
     ensures { result ≡ mark_number mark }
 {
-    match mark {
-        None => NEVER,
-        Some(n) => n,
-    }
+    mark.unwrap_or(NEVER)
 }
 
-fn page_in(p: HostPage) -> Page
-    ensures { result ≡ page_in p }
+// The page of a host, if its kind is one.
+fn page_in(p: HostPage) -> Result<Page, NoKind>
+    ensures { MatchResult result (λ page. (p.kind ≤ 2) × (page ≡ page_in p)) (λ _. 2 < p.kind) }
 {
-    let kind = kind_of(p.kind);
-    let saved = mark_in(p.saved);
-    Page {
-        kind,
+    Ok(Page {
+        kind: Kind::try_from(p.kind)?,
         opening: p.opening,
         length: p.length,
         used: p.used,
         done: p.done,
-        saved,
-    }
+        saved: mark_in(p.saved),
+    })
 }
 
 fn edited(e: Edited) -> HostEdited
     ensures { (verdict_in result.answer ≡ in_numbers e.answer) × (result.page ≡ host_page e.page) }
 {
-    let given = e.answer;
-    let answer = in_numbers(given);
     let page = e.page;
-    let named = page.kind;
-    let kind = kind_number(named);
-    let mark = page.saved;
-    let saved = mark_number(mark);
     HostEdited {
-        answer,
+        answer: e.answer.into(),
         page: HostPage {
-            kind,
+            kind: page.kind.into(),
             opening: page.opening,
             length: page.length,
             used: page.used,
             done: page.done,
-            saved,
+            saved: mark_number(page.saved),
         },
     }
 }
@@ -127,17 +106,9 @@ fn edited(e: Edited) -> HostEdited
 pub fn asked(a: Asked) -> HostAsked
     ensures { hears result ≡ in_reply (replies a) }
 {
-    let given = a.answer;
-    let answer = in_numbers(given);
-    if a.unchanged {
-        return HostAsked {
-            answer,
-            unchanged: 1,
-        };
-    }
     HostAsked {
-        answer,
-        unchanged: 0,
+        answer: a.answer.into(),
+        unchanged: a.unchanged as u32,
     }
 }
 
@@ -145,16 +116,10 @@ pub fn asked(a: Asked) -> HostAsked
 fn no_kind(a: usize, b: usize, c: usize) -> Numbers
     ensures { verdict_in result ≡ cond (ltb limit a || (ltb limit b || ltb limit c)) too_long (numbered 14 0) }
 {
-    if answer::over_limit(a) {
-        return in_numbers(answer::too_long());
+    if answer::over_limit(a) || answer::over_limit(b) || answer::over_limit(c) {
+        return answer::too_long().into();
     }
-    if answer::over_limit(b) {
-        return in_numbers(answer::too_long());
-    }
-    if answer::over_limit(c) {
-        return in_numbers(answer::too_long());
-    }
-    in_numbers(Err(Refused(Refusal::Unsound, 0)))
+    Err(Refused(Refusal::Unsound, 0)).into()
 }
 
 pub fn open(kind: Kind, arrived: &[u8], text: &mut [u32], history: &mut [u32]) -> HostEdited
@@ -176,33 +141,39 @@ pub fn replace(
         ≡ on_page p text.old history.old [] cells.now
         (λ s. replace_of s place count cells.now) }
 {
-    if 2 < p.kind {
-        let answer = no_kind(cells.len(), text.len(), history.len());
-        return HostEdited { answer, page: p };
+    match page_in(p) {
+        Ok(page) => edited(page::replace(page, place, count, cells, text, history)),
+        Err(_) => HostEdited {
+            answer: no_kind(cells.len(), text.len(), history.len()),
+            page: p,
+        },
     }
-    edited(page::replace(page_in(p), place, count, cells, text, history))
 }
 
 pub fn undo(p: HostPage, text: &mut [u32], history: &[u32]) -> HostEdited
     ensures { finds result text.new history.now
         ≡ on_page p text.old history.now [] [] undo_of }
 {
-    if 2 < p.kind {
-        let answer = no_kind(0, text.len(), history.len());
-        return HostEdited { answer, page: p };
+    match page_in(p) {
+        Ok(page) => edited(page::undo(page, text, history)),
+        Err(_) => HostEdited {
+            answer: no_kind(0, text.len(), history.len()),
+            page: p,
+        },
     }
-    edited(page::undo(page_in(p), text, history))
 }
 
 pub fn redo(p: HostPage, text: &mut [u32], history: &[u32]) -> HostEdited
     ensures { finds result text.new history.now
         ≡ on_page p text.old history.now [] [] redo_of }
 {
-    if 2 < p.kind {
-        let answer = no_kind(0, text.len(), history.len());
-        return HostEdited { answer, page: p };
+    match page_in(p) {
+        Ok(page) => edited(page::redo(page, text, history)),
+        Err(_) => HostEdited {
+            answer: no_kind(0, text.len(), history.len()),
+            page: p,
+        },
     }
-    edited(page::redo(page_in(p), text, history))
 }
 
 // A host that could not keep the bytes keeps the page that it gave.
@@ -217,11 +188,13 @@ pub fn save(
         ≡ on_page p text.now history.now out.old arrived.now
         (λ s. save_of s arrived.now out.old) }
 {
-    if 2 < p.kind {
-        let answer = no_kind(arrived.len(), text.len(), history.len());
-        return HostEdited { answer, page: p };
+    match page_in(p) {
+        Ok(page) => edited(page::save(page, text, history, arrived, out)),
+        Err(_) => HostEdited {
+            answer: no_kind(arrived.len(), text.len(), history.len()),
+            page: p,
+        },
     }
-    edited(page::save(page_in(p), text, history, arrived, out))
 }
 
 // The work buffer may have any length: 16 does not look at it.
@@ -236,24 +209,25 @@ pub fn squeeze(
         ≡ on_page p text.now history.old work.old []
         (λ s. squeeze_of s k work.old) }
 {
-    if 2 < p.kind {
-        let answer = no_kind(0, text.len(), history.len());
-        return HostEdited { answer, page: p };
+    match page_in(p) {
+        Ok(page) => edited(squeeze::squeeze(page, k, text, history, work)),
+        Err(_) => HostEdited {
+            answer: no_kind(0, text.len(), history.len()),
+            page: p,
+        },
     }
-    edited(squeeze::squeeze(page_in(p), k, text, history, work))
 }
 
 pub fn unchanged(p: HostPage, text: &[u32], history: &[u32]) -> HostAsked
     ensures { hears result ≡ asked_on p text.now history.now }
 {
-    if 2 < p.kind {
-        let answer = no_kind(0, text.len(), history.len());
-        return HostAsked {
-            answer,
+    match page_in(p) {
+        Ok(page) => asked(page::unchanged(page, text, history)),
+        Err(_) => HostAsked {
+            answer: no_kind(0, text.len(), history.len()),
             unchanged: 0,
-        };
+        },
     }
-    asked(page::unchanged(page_in(p), text, history))
 }
 
 // Puts the page's file into the output, and changes nothing else.
@@ -261,10 +235,10 @@ pub fn keep(p: HostPage, text: &[u32], history: &[u32], arrived: &[u8], out: &mu
     ensures { left result out.new
         ≡ kept_on p text.now history.now arrived.now out.old }
 {
-    if 2 < p.kind {
-        return no_kind(arrived.len(), text.len(), history.len());
+    match page_in(p) {
+        Ok(page) => page_keep::keep(page, text, history, arrived, out).into(),
+        Err(_) => no_kind(arrived.len(), text.len(), history.len()),
     }
-    in_numbers(page_keep::keep(page_in(p), text, history, arrived, out))
 }
 
 // A page file may have any length: 16 looks at the three buffers.

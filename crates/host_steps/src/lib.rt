@@ -5,7 +5,7 @@ ghost use Rattle.std.specs.Prelude.{◌≡◌};
 ghost use Rattle.reading.specs.Decoding.{told};
 ghost use Rattle.host_steps.specs.Steps.{step_in, HandsOn, host_start, host_step, shift_in, utf7_in, utf7_out, utf7_host, utf7_told, name_shift_in, mailbox_in, mailbox_out, mailbox_host, mailbox_told, phase_in, jp2_in, phased_at, jp2_out, jp2_host, jp2_told};
 
-use host_numbers::{Numbers, in_numbers};
+use host_numbers::Numbers;
 use reading::{Cursor, Marked, Stepped};
 use std::ops::ControlFlow;
 
@@ -98,7 +98,7 @@ fn told<S: Copy, C: From<Cursor<S>> + Copy>(found: Stepped<S>, own: C) -> (u32, 
                 begin: 0,
                 end: 0,
             };
-            (0, none, in_numbers(answer), own)
+            (0, none, Numbers::from(answer), own)
         }
     }
 }

@@ -17,63 +17,63 @@ ghost use Rattle.jp2_plain.specs.Plain.{plain_into};
 ghost use Rattle.host_numbers.specs.Numbers.{left};
 ghost use Rattle.qalithonda.specs.Numbers.{counted};
 
-use host_numbers::{Numbers, in_numbers};
+use host_numbers::Numbers;
 use utf7::Style;
 
 #[unsafe(no_mangle)]
 pub extern "C" fn qalithonda_utf7_read(text: &[u8], cells: &mut [u32]) -> Numbers
     ensures { left result cells.new ≡ read_into utf7 text.now cells.old }
 {
-    in_numbers(utf7_whole::read(text, cells))
+    Numbers::from(utf7_whole::read(text, cells))
 }
 
 #[unsafe(no_mangle)]
 pub extern "C" fn qalithonda_utf7_header_write(cells: &[u32], out: &mut [u8]) -> Numbers
     ensures { left result out.new ≡ write_into Header cells.now out.old }
 {
-    in_numbers(utf7_write::write(Style::Header, cells, out))
+    Numbers::from(utf7_write::write(Style::Header, cells, out))
 }
 
 #[unsafe(no_mangle)]
 pub extern "C" fn qalithonda_utf7_body_write(cells: &[u32], out: &mut [u8]) -> Numbers
     ensures { left result out.new ≡ write_into Body cells.now out.old }
 {
-    in_numbers(utf7_write::write(Style::Body, cells, out))
+    Numbers::from(utf7_write::write(Style::Body, cells, out))
 }
 
 #[unsafe(no_mangle)]
 pub extern "C" fn qalithonda_mailbox_read(text: &[u8], cells: &mut [u32]) -> Numbers
     ensures { left result cells.new ≡ read_into mailbox text.now cells.old }
 {
-    in_numbers(utf7_whole::names::read(text, cells))
+    Numbers::from(utf7_whole::names::read(text, cells))
 }
 
 #[unsafe(no_mangle)]
 pub extern "C" fn qalithonda_mailbox_write(cells: &[u32], out: &mut [u8]) -> Numbers
     ensures { left result out.new ≡ write_into Name cells.now out.old }
 {
-    in_numbers(mailbox_write::write(cells, out))
+    Numbers::from(mailbox_write::write(cells, out))
 }
 
 #[unsafe(no_mangle)]
 pub extern "C" fn qalithonda_jp2_read(text: &[u8], cells: &mut [u32]) -> Numbers
     ensures { left result cells.new ≡ read_into jp2 text.now cells.old }
 {
-    in_numbers(jp2_whole::read(text, cells))
+    Numbers::from(jp2_whole::read(text, cells))
 }
 
 #[unsafe(no_mangle)]
 pub extern "C" fn qalithonda_jp2_plain_read(text: &[u8], cells: &mut [u32]) -> Numbers
     ensures { left result cells.new ≡ plain_into text.now cells.old }
 {
-    in_numbers(jp2_plain::read(text, cells))
+    Numbers::from(jp2_plain::read(text, cells))
 }
 
 #[unsafe(no_mangle)]
 pub extern "C" fn qalithonda_jp2_write(cells: &[u32], out: &mut [u8]) -> Numbers
     ensures { left result out.new ≡ jp2-writing.write_into cells.now out.old }
 {
-    in_numbers(jp2_write::write(cells, out))
+    Numbers::from(jp2_write::write(cells, out))
 }
 
 // The nine counts are written whole, zeros where the tally is refused.
@@ -85,5 +85,5 @@ pub extern "C" fn qalithonda_jp2_tally(cells: &[u32], counts: &mut [u32; 9]) -> 
     let nine = found.counts;
     let answer = found.answer;
     *counts = nine;
-    in_numbers(answer)
+    Numbers::from(answer)
 }

@@ -8,18 +8,18 @@ ghost use Rattle.encoded_word.specs.Rule.{subject};
 ghost use Rattle.encoded_word.specs.Writing.{write_into};
 ghost use Rattle.host_numbers.specs.Numbers.{left};
 
-use host_numbers::{Numbers, in_numbers};
+use host_numbers::Numbers;
 
 #[unsafe(no_mangle)]
 pub extern "C" fn qalithonda_subject_read(line: &[u8], cells: &mut [u32]) -> Numbers
     ensures { left result cells.new ≡ read_into subject line.now cells.old }
 {
-    in_numbers(encoded_word_read::read(line, cells))
+    Numbers::from(encoded_word_read::read(line, cells))
 }
 
 #[unsafe(no_mangle)]
 pub extern "C" fn qalithonda_subject_write(units: &[u32], line: &mut [u8]) -> Numbers
     ensures { left result line.new ≡ write_into units.now line.old }
 {
-    in_numbers(encoded_word_write::write(units, line))
+    Numbers::from(encoded_word_write::write(units, line))
 }

@@ -2,7 +2,6 @@ use Rattle.codec.specs.Kinds.{read_in}
 use borrow.Author.Rules.{rules}
 use Rattle.codec.proofs.read.Statement.{statement}
 use Rattle.codec.proofs.read.Tie as tie
-use Rattle.utf7_whole.proofs.read.Reads as read-reads'
 
 enum_told : tie.Need-enum_told-1
 enum_told c = search rules

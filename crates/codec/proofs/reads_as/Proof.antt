@@ -3,7 +3,6 @@ use Rattle.codec.specs.Kinds.{reading_of, reads_in}
 use borrow.Author.Rules.{rules}
 use Rattle.codec.proofs.reads_as.Statement.{statement}
 use Rattle.codec.proofs.reads_as.Tie as tie
-use Rattle.utf7_whole.proofs.reads_as.Reads as reads-as-reads'
 
 enum_told : tie.Need-enum_told-1
 enum_told c = search rules

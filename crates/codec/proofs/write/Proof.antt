@@ -2,7 +2,6 @@ use Rattle.codec.specs.Kinds.{write_in}
 use borrow.Author.Rules.{rules}
 use Rattle.codec.proofs.write.Statement.{statement}
 use Rattle.codec.proofs.write.Tie as tie
-use Rattle.utf7_write.proofs.write.Reads as write-reads'
 
 enum_told : tie.Need-enum_told-1
 enum_told c = search rules

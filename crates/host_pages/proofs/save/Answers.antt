@@ -1,0 +1,16 @@
+use Rattle.ledger.specs.Calls.{save_of}
+use Rattle.host_pages.proofs.OnPages.{none_found, edited-found}
+use Rattle.host_pages.proofs.save.Goals as goal
+
+pub returns-in-Ok : goal.returns-in-Ok
+returns-in-Ok c =
+    let a = c.args in
+    let k = c.in-Ok.ensures in
+    edited-found a.p a.text.now a.history.now a.out.now a.arrived.now (λ s. save_of s a.arrived.now a.out.now) _
+    c.save.result c.in-Ok.page _ _ _ k.0 k.1 c.edited.ensures c.save.ensures
+
+pub returns-in-Err : goal.returns-in-Err
+returns-in-Err c =
+    let a = c.args in
+    none_found a.p a.text.now a.history.now a.out.now a.arrived.now (λ s. save_of s a.arrived.now a.out.now)
+    c.no_kind.result c.in-Err.ensures c.no_kind.ensures
