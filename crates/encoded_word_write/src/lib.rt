@@ -163,6 +163,7 @@ fn size(units: &[u32]) -> usize
 {
     let mut i: usize = 0;
     let mut total: usize = 0;
+    // a word at a time, of as many units as it takes
     while i < units.len() {
         let s = share(&units[i..]);
         i += s.count;
@@ -238,6 +239,7 @@ fn spell(out: &mut [u8], n: usize, size: usize)
 {
     let mut i = n;
     let mut to = size;
+    // backwards by two places, of which one moves by one or by three
     while i < to {
         i -= 1;
         let b = out[i];
@@ -301,6 +303,7 @@ fn put_line(units: &[u32], out: &mut [u8]) -> usize
 {
     let mut i: usize = 0;
     let mut at: usize = 0;
+    // a word at a time, of as many units as it takes
     while i < units.len() {
         let s = share(&units[i..]);
         let j = i + s.count;

@@ -69,6 +69,7 @@ fn singles(text: &[u8], from: usize, set: u16, shift: u16, count: usize, out: &m
     let mut g0 = set;
     let mut g2 = shift;
     let mut n = count;
+    // an item has one to four bytes: no `for` moves so
     while at < text.len() {
         match single_item(text, at, g0, g2) {
             Item::ToSingles(set, next) => {
@@ -105,6 +106,7 @@ fn pairs(text: &[u8], from: usize, set: u16, shift: u16, count: usize, out: &mut
     let mut g0 = set;
     let mut g2 = shift;
     let mut n = count;
+    // an item has one to four bytes: no `for` moves so
     while at < text.len() {
         match pair_item(text, at, g0, g2) {
             Item::ToSingles(set, next) => return singles(text, next, set, g2, n, out),

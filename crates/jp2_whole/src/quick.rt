@@ -156,6 +156,7 @@ fn stretch_end(text: &[u8], from: usize, to: usize, g0: u16, g2: u16) -> usize
     if g2 != 0 {
         return at;
     }
+    // by sixteens, up to the first block that is not so: the place is the answer
     while at + 16 <= to {
         if !is_block(text, at) {
             return at;
@@ -183,6 +184,7 @@ fn pairs_end(text: &[u8], from: usize) -> usize
     ensures { Pairs text.now from result }
 {
     let mut at = from;
+    // by sixteens, up to the first block that is not so: the place is the answer
     while at + 16 <= text.len() {
         if !is_code_block(text, at) {
             return at;
@@ -345,6 +347,7 @@ fn put_shifts(text: &[u8], from: Reached, out: &mut [u32]) -> Reached
         return from;
     }
     let marks = mark(text, start);
+    // by a shift or by a stretch, two places at once
     while at < start + 128 {
         if out.len() < n + 16 {
             return Reached { at, n, g0: 6, g2 };
@@ -438,6 +441,7 @@ fn fill(text: &[u8], from: Reached, out: &mut [u32]) -> Reached
     let mut g2 = from.g2;
     let mut next = at;
     let to = reach(at, text.len(), out.len() - n);
+    // by a byte or by a token, two places at once
     while at < to {
         let b = text[at];
         if is_lone(b, at, next, g0) {
@@ -468,6 +472,7 @@ pub fn fill_on(text: &[u8], from: Reached, out: &mut [u32]) -> Reached
     let mut n = from.n;
     let mut g0 = from.g0;
     let mut g2 = from.g2;
+    // as far as each filling comes
     while at < text.len() {
         let r = fill(text, Reached { at, n, g0, g2 }, out);
         if r.at <= at {
@@ -548,6 +553,7 @@ pub fn judge(text: &[u8], from: Reached) -> Reached
     let mut g0 = from.g0;
     let mut g2 = from.g2;
     let mut next = at;
+    // by a byte or by a token
     while at < text.len() {
         if is_lone(text[at], at, next, g0) {
             n += 1;
@@ -592,6 +598,7 @@ pub fn follow(text: &[u8], cells: &[u32]) -> Reached
     let mut n: usize = 0;
     let mut g0: u16 = 6;
     let mut g2: u16 = 0;
+    // as far as each filling comes
     while at < text.len() {
         let r = fill(text, Reached { at, n: 0, g0, g2 }, &mut buf);
         if r.at <= at {

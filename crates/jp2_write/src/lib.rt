@@ -285,6 +285,7 @@ fn put_ready(out: &mut [u8], cells: &[u32], from: usize, g0: u16, g2: u16, first
     let mut i = from;
     let mut at: usize = 0;
     let mut size = first;
+    // two places move at once, as long as cells are ready
     while 0 < size {
         at += put_one(&mut out[at..], cells[i] % 65536, size);
         i += 1;

@@ -25,6 +25,7 @@ fn places(n: usize) -> usize
 {
     let mut rest = n;
     let mut k: usize = 1;
+    // as often as ten goes into it: no sequence to run over
     while 10 <= rest {
         rest = rest / 10;
         k += 1;

@@ -138,6 +138,7 @@ fn past_digits(s: &[u8], from: usize, to: usize) -> usize
     ensures { (from ≤ result) × (result ≤ to) × Ahead IsDigit s.now from (result - from) }
 {
     let mut at = from;
+    // by blocks of 32, up to the first that is not so: the place is the answer
     while 32 <= to - at {
         if !all_digits(s, at) {
             return at;

@@ -60,6 +60,7 @@ fn stretch_end(style: Style, cells: &[u32], from: usize) -> usize
     ensures { result ≡ from + stretch_length style (drop from cells.now) }
 {
     let mut j = from;
+    // by sixteens or by one: no `for` moves so
     while j < cells.len() {
         if high_ahead(cells, j) {
             j += 16;
@@ -81,6 +82,7 @@ fn size(style: Style, cells: &[u32]) -> usize
     let sign = utf7::sign_of(style);
     let mut i: usize = 0;
     let mut total: usize = 0;
+    // a whole run or one cell at a time: no `for` moves so
     while i < cells.len() {
         let u = cells[i];
         if is_other(style, u) {
@@ -147,6 +149,7 @@ fn put_values(cells: &[u32], out: &mut [u8], from: usize) -> usize
 {
     let mut i: usize = 0;
     let mut at = from;
+    // two places move at once, and what is left over has a last step of its own
     while 3 <= cells.len() - i {
         let u = cells[i];
         let w = cells[i + 1];
@@ -287,6 +290,7 @@ fn copy_blocks(cells: &[u32], from: usize, out: &mut [u8], to: usize) -> usize
 {
     let mut j = from;
     let mut at = to;
+    // by sixteens, two places at once, up to the first block that is not direct
     while 16 <= cells.len() - j {
         let bytes = bytes_ahead(cells, j);
         if !all_direct(bytes) {
@@ -398,6 +402,7 @@ fn put_bytes(cells: &[u32], from: usize, out: &mut [u8]) -> usize
 {
     let most = room_for(cells.len() - from, out.len());
     let mut n: usize = 0;
+    // by sixteens, as many as both have: the count is the answer
     while 16 <= most - n {
         let bytes = bytes_ahead(cells, from + n);
         put_block(bytes, out, n);
@@ -554,6 +559,7 @@ fn write_all(style: Style, cells: &[u32], out: &mut [u8]) -> usize
     let r = write_blocks(style, cells, out, &mut marks);
     let mut i: usize = r.i;
     let mut at: usize = r.at;
+    // a whole run or one cell at a time, and two places move: no `for` is plainer
     while i < cells.len() {
         let u = cells[i];
         if is_other(style, u) {
