@@ -239,8 +239,7 @@ fn survey(b: Benches, text0: &[u32], text1: &[u32], history: &[u32], mine: usize
 
 // What is found of both benches and their buffers, for the calls of the bench of a number: 16, 20, 14, or else where
 // that bench's pass stands.
-#[tactic(auto, using(crate::proofs::Judging::long_first, crate::proofs::Judging::long_second,
-    crate::proofs::Judging::long_history, crate::proofs::Judging::nobody), unfolding(answer::specs::Answer::limit))]
+#[tactic(auto, using(crate::proofs::Judging::long_first, crate::proofs::Judging::long_second, crate::proofs::Judging::long_history, crate::proofs::Judging::nobody), unfolding(answer::specs::Answer::limit))]
 pub fn judge(
     b: Benches,
     bench: usize,

@@ -94,11 +94,7 @@ fn parting(format: Format, first: &[u8], second: &[u8]) -> Compared
 
 // Each text is judged to its end, the first before the second; equal bytes are read once. What is refused is told with
 // the text that it is of.
-pub fn compare(
-    format: Format,
-    first: &[u8],
-    second: &[u8],
-) -> Result<Compared, (Text, Refused)>
+pub fn compare(format: Format, first: &[u8], second: &[u8]) -> Result<Compared, (Text, Refused)>
     ensures { compared_as result ≡ compare_of format first.now second.now }
 {
     let count = match answer_of(format, first) {

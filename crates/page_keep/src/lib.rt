@@ -152,5 +152,11 @@ pub fn keep(page: Page, text: &[u32], history: &[u32], arrived: &[u8], out: &mut
         return answer::too_long();
     }
     records::judge(page, text, history)?;
-    keep_sound(page, &text[..page.length], &history[..page.used], arrived, &mut *out)
+    keep_sound(
+        page,
+        &text[..page.length],
+        &history[..page.used],
+        arrived,
+        &mut *out,
+    )
 }
