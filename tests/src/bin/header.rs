@@ -26,6 +26,8 @@ const SOURCES: [&str; 9] = [
     "crates/host_benches/src",
 ];
 const ANSWER: &str = "crates/answer/src/lib.rt";
+/// Where the kinds have their numbers, and the block that gives them.
+const KINDS: (&str, &str) = ("crates/codec/src/lib.rt", "impl From<Kind> for u32");
 
 /// A check: its name, and what it found, good or bad.
 type Check = (String, Result<String, String>);
@@ -45,6 +47,14 @@ fn sources(folder: &str) -> Result<Vec<PathBuf>, String> {
     Ok(files.filter(|path| path.extension().is_some_and(|end| end == "rt")).collect())
 }
 
+/// The numbers of the kinds: of codec's file that one block alone, since other rows there begin with a kind too.
+fn kinds() -> Result<Vec<Item>, String> {
+    let (path, block) = KINDS;
+    let text = text_of(Path::new(path))?;
+    let (_, behind) = text.split_once(block).ok_or_else(|| format!("{path}: no `{block}`"))?;
+    rattle::items(behind.split("\n}\n").next().unwrap_or(behind)).map_err(|problem| format!("{path}: {problem}"))
+}
+
 /// The items of the library's source, of all its files.
 fn exported() -> Result<Vec<Item>, String> {
     let mut files = vec![PathBuf::from(ANSWER)];
@@ -57,6 +67,7 @@ fn exported() -> Result<Vec<Item>, String> {
         let items = rattle::items(&text_of(&path)?).map_err(|problem| format!("{}: {problem}", path.display()))?;
         found.extend(items);
     }
+    found.extend(kinds()?);
     Ok(found)
 }
 

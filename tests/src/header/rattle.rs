@@ -37,7 +37,7 @@ pub fn items(source: &str) -> Result<Vec<Item>, String> {
             ["#", "[", "unsafe", "(", "no_mangle", ")", "]", item @ ..] => found.push(function(item)?),
             ["#", "[", "repr", "(", "C", ")", "]", item @ ..] => found.push(structure(without_derives(item))?),
             ["Refusal" | "Kind", ":", ":", name, "=", ">", number, ..] => found.push(constant(name, number)?),
-            ["Accepted", "(", "_", ")", "=", ">", number, ..] => found.push(constant("Accepted", number)?),
+            ["Accepted" | "Ok", "(", "_", ")", "=", ">", number, ..] => found.push(constant("Accepted", number)?),
             ["const", "LIMIT", ":", "usize", "=", number, ..] => found.push(constant("Limit", number)?),
             ["const", "NEVER", ":", "usize", "=", number, ..] => found.push(never(number)?),
             _ => {}
