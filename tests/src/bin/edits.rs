@@ -142,7 +142,7 @@ fn function_at(place: &str, line: &dyn Fn(&str, usize) -> Option<String>) -> Opt
     let mut parts = place.rsplitn(3, ':').skip(1);
     let mut at: usize = parts.next()?.parse().ok()?;
     let path = parts.next()?;
-    while line(path, at)?.starts_with("#[") {
+    while line(path, at)?.trim_start().starts_with("#[") {
         at += 1;
     }
     (1..=at).rev().find_map(|number| declared(&line(path, number)?))
