@@ -17,7 +17,7 @@ pub struct Designation {
 }
 
 // In the order of document 01's table.
-static TABLE: [Designation; 9] = [
+const TABLE: [Designation; 9] = [
     Designation {
         number: 6,
         escape: [27, 40, 66, 0],
@@ -101,12 +101,13 @@ pub fn all_rows() -> [Designation; 9]
 pub fn row_of_number(number: u16) -> usize
     ensures { result ≡ row_of_number number }
 {
-    for (i, d) in TABLE.iter().enumerate() {
+    for i in 0..9 {
+        let d = row_at(i);
         if d.number == number {
             return i;
         }
     }
-    TABLE.len()
+    9
 }
 
 impl Designation {
@@ -122,24 +123,26 @@ impl Designation {
 pub fn row_begun_by(bytes: &[u8]) -> usize
     ensures { result ≡ row_begun_by bytes.now }
 {
-    for (i, d) in TABLE.iter().enumerate() {
+    for i in 0..9 {
+        let d = row_at(i);
         if d.sent().starts_with(bytes) {
             return i;
         }
     }
-    TABLE.len()
+    9
 }
 
 // The row whose escape is these bytes, or 9.
 pub fn row_of_escape(bytes: &[u8]) -> usize
     ensures { result ≡ row_of_escape bytes.now }
 {
-    for (i, d) in TABLE.iter().enumerate() {
+    for i in 0..9 {
+        let d = row_at(i);
         if bytes == d.sent() {
             return i;
         }
     }
-    TABLE.len()
+    9
 }
 
 #[tactic(auto, unfolding(crate::specs::Rule::graphic))]

@@ -1,5 +1,5 @@
-use Rattle.std.proofs.Common.{[], arith, sym, ◌∙◌}
-use Rattle.jp2.specs.Table.{designations, designation, row_of_escape}
+use Rattle.std.proofs.Common.{arith, sym, ◌∙◌}
+use Rattle.jp2.specs.Table.{designations, no_row, row_of_escape}
 use Rattle.jp2.proofs.Search.{passed_start, passed_here, passed_on, passed-end}
 use Rattle.jp2.proofs.Begins.{is_list-std}
 use Rattle.jp2.proofs.row_of_escape.Goals as goal
@@ -10,14 +10,14 @@ loop-i-init c = passed_start _ _
 pub returns-then-eq : goal.returns-then-eq
 unfolding designations row_of_escape
 returns-then-eq c =
-    passed_here c.loop-i.invariant (designation 0 [] 0 0) c.loop-i-test.true
-    (rw (is_list-std, ← c.sent.ensures) (sym c.if-eq.ensures))
+    passed_here c.loop-i.invariant no_row c.loop-i-test.true
+    (rw (is_list-std, ← c.row_at-d.ensures, ← c.sent.ensures) (sym c.if-eq.ensures))
 
 pub loop-i-preserved : goal.loop-i-preserved
 unfolding designations
 loop-i-preserved c =
-    passed_on c.loop-i.invariant (designation 0 [] 0 0) c.loop-i-test.true
-    (rw (is_list-std, ← c.sent.ensures) (sym c.eq.ensures ∙ c.if-eq.false))
+    passed_on c.loop-i.invariant no_row c.loop-i-test.true
+    (rw (is_list-std, ← c.row_at-d.ensures, ← c.sent.ensures) (sym c.eq.ensures ∙ c.if-eq.false))
 
 pub returns : goal.returns
 unfolding designations row_of_escape
