@@ -4,8 +4,8 @@
 pub mod escapes;
 mod past;
 
-ghost use Rattle.std.specs.Prelude.{◌≡◌, true, false, cond, ◌&&◌, ◌||◌, [], ◌∷◌, ℕ, ◌+◌, ◌*◌, ◌<◌, ◌≤◌, length, eqb, IfSome};
-ghost use Rattle.answer.specs.Answer.{limit, in_numbers};
+ghost use Rattle.std.specs.Prelude.{◌≡◌, true, false, cond, ◌&&◌, ◌||◌, [], ◌∷◌, ℕ, ◌+◌, ◌*◌, ◌^◌, ◌<◌, ◌≤◌, length, eqb, IfSome};
+ghost use Rattle.answer.specs.Answer.{in_numbers};
 ghost use Rattle.reading.specs.Reading.{give, closing};
 ghost use Rattle.reading.specs.Stepping.{at_start};
 ghost use Rattle.reading.specs.Decoding.{told, Gets};
@@ -354,7 +354,7 @@ fn single_next(g0: u16, b: u8) -> Option<u32>
 
 // The cell of the next bytes.
 fn marked(value: u32, at: usize, count: usize) -> Marked
-    requires { at + count ≤ limit }
+    requires { at + count < 2 ^ 64 }
     ensures { result ≡ marked_at value at count }
 {
     Marked {
@@ -366,7 +366,7 @@ fn marked(value: u32, at: usize, count: usize) -> Marked
 
 // A cell that comes between cells, with all its bytes: of a single-byte set, a pair, or ESC N and a byte.
 fn cell_next(text: &[u8], at: usize, g0: u16, g2: u16) -> Option<Marked>
-    requires { (at < length text.now) × (length text.now ≤ limit) }
+    requires { at < length text.now }
     ensures { IfSome result (Hands text.now at (at_rest g0 g2)) }
 {
     if text.len() < at + 3 {
@@ -392,7 +392,6 @@ fn cell_next(text: &[u8], at: usize, g0: u16, g2: u16) -> Option<Marked>
 
 // To the cell that comes next, where the reader stands between cells.
 fn to_cell(text: &[u8], at: usize, st: State) -> Ahead<State>
-    requires { length text.now ≤ limit }
     ensures { Gets jp2_code text.now at st result }
 {
     if let Phase::Plain = st.phase {
@@ -447,11 +446,12 @@ impl Decoder for State {
 
     // To a cell that comes next, also past designations.
     fn get_ahead(self, text: &[u8], from: usize) -> Ahead<State> {
-        let a = to_cell(text, from, self);
+        let st = self.settled();
+        let a = to_cell(text, from, st);
         if a.cell.is_some() {
             return a;
         }
-        let (at, state) = past::pass(text, from, self);
+        let (at, state) = past::pass(text, from, st);
         to_cell(text, at, state)
     }
 }

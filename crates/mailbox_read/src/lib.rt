@@ -226,6 +226,32 @@ fn letters(text: &[u8], from: usize, pending: u32, value: u32) -> Ahead<State>
     }
 }
 
+// Over what most names are made of.
+fn get_ahead(text: &[u8], from: usize, given: State) -> Ahead<State>
+    requires { Settled given }
+    ensures { Gets mailbox_code text.now from given result }
+{
+    let (at, st) = closed(text, from, given);
+    if is_alone(text, at, st) {
+        let cell = Some(reading::mark(text[at] as u32, 1, at + 1));
+        let state = State::Outside(false);
+        return Ahead {
+            cell,
+            at: at + 1,
+            state,
+        };
+    }
+    let (at, st) = opened(text, at, st);
+    if let State::Run(n, v) = st {
+        return letters(text, at, n, v);
+    }
+    Ahead {
+        cell: None,
+        at,
+        state: st,
+    }
+}
+
 impl Decoder for State {
     ghost Meaning = { Shift };
 
@@ -247,7 +273,7 @@ impl Decoder for State {
 
     fn feed(self, b: u8) -> Move<State> {
         if b < 128 {
-            return low(self, b);
+            return low(self.settled(), b);
         }
         Move::Bad(Refusal::HighByte)
     }
@@ -257,34 +283,15 @@ impl Decoder for State {
     }
 
     fn width(self, b: u8) -> usize {
-        match self {
+        match self.settled() {
             State::Outside(_) => 1,
             State::Opening(_) => 2,
             State::Run(n, _) => (n as usize + 11) / 6,
         }
     }
 
-    // Over what most names are made of.
     fn get_ahead(self, text: &[u8], from: usize) -> Ahead<State> {
-        let (at, st) = closed(text, from, self);
-        if is_alone(text, at, st) {
-            let cell = Some(reading::mark(text[at] as u32, 1, at + 1));
-            let state = State::Outside(false);
-            return Ahead {
-                cell,
-                at: at + 1,
-                state,
-            };
-        }
-        let (at, st) = opened(text, at, st);
-        if let State::Run(n, v) = st {
-            return letters(text, at, n, v);
-        }
-        Ahead {
-            cell: None,
-            at,
-            state: st,
-        }
+        get_ahead(text, from, self.settled())
     }
 }
 
@@ -292,7 +299,7 @@ impl Decoder for State {
 pub fn byte_does(st: State, b: u8) -> Move<State>
     ensures { told_move result ≡ move_of st b }
 {
-    st.settled().feed(b)
+    st.feed(b)
 }
 
 // The answer of a text of some size that ends in any state, after some cells.

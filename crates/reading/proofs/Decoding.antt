@@ -88,6 +88,11 @@ module _ {C S : Type 0} {code : Code C S} where
           same = λ handed. p.same handed ∙ q.same handed;
         }
 
+    -- what is passed over from a state is passed over from every state that means the same
+    pub gets-same : {a : ℕ} {r s : C} {x : Ahead C} → code.means s ≡ code.means r → Gets code text a s x → Gets code text a r x
+    unfolding step_from
+    gets-same e q = record { on = q.on; more = q.more; settled = q.settled; same = λ handed. rw (← e) (q.same handed) }
+
 -- a step's cell, at a settled state, is the definition's
 pub cell-told :
     {C S : Type 0} (code : Code C S) {m : Marked} {at handed : ℕ} {st : C} {x : Next (Spot S)} →

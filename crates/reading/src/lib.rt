@@ -2,8 +2,8 @@
 // cell with its bytes, and of where a cursor of any numbers stands.
 #![tactic(auto)]
 
-ghost use Rattle.std.specs.Prelude.{◌≡◌, ◌≤◌, length};
-ghost use Rattle.answer.specs.Answer.{limit, in_numbers};
+ghost use Rattle.std.specs.Prelude.{◌≡◌, ◌≤◌};
+ghost use Rattle.answer.specs.Answer.{in_numbers};
 ghost use Rattle.reading.specs.Reading.{closing};
 ghost use Rattle.reading.specs.Spans.{marked_as, last_bytes, Takes};
 ghost use Rattle.reading.specs.Stepping.{least, onward};
@@ -94,24 +94,20 @@ pub trait Decoder: Copy {
     fn settled(self) -> Self
         ensures { code.Settled result × (code.means result ≡ code.means self) };
 
-    // What a byte does.
+    // What a byte does, in any state.
     fn feed(self, b: u8) -> Move<Self>
-        requires { code.Settled self }
         ensures { Moves code result (code.rule.byte (code.means self) b) };
 
     // The answer of a text of some size that ends here, after some cells.
     fn finish(self, size: usize, handed: usize) -> Answer
-        requires { code.Settled self }
         ensures { in_numbers result ≡ closing (code.rule.end size (code.means self)) handed };
 
     // How many bytes the cell has that this byte completes.
     fn width(self, b: u8) -> usize
-        requires { code.Settled self }
         ensures { Takes (code.marking (code.means self) b) result };
 
     // Over what most texts are made of.
     fn get_ahead(self, text: &[u8], from: usize) -> Ahead<Self>
-        requires { code.Settled self × (from ≤ length text.now) × (length text.now ≤ limit) }
         ensures { Gets code text.now from self result };
 
     ghost writes_back: { (st : Self) → code.Settled st → code.writes (code.means st) ≡ st };
@@ -119,7 +115,7 @@ pub trait Decoder: Copy {
 
 // The step from a place, a byte at a time.
 fn step_on<D: Decoder>(text: &[u8], from: usize, handed: usize, state: D) -> Stepped<D>
-    requires { D.code.Settled state × (handed ≤ from) }
+    requires { handed ≤ from }
     ensures { told result ≡ onward (cursor_by D.code.writes) (step_from D.code text.now from state handed) }
 {
     let mut at = from;
@@ -157,7 +153,7 @@ pub fn step<D: Decoder>(text: &[u8], c: Cursor<D>) -> Stepped<D>
     }
     let at = lesser(c.at, text.len());
     let handed = lesser(c.handed, at);
-    let a = c.state.settled().get_ahead(text, at);
+    let a = c.state.get_ahead(text, at);
     match a.cell {
         Some(cell) => {
             let next = Cursor {

@@ -204,6 +204,32 @@ fn letters(text: &[u8], from: usize, pending: u32, value: u32) -> Ahead<State>
     }
 }
 
+// Over what most texts are made of.
+fn get_ahead(text: &[u8], from: usize, given: State) -> Ahead<State>
+    requires { Settled given }
+    ensures { Gets utf7_code text.now from given result }
+{
+    let (at, st) = closed(text, from, given);
+    if is_alone(text, at, st) {
+        let cell = Some(reading::mark(text[at] as u32, 1, at + 1));
+        let state = State::Outside;
+        return Ahead {
+            cell,
+            at: at + 1,
+            state,
+        };
+    }
+    let (at, st) = opened(text, at, st);
+    if let State::Run(n, v) = st {
+        return letters(text, at, n, v);
+    }
+    Ahead {
+        cell: None,
+        at,
+        state: st,
+    }
+}
+
 impl Decoder for State {
     ghost Meaning = { Shift };
 
@@ -225,13 +251,13 @@ impl Decoder for State {
 
     fn feed(self, b: u8) -> Move<State> {
         if b < 128 {
-            return low(self, b);
+            return low(self.settled(), b);
         }
         Move::Bad(Refusal::HighByte)
     }
 
     fn finish(self, size: usize, handed: usize) -> Answer {
-        match self {
+        match self.settled() {
             State::Outside => Ok(handed),
             State::Opening => Err(Refused(Refusal::LoneSign, size)),
             State::Run(n, v) => {
@@ -244,7 +270,7 @@ impl Decoder for State {
     }
 
     fn width(self, b: u8) -> usize {
-        match self {
+        match self.settled() {
             State::Outside => 1,
             State::Opening => 2,
             State::Run(n, _) => {
@@ -256,27 +282,8 @@ impl Decoder for State {
         }
     }
 
-    // Over what most texts are made of.
     fn get_ahead(self, text: &[u8], from: usize) -> Ahead<State> {
-        let (at, st) = closed(text, from, self);
-        if is_alone(text, at, st) {
-            let cell = Some(reading::mark(text[at] as u32, 1, at + 1));
-            let state = State::Outside;
-            return Ahead {
-                cell,
-                at: at + 1,
-                state,
-            };
-        }
-        let (at, st) = opened(text, at, st);
-        if let State::Run(n, v) = st {
-            return letters(text, at, n, v);
-        }
-        Ahead {
-            cell: None,
-            at,
-            state: st,
-        }
+        get_ahead(text, from, self.settled())
     }
 }
 
@@ -284,14 +291,14 @@ impl Decoder for State {
 pub fn byte_does(st: State, b: u8) -> Move<State>
     ensures { told_move result ≡ move_of st b }
 {
-    st.settled().feed(b)
+    st.feed(b)
 }
 
 // The answer of a text of some size that ends in any state, after some cells.
 pub fn ends_in(size: usize, handed: usize, st: State) -> Answer
     ensures { in_numbers result ≡ closing (ends_in size (shift_of st)) handed }
 {
-    st.settled().finish(size, handed)
+    st.finish(size, handed)
 }
 
 // The cursor of a reader that has read nothing.

@@ -129,16 +129,18 @@ struct Items {
     shown: HashSet<String>,
 }
 
-/// What is around an item: the type of an `impl`, and whether every module is `pub`.
+/// What is around an item: the type of an `impl` or the trait, whether every module is `pub`, and whether it is a `pub`
+/// trait, whose methods are as public as it is.
 #[derive(Clone, Copy)]
 struct Scope<'a> {
     owner: Option<&'a str>,
     open: bool,
+    pub_trait: bool,
 }
 
 fn items(source: &str) -> Items {
     let mut found = Items::default();
-    gather(&tokens(source), Scope { owner: None, open: true }, &mut found);
+    gather(&tokens(source), Scope { owner: None, open: true, pub_trait: false }, &mut found);
     found
 }
 
@@ -156,6 +158,11 @@ fn gather(tokens: &[Token], scope: Scope, found: &mut Items) {
             }
             "impl" => {
                 let inner = Scope { owner: Some(owner(&tokens[place + 1..])), ..scope };
+                place = gather_block(tokens, next_place(tokens, place, "{"), inner, found);
+            }
+            "trait" => {
+                let (owner, pub_trait) = (Some(text_at(tokens, place + 1)), is_pub(tokens, place));
+                let inner = Scope { owner, pub_trait, ..scope };
                 place = gather_block(tokens, next_place(tokens, place, "{"), inner, found);
             }
             "mod" => {
@@ -246,7 +253,7 @@ fn function(tokens: &[Token], place: usize, scope: Scope, exported: bool) -> (Fu
     }
     let name = text_at(tokens, place + 1);
     let name = scope.owner.map_or(name.to_string(), |owner| format!("{owner}::{name}"));
-    let (line, is_pub, open) = (tokens[place].line, is_pub(tokens, place), scope.open);
+    let (line, is_pub, open) = (tokens[place].line, scope.pub_trait || is_pub(tokens, place), scope.open);
     (Function { name, line, is_pub, open, exported, ensures, requires }, end)
 }
 
@@ -412,6 +419,14 @@ mod tests {
     fn methods_carry_their_type() {
         let source = "impl<'a> Reader<'a> { pub fn new(s: &'a [u8]) -> Reader<'a> {} fn at(self) {} } pub fn f() {}";
         assert_eq!(public_in(source), ["Reader::new: no ensures", "f: no ensures"]);
+    }
+
+    #[test]
+    fn methods_of_a_public_trait_are_public() {
+        let source = "pub trait T: U { ghost m: { ℕ }; fn f() requires { a } ensures { b }; fn g() ensures { c } {} }";
+        assert_eq!(public_in(source), ["T::f: has a requires", "T::g: "]);
+        assert!(public_in("trait T { fn f(); } mod inner { pub trait U { fn g(); } }").is_empty());
+        assert_eq!(public_in("mod inner { pub trait T { fn f(); } } pub use inner::T;"), ["T::f: no ensures"]);
     }
 
     #[test]

@@ -5,4 +5,4 @@ use Rattle.mailbox_read.proofs.byte_does.Goals as goal
 
 pub returns : goal.returns
 unfolding move_of
-returns c = rw (← c.settled.ensures.1) (move-told mailbox-faithful _ _ c.feed.ensures)
+returns c = move-told mailbox-faithful _ _ c.feed.ensures

@@ -5,4 +5,4 @@ use Rattle.utf7_read.proofs.byte_does.Goals as goal
 
 pub returns : goal.returns
 unfolding move_of
-returns c = rw (← c.settled.ensures.1) (move-told utf7-faithful _ _ c.feed.ensures)
+returns c = move-told utf7-faithful _ _ c.feed.ensures

@@ -4,7 +4,7 @@ use Rattle.mailbox_read.proofs.StateDecoder.feed.Goals as goal
 
 pub returns-then-b-lt128 : goal.returns-then-b-lt128
 unfolding byte_does
-returns-then-b-lt128 c = simp (lt-ltb _ _ c.if-b-lt128.true) c.low.ensures
+returns-then-b-lt128 c = simp (lt-ltb _ _ c.if-b-lt128.true) (rw c.settled.ensures.1 at c.low.ensures)
 
 pub returns : goal.returns
 unfolding byte_does
