@@ -5,8 +5,8 @@ use mathlib.Core.Bool.{true, false, ◌&&◌}
 use mathlib.Core.List.{List, ◌++◌, append_assoc, append-nil}
 use native.Mathlib.Nat.{sub-zero, zero-sub, suc-sub-suc, le_of_suc-le-suc}
 use native.Mathlib.Omega.{arith}
-use lib.ListN.{length, take, drop, replicate, length-take, length-drop, length-append, length-replicate, drop_of_length-le}
-use lib.Seq.{take-take, drop-drop, take-length, take-append-le, take_at, drop_at, paste, length-take-le}
+use lib.ListN.{length, take, drop, replicate, length-take, length-drop, length-append, length-replicate, drop_of_length-le, take-append-drop}
+use lib.Seq.{take-add, take-take, drop-drop, take-length, take-append-le, take_at, drop_at, paste, length-take-le}
 use lib.Dec.{leb}
 use borrow.Author.Tests.{le-leb, leb-true}
 use Rattle.std.proofs.lemmas.Slice.{put_mid-paste}
@@ -21,6 +21,10 @@ pub shifted_in :
     (l : List ℕ) (from to n : ℕ) → to ≤ from → from + n ≤ length l → shifted_left from to n l ≡ paste l to (drop from l) n
 unfolding shifted_left
 shifted_in l from to n h k = rw (le-leb to from h, le-leb (from + n) (length l) k)
+
+-- elements that stand there already
+pub move_same : (l : List ℕ) (at n : ℕ) → paste l at (drop at l) n ≡ l
+move_same l at n = rw (← take-add at n l) (take-append-drop (at + n) l)
 
 -- zeros put from a place on
 take-replicate : (n m : ℕ) → n ≤ m → take n (replicate m 0) ≡ replicate {A = ℕ} n 0

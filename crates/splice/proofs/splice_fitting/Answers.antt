@@ -8,12 +8,12 @@ returns c =
     let a = c.args in
     let p = c.requires in
     let cells = a.cells.now in
-    let moved = c.copy_within.new.self in
+    let moved = c.move_part.new.s in
     let to = a.place + length cells in
     let copied =
     put_mid-paste a.place (to - a.place) moved c.copy_from_slice.new.self cells (length cells)
     c.copy_from_slice.ensures.after (omega arith) refl in (
       end_is a.buffer.now cells a.used a.place a.count p.0 p.1 p.2,
       splice-is a.buffer.now cells a.used a.place a.count p.0 p.1 p.2 moved _ c.clear_part.new.s
-          c.copy_within.ensures.after copied c.clear_part.ensures,
+          c.move_part.ensures copied c.clear_part.ensures,
     )
