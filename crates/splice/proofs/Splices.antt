@@ -1,12 +1,13 @@
 -- Laws of moving, copying and clearing part of a list, a turn of a loop at a time, and of the edit made of them. Assumes nothing.
-use Prim.Native.Nat.{ℕ, zero, suc, ◌+◌, ◌-◌, ◌≤◌}
+use Prim.Native.Nat.{ℕ, zero, suc, ◌+◌, ◌-◌, ◌≤◌, ◌<◌}
 use mathlib.Core.Path.{◌≡◌, refl, sym, ap, ◌∙◌}
 use mathlib.Core.Bool.{true, false, ◌&&◌}
 use mathlib.Core.List.{List, ◌++◌, append_assoc, append-nil}
 use native.Mathlib.Nat.{sub-zero, zero-sub, suc-sub-suc, le_of_suc-le-suc}
+use native.Mathlib.Numerals.{add-one}
 use native.Mathlib.Omega.{arith}
-use lib.ListN.{length, take, drop, replicate, length-take, length-drop, length-append, length-replicate, drop_of_length-le}
-use lib.Seq.{take-take, drop-drop, take-length, take-append-le, take_at, drop_at, paste, length-take-le}
+use lib.ListN.{length, get_or, take, drop, set, replicate, length-take, length-drop, length-append, length-replicate, drop_of_length-le, take-append-drop}
+use lib.Seq.{take-add, take-take, drop-drop, take-length, take-append-le, take_at, drop_at, paste, paste-suc, length-take-le}
 use lib.Dec.{leb}
 use borrow.Author.Tests.{le-leb, leb-true}
 use Rattle.std.proofs.lemmas.Slice.{put_mid-paste}
@@ -21,6 +22,15 @@ pub shifted_in :
     (l : List ℕ) (from to n : ℕ) → to ≤ from → from + n ≤ length l → shifted_left from to n l ≡ paste l to (drop from l) n
 unfolding shifted_left
 shifted_in l from to n h k = rw (le-leb to from h, le-leb (from + n) (length l) k)
+
+-- elements that stand there already
+pub move_same : (l : List ℕ) (at n : ℕ) → paste l at (drop at l) n ≡ l
+move_same l at n = rw (← take-add at n l) (take-append-drop (at + n) l)
+
+pub copy-turn :
+    (l s cells : List ℕ) (at j : ℕ) → s ≡ paste l at cells j → at + j < length l → j < length cells →
+    set s (at + j) (get_or cells j 0) ≡ paste l at cells (j + 1)
+copy-turn l s cells at j e h g = rw (e, add-one) (paste-suc l at cells j 0 h g)
 
 -- zeros put from a place on
 take-replicate : (n m : ℕ) → n ≤ m → take n (replicate m 0) ≡ replicate {A = ℕ} n 0

@@ -17,6 +17,28 @@ pub fn shift_left(s: &mut [u32], from: usize, to: usize, n: usize)
     }
 }
 
+// Moves n elements. Where they stand there already, as for a step that puts as many cells as it takes, nothing is to be
+// done: `copy_within` would copy them onto themselves, one by one.
+fn move_part(s: &mut [u32], from: usize, to: usize, n: usize)
+    requires { (from + n ≤ length s.old) × (to + n ≤ length s.old) }
+    ensures { s.new ≡ paste s.old to (drop from s.old) n }
+{
+    if from != to {
+        s.copy_within(from..from + n, to);
+    }
+}
+
+// Puts cells at a place, over what stands there. A loop, since the archive for C asks for memcpy and memset alone, and
+// `copy_from_slice` calls memmove here.
+fn copy_at(s: &mut [u32], at: usize, cells: &[u32])
+    requires { at + length cells.now ≤ length s.old }
+    ensures { s.new ≡ paste s.old at cells.now (length cells.now) }
+{
+    for j in 0..cells.len() {
+        s[at + j] = cells[j];
+    }
+}
+
 // Sets the elements from a place up to another to 0.
 fn clear_part(s: &mut [u32], at: usize, to: usize)
     requires { to ≤ length s.old }
@@ -57,9 +79,10 @@ fn splice_fitting(
 {
     let from = place + count;
     let to = place + cells.len();
-    buffer.copy_within(from..used, to);
-    buffer[place..to].copy_from_slice(cells);
-    let end = to + (used - from);
+    let tail = used - from;
+    move_part(&mut *buffer, from, to, tail);
+    copy_at(&mut *buffer, place, cells);
+    let end = to + tail;
     clear_part(&mut *buffer, end, used);
     end
 }
