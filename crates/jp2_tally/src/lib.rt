@@ -1,7 +1,7 @@
 // The tally of a list of JP-2 cells.
 #![tactic(auto)]
 
-ghost use Rattle.std.specs.Prelude.{◌≡◌, eqb};
+ghost use Rattle.std.specs.Prelude.{◌≡◌, ◌+◌, ◌<◌, ◌^◌, get_or, set, eqb};
 ghost use Rattle.answer.specs.Answer.{in_numbers};
 ghost use Rattle.jp2.specs.Table.{first_where};
 ghost use Rattle.jp2.specs.Tally.{sets, tally_of};
@@ -15,7 +15,7 @@ pub struct Tallied {
 }
 
 // In rising number: the order of the counts, which is not the table's.
-static SETS: [u32; 9] = [6, 14, 42, 58, 87, 100, 126, 149, 159];
+const SETS: [u32; 9] = [6, 14, 42, 58, 87, 100, 126, 149, 159];
 
 // The place of a set's count, or 9.
 fn place_of(number: u32) -> usize
@@ -27,6 +27,16 @@ fn place_of(number: u32) -> usize
         }
     }
     SETS.len()
+}
+
+// One count is one more.
+fn raise(counts: [u32; 9], k: usize) -> [u32; 9]
+    requires { (k < 9) × (get_or counts k 0 + 1 < 2 ^ 32) }
+    ensures { result ≡ set counts k (get_or counts k 0 + 1) }
+{
+    let mut next = counts;
+    next[k] = counts[k] + 1;
+    next
 }
 
 // One count for each set, in rising number of the sets.
@@ -47,7 +57,8 @@ pub fn tally(cells: &[u32]) -> Tallied
                 counts: [0; 9],
             };
         }
-        counts[place_of(*v / 65536)] += 1;
+        let next = raise(counts, place_of(*v / 65536));
+        counts = next;
     }
     Tallied {
         answer: Ok(cells.len()),

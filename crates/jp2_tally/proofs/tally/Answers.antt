@@ -1,6 +1,5 @@
-use Rattle.std.proofs.Common.{refl, sym, ◌∙◌, ◌≡◌, true, length, slice_index_or, arith}
+use Rattle.std.proofs.Common.{refl, sym, ◌∙◌, ◌≡◌, length, arith}
 use borrow.Author.Tests.{ltb-false}
-use Rattle.jp2.specs.Writable.{writable}
 use Rattle.jp2.specs.Tally.{count_of, tally_of}
 use Rattle.jp2_tally.proofs.Counting.{count-start, count_room, count_next, tally-bad, tally-done}
 use Rattle.jp2_tally.proofs.tally.Goals as goal
@@ -17,24 +16,14 @@ pub returns-then-not-is_writable : goal.returns-then-not-is_writable
 returns-then-not-is_writable c =
     rw (tally-bad c.loop-i.invariant c.loop-i-test.true (sym c.is_writable.ensures ∙ c.if-not-is_writable.true)) (refl, refl)
 
--- a writable cell
-judged : (c : goal.After-place_of) → writable (slice_index_or c.args.cells.now c.loop-i.i 0) ≡ true
-judged c = sym c.is_writable.ensures ∙ c.if-not-is_writable.false
-
-pub offset_bounds-counts-place_of : goal.offset_bounds-counts-place_of
-offset_bounds-counts-place_of c = omega (arith, count_room c.loop-i.invariant c.loop-i-test.true (judged c) c.place_of.ensures)
-
-pub bounds-counts-place_of : goal.bounds-counts-place_of
-bounds-counts-place_of c = (count_room c.loop-i.invariant c.loop-i-test.true (judged c) c.place_of.ensures).0
-
-pub overflow_add-counts : goal.overflow_add-counts
-overflow_add-counts c = omega (arith, count_room c.loop-i.invariant c.loop-i-test.true (judged c) c.place_of.ensures)
-
-pub bounds-counts-place_of-in-loop-i : goal.bounds-counts-place_of-in-loop-i
-bounds-counts-place_of-in-loop-i c = (count_room c.loop-i.invariant c.loop-i-test.true (judged c) c.place_of.ensures).0
+pub raise-next-requires : goal.raise-next-requires
+raise-next-requires c =
+    count_room c.loop-i.invariant c.loop-i-test.true (sym c.is_writable.ensures ∙ c.if-not-is_writable.false) c.place_of.ensures
 
 pub loop-i-preserved : goal.loop-i-preserved
-loop-i-preserved c = count_next c.loop-i.invariant c.loop-i-test.true (judged c) c.place_of.ensures
+loop-i-preserved c =
+    rw c.raise-next.ensures
+    (count_next c.loop-i.invariant c.loop-i-test.true (sym c.is_writable.ensures ∙ c.if-not-is_writable.false) c.place_of.ensures)
 
 pub returns : goal.returns
 returns c =
