@@ -7,7 +7,7 @@ use native.Mathlib.Numerals.{add-one}
 use native.Mathlib.Nat.{suc-mul, zero-mul, pow-suc}
 use Rattle.std.proofs.Math.Nat.{div-div-eq-div-mul}
 use lib.ListN.{length, get_or, take, set, length-append}
-use lib.Seq.{sets, sets-eq, paste, take-suc, take-length, length-take-le}
+use lib.Seq.{sets, take-suc, length-take-le}
 use lib.Dec.{eqb}
 use borrow.Author.Tests.{eqb-true}
 use Rattle.std.proofs.lemmas.List.{set_comm}
@@ -95,7 +95,3 @@ module _ (base : ℕ) (out₀ out : List ℕ) (at k n j rest : ℕ) (r : rest �
 
   pub rest-turn : rest / base ≡ n / base ^ (k + 1)
   rest-turn = rw (add-one k, pow-suc base k, r) (div-div-eq-div-mul n (base ^ k) base)
-
--- a whole list over what stands there
-pub paste-sets : (out bytes : List ℕ) (at : ℕ) → at + length bytes ≤ length out → paste out at bytes (length bytes) ≡ sets out at bytes
-paste-sets out bytes at h = rw (take-length bytes) (sym (sets-eq bytes out at h))
