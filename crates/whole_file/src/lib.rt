@@ -7,7 +7,7 @@ ghost use Rattle.std.specs.IoError.{raw_os_error};
 
 use std::env::{Env, FillError};
 use std::io::{Error, ErrorKind, Read};
-use std::rt::Files;
+use std::rt::{Files, HostRuntime};
 use std::{fs, io};
 
 // The system's number for bytes that are no text, "Invalid or incomplete multibyte or wide character".
@@ -39,7 +39,8 @@ pub fn read_some<R: Read>(input: &mut R, buf: &mut [u8]) -> io::Result<usize>
 
 // An argument of the program, which names a file, and how many bytes it has; or the system's fault for one that is not
 // there, or longer than the buffer.
-pub fn argument<E: Env>(rt: &E, i: usize, buf: &mut [u8]) -> io::Result<usize>
+// (It takes the process's own runtime: by any `Env` a program would reach the contracts of all that an `Env` can do.)
+pub fn argument(rt: &HostRuntime, i: usize, buf: &mut [u8]) -> io::Result<usize>
     ensures within { IfOk result (λ n. n ≤ length buf.new) }
     ensures fault { IfErr result (λ e. (raw_os_error e ≡ Some (pos 22)) ⊎ (raw_os_error e ≡ Some (pos 36))) }
 {
