@@ -1,8 +1,12 @@
 //! Lists the public functions of the library crates that have no `ensures`, and so promise nothing, or that have a
 //! `requires`, where they must refuse bad input instead.
 //!
+//! The methods that a `pub trait` declares are public functions too. The function of an `impl From` or `impl TryFrom` is
+//! public wherever it stands. Std's traits promise nothing of it but what the ghost member `from_gives` or
+//! `try_from_gives` says, so the `impl` must give that member.
+//!
 //! Run it from the root of the repository: it looks at crates/*/src/lib.rt and at the files that `mod` items lead to.
-//! Crates with src/main.rt alone are programs and are left out. The last line is
+//! Crates with src/main.rt alone are programs: only their conversions are looked at. The last line is
 //! `N public functions, M without a full promise`.
 
 use std::collections::HashSet;
@@ -92,6 +96,9 @@ fn is_byte_literal(rest: &str) -> bool {
         && (letters.next() == Some('\\') || letters.next() == Some('\''))
 }
 
+/// The traits of conversions, each with the ghost member that says what an `impl` of it gives.
+const CONVERSIONS: [(&str, &str); 2] = [("From", "from_gives"), ("TryFrom", "try_from_gives")];
+
 /// A function as its source shows it.
 struct Function {
     /// Its name, after that of the type whose method it is.
@@ -100,16 +107,25 @@ struct Function {
     is_pub: bool,
     /// Every module of its file around it is `pub`.
     open: bool,
-    /// It has the attribute `no_mangle`: programs in other languages can call it, wherever it stands.
+    /// It can be called wherever it stands: by programs in other languages, as it has the attribute `no_mangle`, or
+    /// through the trait of a conversion.
     exported: bool,
-    ensures: bool,
+    promise: Promise,
     requires: bool,
+}
+
+/// The word of a clause or of a ghost member that says what a function gives, and whether it stands there.
+#[derive(Clone, Copy)]
+struct Promise {
+    word: &'static str,
+    stands: bool,
 }
 
 impl Function {
     /// What its promise lacks, if anything.
-    fn faults(&self) -> Vec<&'static str> {
-        let faults = [(!self.ensures, "no ensures"), (self.requires, "has a requires")];
+    fn faults(&self) -> Vec<String> {
+        let Promise { word, stands } = self.promise;
+        let faults = [(!stands, format!("no {word}")), (self.requires, "has a requires".to_string())];
         faults.into_iter().filter(|(is_fault, _)| *is_fault).map(|(_, name)| name).collect()
     }
 }
@@ -129,18 +145,20 @@ struct Items {
     shown: HashSet<String>,
 }
 
-/// What is around an item: the type of an `impl` or the trait, whether every module is `pub`, and whether it is a `pub`
-/// trait, whose methods are as public as it is.
+/// What is around an item: the type of an `impl` or the name of a trait, whether that is a `pub trait`, in the `impl` of
+/// a conversion its promise, and whether every module is `pub`.
 #[derive(Clone, Copy)]
 struct Scope<'a> {
     owner: Option<&'a str>,
+    in_pub_trait: bool,
+    conversion: Option<Promise>,
     open: bool,
-    pub_trait: bool,
 }
 
 fn items(source: &str) -> Items {
     let mut found = Items::default();
-    gather(&tokens(source), Scope { owner: None, open: true, pub_trait: false }, &mut found);
+    let scope = Scope { owner: None, in_pub_trait: false, conversion: None, open: true };
+    gather(&tokens(source), scope, &mut found);
     found
 }
 
@@ -157,13 +175,15 @@ fn gather(tokens: &[Token], scope: Scope, found: &mut Items) {
                 place = end;
             }
             "impl" => {
-                let inner = Scope { owner: Some(owner(&tokens[place + 1..])), ..scope };
-                place = gather_block(tokens, next_place(tokens, place, "{"), inner, found);
+                let start = next_place(tokens, place, "{");
+                let (of, owner) = header(&tokens[place + 1..start]);
+                let conversion = of.and_then(|of| conversion(of, &tokens[start..past_block(tokens, start)]));
+                place = gather_block(tokens, start, Scope { owner: Some(owner), conversion, ..scope }, found);
             }
             "trait" => {
-                let (owner, pub_trait) = (Some(text_at(tokens, place + 1)), is_pub(tokens, place));
-                let inner = Scope { owner, pub_trait, ..scope };
-                place = gather_block(tokens, next_place(tokens, place, "{"), inner, found);
+                let (owner, in_pub_trait) = (Some(text_at(tokens, place + 1)), is_pub(tokens, place));
+                let start = next_place(tokens, place, "{");
+                place = gather_block(tokens, start, Scope { owner, in_pub_trait, ..scope }, found);
             }
             "mod" => {
                 let inner = Scope { open: scope.open && is_pub(tokens, place), ..scope };
@@ -208,12 +228,35 @@ fn next_place(tokens: &[Token], start: usize, text: &str) -> usize {
     (start..tokens.len()).find(|&place| tokens[place].text == text).unwrap_or(tokens.len())
 }
 
-/// The type of an `impl`, before which parameters may stand.
-fn owner<'a>(tokens: &[Token<'a>]) -> &'a str {
-    match text_at(tokens, 0) {
-        "<" => text_at(tokens, next_place(tokens, 0, ">") + 1),
-        name => name,
+/// The trait that an `impl` is of, if it is of one, and its type, from the tokens between `impl` and its block: of each
+/// the last word of its path, without parameters.
+fn header<'a>(tokens: &[Token<'a>]) -> (Option<&'a str>, &'a str) {
+    let (mut of, mut name) = (None, "");
+    let mut depth = 0;
+    for (place, token) in tokens.iter().enumerate() {
+        match token.text {
+            "<" => depth += 1,
+            // That of `->` ends no parameters.
+            ">" if place > 0 && tokens[place - 1].text != "-" => depth -= 1,
+            "for" if depth == 0 => of = Some(name),
+            "where" if depth == 0 => break,
+            text if depth == 0 && text.starts_with(|first: char| first.is_alphabetic() || first == '_') => name = text,
+            _ => {}
+        }
     }
+    (of, name)
+}
+
+/// What an `impl` with this block promises, if the trait is that of a conversion.
+fn conversion(of: &str, block: &[Token]) -> Option<Promise> {
+    let (_, word) = CONVERSIONS.into_iter().find(|(name, _)| *name == of)?;
+    let mut place = 1;
+    let mut stands = false;
+    while place < block.len() {
+        stands |= ["ghost", word, "="].iter().enumerate().all(|(next, text)| text_at(block, place + next) == *text);
+        place = if block[place].text == "{" { past_block(block, place) } else { place + 1 };
+    }
+    Some(Promise { word, stands })
 }
 
 /// Whether `pub` stands before the item whose word is at this place. (`pub(crate)` is not public.)
@@ -253,8 +296,12 @@ fn function(tokens: &[Token], place: usize, scope: Scope, exported: bool) -> (Fu
     }
     let name = text_at(tokens, place + 1);
     let name = scope.owner.map_or(name.to_string(), |owner| format!("{owner}::{name}"));
-    let (line, is_pub, open) = (tokens[place].line, scope.pub_trait || is_pub(tokens, place), scope.open);
-    (Function { name, line, is_pub, open, exported, ensures, requires }, end)
+    // The methods of a trait are as public as it is, without a word of their own.
+    let is_pub = scope.in_pub_trait || is_pub(tokens, place);
+    let (line, open) = (tokens[place].line, scope.open);
+    let exported = exported || scope.conversion.is_some();
+    let promise = scope.conversion.unwrap_or(Promise { word: "ensures", stands: ensures });
+    (Function { name, line, is_pub, open, exported, promise, requires }, end)
 }
 
 /// The place of the first clause, of the body, or of the semicolon of a declaration.
@@ -281,10 +328,10 @@ struct File {
 /// Gives the text of a file, if it is there.
 type Load<'a> = &'a dyn Fn(&Path) -> Option<String>;
 
-/// The files of a crate, from its first on.
+/// The files of a crate, from its first on. None of a program is open.
 fn files(first: &Path, load: Load) -> Result<Vec<File>, String> {
     let mut found: Vec<File> = Vec::new();
-    let mut wanted = vec![(vec![first.to_path_buf()], true)];
+    let mut wanted = vec![(vec![first.to_path_buf()], first.ends_with("lib.rt"))];
     while let Some((candidates, open)) = wanted.pop() {
         let file = candidates.iter().find_map(|path| load(path).map(|source| (path, source)));
         let (path, source) = file.ok_or_else(|| format!("none of these files is there: {candidates:?}"))?;
@@ -303,7 +350,7 @@ fn files(first: &Path, load: Load) -> Result<Vec<File>, String> {
 /// The folder of the files that a file's `mod` items name.
 fn folder_below(file: &Path) -> PathBuf {
     match file.file_stem().and_then(|stem| stem.to_str()) {
-        Some("lib" | "mod") => file.with_file_name(""),
+        Some("lib" | "main" | "mod") => file.with_file_name(""),
         _ => file.with_extension(""),
     }
 }
@@ -311,12 +358,13 @@ fn folder_below(file: &Path) -> PathBuf {
 /// The public functions of a crate, each with its file.
 fn public_functions(first: &Path, load: Load) -> Result<Vec<(PathBuf, Function)>, String> {
     let files = files(first, load)?;
+    let is_open = files.iter().any(|file| file.open);
     let shown: HashSet<String> = files.iter().flat_map(|file| file.items.shown.iter().cloned()).collect();
     let mut public = Vec::new();
     for File { path, open, items } in files {
         for function in items.functions {
             // `pub use inner::f;` makes f public although `mod inner;` is not, and `pub use inner::T;` T's methods.
-            let is_shown = shown.contains(function.name.split("::").next().unwrap_or(""));
+            let is_shown = is_open && shown.contains(function.name.split("::").next().unwrap_or(""));
             if function.exported || function.is_pub && (open && function.open || is_shown) {
                 public.push((path.clone(), function));
             }
@@ -325,10 +373,12 @@ fn public_functions(first: &Path, load: Load) -> Result<Vec<(PathBuf, Function)>
     Ok(public)
 }
 
-/// The first files of the library crates.
-fn libraries() -> Result<Vec<PathBuf>, String> {
+/// The first files of the crates: of libraries src/lib.rt, and of programs src/main.rt.
+fn first_files() -> Result<Vec<PathBuf>, String> {
     let crates = fs::read_dir("crates").map_err(|error| format!("cannot list crates/: {error}"))?;
-    let mut found: Vec<PathBuf> = crates.flatten().map(|entry| entry.path().join("src/lib.rt")).collect();
+    let firsts = ["src/lib.rt", "src/main.rt"];
+    let mut found: Vec<PathBuf> =
+        crates.flatten().flat_map(|entry| firsts.map(|first| entry.path().join(first))).collect();
     found.retain(|file| file.exists());
     found.sort();
     Ok(found)
@@ -337,8 +387,8 @@ fn libraries() -> Result<Vec<PathBuf>, String> {
 /// Lists the functions that lack something and prints the counts; gives how many those are.
 fn report() -> Result<usize, String> {
     let (mut total, mut lacking) = (0, 0);
-    for library in libraries()? {
-        for (file, function) in public_functions(&library, &|path| fs::read_to_string(path).ok())? {
+    for first in first_files()? {
+        for (file, function) in public_functions(&first, &|path| fs::read_to_string(path).ok())? {
             let faults = function.faults();
             if !faults.is_empty() {
                 println!("{}:{}: {}: {}", file.display(), function.line, function.name, faults.join(", "));
@@ -370,7 +420,7 @@ mod tests {
     fn public(files: &[(&str, &str)]) -> Vec<String> {
         let load =
             |path: &Path| files.iter().find(|(name, _)| Path::new(name) == path).map(|(_, text)| text.to_string());
-        let functions = public_functions(Path::new("src/lib.rt"), &load).expect("every file is there");
+        let functions = public_functions(Path::new(files[0].0), &load).expect("every file is there");
         functions.iter().map(|(_, function)| format!("{}: {}", function.name, function.faults().join(", "))).collect()
     }
 
@@ -423,10 +473,61 @@ mod tests {
 
     #[test]
     fn methods_of_a_public_trait_are_public() {
-        let source = "pub trait T: U { ghost m: { ℕ }; fn f() requires { a } ensures { b }; fn g() ensures { c } {} }";
-        assert_eq!(public_in(source), ["T::f: has a requires", "T::g: "]);
-        assert!(public_in("trait T { fn f(); } mod inner { pub trait U { fn g(); } }").is_empty());
-        assert_eq!(public_in("mod inner { pub trait T { fn f(); } } pub use inner::T;"), ["T::f: no ensures"]);
+        let method =
+            |clauses: &str| public_in(&format!("pub trait T: Copy {{ ghost m: {{ ℕ }}; fn f(self) {clauses} }}"));
+        assert_eq!(method(";"), ["T::f: no ensures"]);
+        assert_eq!(method("ensures { m self };"), ["T::f: "]);
+        assert_eq!(method("ensures { m self } { g() }"), ["T::f: "]);
+        assert_eq!(method("requires { a } ensures { b };"), ["T::f: has a requires"]);
+        assert_eq!(method("ensures { a }; fn g(self) -> u8;"), ["T::f: ", "T::g: no ensures"]);
+        assert!(public_in("trait T { fn f(self); } impl T for u8 { fn f(self) {} }").is_empty());
+        assert!(public_in("mod inner { pub trait T { fn f(self); } }").is_empty());
+        assert_eq!(public_in("mod inner { pub trait T { fn f(self); } } pub use inner::T;"), ["T::f: no ensures"]);
+        assert_eq!(
+            public_in("pub trait T { fn f(self) ensures { a }; } fn g() {} pub fn h() {}"),
+            ["T::f: ", "h: no ensures"]
+        );
+    }
+
+    #[test]
+    fn a_conversion_has_its_member() {
+        let conversion = |head: &str, member: &str| {
+            public_in(&format!("impl {head} {{ type Error = E; {member} fn from(a: A) -> B {{ b }} }}"))
+        };
+        assert_eq!(conversion("From<A> for B", ""), ["B::from: no from_gives"]);
+        assert_eq!(conversion("From<A> for B", "ghost from_gives = { λ a r. r ≡ b_of a };"), ["B::from: "]);
+        assert_eq!(conversion("TryFrom<A> for B", "ghost from_gives = { G };"), ["B::from: no try_from_gives"]);
+        assert_eq!(conversion("TryFrom<A> for B", "ghost try_from_gives = { G };"), ["B::from: "]);
+        assert_eq!(conversion("From<A> for B", "// ghost from_gives = { G };\n"), ["B::from: no from_gives"]);
+        assert!(conversion("Shows<A> for B", "").is_empty());
+    }
+
+    #[test]
+    fn a_conversion_is_public_everywhere() {
+        let source = "mod inner { impl From<A> for B { fn from(a: A) -> B { b } } }";
+        assert_eq!(public_in(source), ["B::from: no from_gives"]);
+        let program = [("src/main.rt", "mod inner; pub fn f() {} fn main() {}"), ("src/inner.rt", source)];
+        assert_eq!(public(&program), ["B::from: no from_gives"]);
+    }
+
+    #[test]
+    fn a_member_is_that_of_its_own_impl() {
+        let without = "impl From<A> for B { fn from(a: A) -> B { g(); ghost from_gives = { G } } }";
+        let with = "impl From<A> for u8 { ghost from_gives = { G }; fn from(a: A) -> u8 { 1 } }";
+        assert_eq!(public_in(&format!("{without} {with}")), ["B::from: no from_gives", "u8::from: "]);
+        assert_eq!(public_in(&format!("{with} {without}")), ["u8::from: ", "B::from: no from_gives"]);
+    }
+
+    #[test]
+    fn a_conversion_is_known_by_its_trait() {
+        let header_of = |source: &str| {
+            let tokens = tokens(source);
+            let (of, owner) = header(&tokens);
+            format!("{} {owner}", of.unwrap_or("none"))
+        };
+        assert_eq!(header_of("<'a, F: Fn(u8) -> u8> From<F> for Reader<'a, F> where F: Copy"), "From Reader");
+        assert_eq!(header_of("core::convert::TryFrom<Cursor<m::State>> for m::Kind"), "TryFrom Kind");
+        assert_eq!(header_of("<T: From<u8>> Wrapped<T>"), "none Wrapped");
     }
 
     #[test]
