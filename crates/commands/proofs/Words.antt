@@ -1,7 +1,7 @@
 -- The words of a line: where a stretch ends, and two lists of bytes compared from their start. Assumes nothing.
 use Prim.Native.Nat.{ℕ, suc, ◌+◌, ◌-◌, ◌<◌, ◌≤◌}
 use mathlib.Core.Path.{◌≡◌, refl, sym, ap, ◌∙◌}
-use mathlib.Core.Bool.{Bool, true, false, beq, cond, not, ◌&&◌}
+use mathlib.Core.Bool.{Bool, true, false, beq, cond, not, ◌&&◌, and-false}
 use mathlib.Core.List.{List, [], ◌∷◌}
 use native.Mathlib.Omega.{arith}
 use native.Mathlib.Numerals.{add-one}
@@ -69,6 +69,14 @@ said-by line {from} {to} {rest} {verb} f t r v =
     let q : from ≡ stretch true line = omega arith in
     let s : to - from ≡ stretch false (drop from line) = omega arith in
     rw (v, r, s, t, q)
+
+-- two lists of other lengths
+pub not_same : (word name : List ℕ) → (length word ≡ length name → ⊥) → false ≡ same word name
+unfolding same
+not_same [] [] h = absurd (h refl)
+not_same [] (y ∷ ys) h = refl
+not_same (x ∷ xs) [] h = refl
+not_same (x ∷ xs) (y ∷ ys) h = rw (← not_same xs ys (λ e. h (ap suc e)), and-false (eqb x y))
 
 -- what `==` computes
 pub same-pointwise : (word name : List ℕ) → pointwise eqb word name ≡ same word name

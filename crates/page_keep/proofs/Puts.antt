@@ -24,6 +24,10 @@ pub sets_then : (out₀ out out' p q : List ℕ) (at to : ℕ) → out ≡ sets 
     to q → out' ≡ sets out₀ at (p ++ q)
 sets_then out₀ out out' p q at to d e f = f ∙ ap (λ (o : List ℕ). sets o to q) d ∙ sets-on out₀ p q at to e
 
+-- elements that are others by another name
+pub sets-as : (out out' p q : List ℕ) (at : ℕ) → out' ≡ sets out at p → p ≡ q → out' ≡ sets out at q
+sets-as out out' p q at e f = e ∙ ap (λ (l : List ℕ). sets out at l) f
+
 -- one element more of a list
 pub sets-next :
     (out₀ out bytes : List ℕ) (at i : ℕ) → i < length bytes → out ≡ sets out₀ at (take i bytes) →
@@ -50,6 +54,19 @@ pub length_digits : (base k x : ℕ) → length (digits base k x) ≡ k
 unfolding digits
 length_digits base zero x = refl
 length_digits base (suc k) x = rw (length_digits base k x)
+
+-- seven decimal digits are those of what is below ten million
+pub seven-digits : (x y : ℕ) → x % 10000000 ≡ y % 10000000 → digits 10 7 x ≡ digits 10 7 y
+unfolding digits
+seven-digits x y e =
+    let d6 : x / 10 ^ 6 % 10 ≡ y / 10 ^ 6 % 10 = omega (arith, e) in
+    let d5 : x / 10 ^ 5 % 10 ≡ y / 10 ^ 5 % 10 = omega (arith, e) in
+    let d4 : x / 10 ^ 4 % 10 ≡ y / 10 ^ 4 % 10 = omega (arith, e) in
+    let d3 : x / 10 ^ 3 % 10 ≡ y / 10 ^ 3 % 10 = omega (arith, e) in
+    let d2 : x / 10 ^ 2 % 10 ≡ y / 10 ^ 2 % 10 = omega (arith, e) in
+    let d1 : x / 10 ^ 1 % 10 ≡ y / 10 ^ 1 % 10 = omega (arith, e) in
+    let d0 : x / 10 ^ 0 % 10 ≡ y / 10 ^ 0 % 10 = omega (arith, e) in
+    rw (d6, d5, d4, d3, d2, d1, d0)
 
 pub length-groups : (k : ℕ) (xs : List ℕ) → length (groups k xs) ≡ length xs * k
 unfolding groups
