@@ -33,11 +33,11 @@ pub fn word(s: &[u8], from: usize, bytes: &[u8]) -> Found
     ensures { passed_in s.now result ≡ literal bytes.now (drop from s.now) from }
 {
     let mut at = from;
-    for b in bytes {
+    for i in 0..bytes.len() {
         if s.len() <= at {
             return not_found(at);
         }
-        if s[at] != *b {
+        if s[at] != bytes[i] {
             return not_found(at);
         }
         at += 1;
