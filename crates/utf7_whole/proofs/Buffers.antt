@@ -6,7 +6,7 @@ use mathlib.Core.List.{List, [], ◌∷◌, ◌++◌, append-nil}
 use native.Mathlib.Nat.{add-zero, zero-add}
 use native.Mathlib.Omega.{arith}
 use lib.ListN.{length, get_or, take, drop, set, length-append, length-drop, length-take, replicate, get_or-eq_default}
-use lib.Seq.{slice, length-slice, length-take-le, take-take, take_at, take-add, take-length, ext_get_or}
+use lib.Seq.{slice, length-slice, length-take-le, take-take, take_at, take-add, take-length, ext_get_or, get_or-set_other}
 use lib.Dec.{ltb}
 use borrow.Author.Tests.{ltb-true, ltb-false, lt-ltb, ne_eqb}
 use Rattle.answer.proofs.Laid.{Laid, laid_none, laid_one, laid_on, laid-front}
@@ -19,7 +19,7 @@ use Rattle.reading.proofs.Strides.{Stride, stride-give, left-stride}
 use Rattle.utf7.specs.Sets.{alphanumeric, set_d, set_o, direct}
 use Rattle.utf7.specs.Rule.{outside, utf7}
 use Rattle.utf7_whole.specs.Quick.{Padded, FilledBy, Filled, Fills, Marked, Span, Ahead, Letters, Run, Values, One, Went, Last, units_between, past, units_of, lows, closes, stops}
-use Rattle.utf7_whole.proofs.Tokens.{span-stay, span-on, span-ahead, ahead-as, length-units, no-unit, units-split, units-front, known, Known, ends-closed, closed-by, three-run, one_unit, slice_at, slice-rest, some_at, direct-stride, sign-stride, run-stride}
+use Rattle.utf7_whole.proofs.Tokens.{span-stay, span-on, span-ahead, ahead-as, length-units, no-unit, units-split, units-front, set_more, known, Known, ends-closed, closed-by, three-run, one_unit, slice_at, slice-rest, some_at, direct-stride, sign-stride, run-stride}
 
 -- a front that is all
 pub all-front : {xs ys : List ℕ} → length xs ≡ length ys → take (length ys) xs ≡ ys → xs ≡ ys
@@ -237,6 +237,28 @@ module _ (s : List ℕ) (from at to : ℕ) (h : from ≤ at) (k : at ≤ to) (l 
       rw (slice-join s from at to h k l) (take_at (slice from at s) (slice at to s) (length (slice from at s)) refl) in
       let w : length (slice from at s) ≤ length (slice from to s) = omega (arith, length-slice from at s (omega arith), length-slice from to s l) in
       rw e at (laid-front (length (slice from at s)) p q w)
+
+-- a room of zeros that has the first k bytes of a text
+pub record Padding (s : List ℕ) (k : ℕ) (room : List ℕ) : Type 0 where
+  pub upto : (i : ℕ) → i < k → get_or room i 0 ≡ get_or s i 0
+  pub behind : (i : ℕ) → k ≤ i → get_or room i 0 ≡ 0
+
+pub padding-start : (s room : List ℕ) → ((i : ℕ) → get_or room i 0 ≡ 0) → Padding s 0 room
+padding-start s room z = record { upto = λ i h. absurd (omega arith); behind = λ i h. z i }
+
+pub padding-more : {s room : List ℕ} {k : ℕ} → Padding s k room → k < length room → Padding s (k + 1) (set room k (get_or s k 0))
+padding-more {s} {room} {k} p h =
+    record {
+      upto = set_more room k (get_or s k 0) (λ i x. x ≡ get_or s i 0) h p.upto refl;
+      behind = λ i l. get_or-set_other room k i (get_or s k 0) 0 (λ e. omega arith) ∙ p.behind i (omega arith);
+    }
+
+pub padding-done : {s room : List ℕ} {k : ℕ} → Padding s k room → k ≡ length s → Padded s room
+padding-done {s} {room} {k} p e = record { same = λ i. by i (ltb i k) refl }
+  where
+    by : (i : ℕ) (t : Bool) → ltb i k ≡ t → get_or room i 0 ≡ get_or s i 0
+    by i true q = p.upto i (ltb-true i k q)
+    by i false q = p.behind i (ltb-false i k q) ∙ sym (get_or-eq_default s 0 (omega (arith, ltb-false i k q)))
 
 pub padded-self : (s : List ℕ) → Padded s s
 padded-self s = record { same = λ i. refl }

@@ -16,13 +16,16 @@ use answer::{Answer, Refusal, Refused};
 use reading::Move;
 use utf7_read::State;
 
-// A text goes to the front of a room of zeros.
+// A text goes to the front of a room of zeros. A loop, since the archive for C asks for memcpy and memset alone, and
+// `copy_from_slice` calls memmove here.
 fn pad(text: &[u8], room: &mut [u8])
     requires text_in_bounds { length text.now ≤ length room.old }
     requires by_index { (i : ℕ) → get_or room.old i 0 ≡ 0 }
     ensures { Padded text.now room.new }
 {
-    room[..text.len()].copy_from_slice(text);
+    for k in 0..text.len() {
+        room[k] = text[k];
+    }
 }
 
 // Reads a text, which is lent with zeros behind it too, into a buffer that has a place for every cell. The cells stand
@@ -50,13 +53,15 @@ fn decode(text: &[u8], room: &[u8], out: &mut [u32]) -> Answer
     utf7_read::ends_in(text.len(), n, st)
 }
 
-// The first n cells go to the front of the output.
+// The first n cells go to the front of the output, by a loop, as `pad` does.
 fn copy(cells: &[u32], n: usize, out: &mut [u32])
     requires n_in_bounds { n ≤ length cells.now }
     requires n_in_bounds_2 { n ≤ length out.old }
     ensures { out.new ≡ filled (take n cells.now) out.old }
 {
-    out[..n].copy_from_slice(&cells[..n]);
+    for k in 0..n {
+        out[k] = cells[k];
+    }
 }
 
 // Reads a text by way of a room of zeros and a buffer that have a place for every byte. The whole text is judged before
