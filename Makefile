@@ -53,7 +53,8 @@ target/examples/%_cxx: examples/%.c $(header) $(archive)
 	mkdir -p $(@D)
 	$(CXX) -std=c++11 $(strict) -x c++ $< -x none $(archive) -o $@
 
-# The examples in C99, and in C++ where there is a compiler for it: what they print is examples/*.txt.
+# The examples in C99, and in C++ where there is a compiler for it: what they print is examples/*.txt. And what the archive
+# needs from outside, which a host must have.
 examples = target/examples/worked_page target/examples/two_benches target/examples/where
 test-c: $(examples) $(if $(shell command -v $(CXX) 2>/dev/null),$(examples:=_cxx))
 	for built in $^; do \
@@ -61,6 +62,7 @@ test-c: $(examples) $(if $(shell command -v $(CXX) 2>/dev/null),$(examples:=_cxx
 	    if [ -f examples/$$name.sh ]; then sh examples/$$name.sh $$built; else $$built; fi >$$built.out && \
 	    diff examples/$$name.txt $$built.out || exit 1; \
 	done
+	test "$$(nm -u $(archive) | awk 'NF == 2 { print $$2 }' | sort -u | xargs)" = 'memcpy memset'
 
 test-rust: $(archive)
 	QALITHONDA_LIB='$(CURDIR)/target/staticlib' cargo test --quiet --offline --locked \
