@@ -4,7 +4,8 @@
 pub mod escapes;
 mod past;
 
-ghost use Rattle.std.specs.Prelude.{◌≡◌, true, false, cond, ◌&&◌, ◌||◌, [], ◌∷◌, ℕ, ◌+◌, ◌*◌, ◌^◌, ◌<◌, ◌≤◌, length, eqb, IfSome};
+ghost use Rattle.std.specs.Prelude.{◌≡◌, true, false, cond, ◌&&◌, ◌||◌, [], ◌∷◌, length, eqb, IfSome};
+ghost use Rattle.std.specs.Prelude.{ℕ, ◌+◌, ◌*◌, ◌^◌, ◌<◌, ◌≤◌};
 ghost use Rattle.answer.specs.Answer.{in_numbers};
 ghost use Rattle.reading.specs.Reading.{give, closing};
 ghost use Rattle.reading.specs.Stepping.{at_start};
@@ -444,7 +445,7 @@ impl Decoder for State {
         }
     }
 
-    // To a cell that comes next, also past designations.
+    // To a cell that comes next, also past designations. From the settled state, as a step of each reader goes.
     fn get_ahead(self, text: &[u8], from: usize) -> Ahead<State> {
         let st = self.settled();
         let a = to_cell(text, from, st);

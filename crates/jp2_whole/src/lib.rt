@@ -50,8 +50,8 @@ fn decode(text: &[u8], from: quick::Reached, out: &mut [u32])
     }
 }
 
-// The first n cells go to the front of the output. A loop, since the archive for C asks for memcpy and memset alone, and
-// `copy_from_slice` calls memmove here.
+// The first n cells go to the front of the output. A loop, since the archive for C asks for memcpy and memset alone,
+// and `copy_from_slice` calls memmove here.
 fn copy(cells: &[u32], n: usize, out: &mut [u32])
     requires n_in_bounds { n ≤ length cells.now }
     requires n_in_bounds_2 { n ≤ length out.old }

@@ -6,7 +6,8 @@ ghost use Rattle.parsing.specs.Digits.{digit, digits, groups, LF};
 ghost use Rattle.page_file.specs.Inner.{form_if};
 ghost use Rattle.page_keep.specs.Inner.{decimal};
 
-// These bytes. A loop, since the archive for C asks for memcpy and memset alone, and `copy_from_slice` calls memmove here.
+// These bytes. A loop, since the archive for C asks for memcpy and memset alone, and `copy_from_slice` calls memmove
+// here.
 pub fn put_bytes(bytes: &[u8], out: &mut [u8], at: usize) -> usize
     requires { at + length bytes.now ≤ length out.old }
     ensures { (result ≡ at + length bytes.now)
