@@ -2,7 +2,7 @@
 #
 #   make                      target/staticlib/libqalithonda.a, target/shared/libqalithonda.so and target/examples/where
 #   make programs             the listers, desk and same_letter, in target/bin
-#   make test-bindings        the C examples, and the tests of the Rust and Python bindings
+#   make test-bindings        the C examples, what the archive needs, and the tests of the Rust and Python bindings
 #   make install PREFIX=..    the header and both libraries, in PREFIX/include and PREFIX/lib
 #   make clean                removes what make has built; what was proved stays
 
