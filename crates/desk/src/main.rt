@@ -38,7 +38,7 @@ fn has(rt: &HostRuntime, i: usize) -> bool {
 fn file_name(rt: &HostRuntime, path: &mut [u8]) -> Option<usize>
     ensures { IfSome result (λ n. n ≤ length path.new) }
 {
-    let named = whole_file::argument(rt, 2, path);
+    let named = whole_file::process_argument(rt, 2, path);
     named.inspect_err(|e| replies::fail(rt, b"FILE", *e)).ok()
 }
 

@@ -48,7 +48,7 @@ fn letter(rt: &HostRuntime, i: usize, buf: &mut [u8]) -> Option<usize>
     ensures { IfSome result (λ n. n ≤ length buf.new) }
 {
     let mut path = [0u8; 4096];
-    let named = whole_file::argument(rt, i, &mut path);
+    let named = whole_file::process_argument(rt, i, &mut path);
     let n = named.inspect_err(|e| fail(rt, b"FILE", *e)).ok()?;
     let read = whole_file::read(rt, &path[..n], buf);
     read.inspect_err(|e| fail(rt, &path[..n], *e)).ok()

@@ -40,7 +40,7 @@ pub fn read_some<R: Read>(input: &mut R, buf: &mut [u8]) -> io::Result<usize>
 // An argument of the program, which names a file, and how many bytes it has; or the system's fault for one that is not
 // there, or longer than the buffer.
 // (It takes the process's own runtime: by any `Env` a program would reach the contracts of all that an `Env` can do.)
-pub fn argument(rt: &HostRuntime, i: usize, buf: &mut [u8]) -> io::Result<usize>
+pub fn process_argument(rt: &HostRuntime, i: usize, buf: &mut [u8]) -> io::Result<usize>
     ensures within { IfOk result (λ n. n ≤ length buf.new) }
     ensures fault { IfErr result (λ e. (raw_os_error e ≡ Some (pos 22)) ⊎ (raw_os_error e ≡ Some (pos 36))) }
 {
