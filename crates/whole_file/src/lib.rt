@@ -37,9 +37,21 @@ pub fn read_some<R: Read>(input: &mut R, buf: &mut [u8]) -> io::Result<usize>
     Err(Error::from(ErrorKind::TimedOut))
 }
 
-// An argument of the program, which names a file, and how many bytes it has; or the system's fault for one that is not
-// there, or longer than the buffer.
-// (It takes the process's own runtime: by any `Env` a program would reach the contracts of all that an `Env` can do.)
+// An argument, which names a file, and how many bytes it has; or the system's fault for one that is not there, or
+// longer than the buffer.
+pub fn argument<E: Env>(rt: &E, i: usize, buf: &mut [u8]) -> io::Result<usize>
+    ensures within { IfOk result (λ n. n ≤ length buf.new) }
+    ensures fault { IfErr result (λ e. (raw_os_error e ≡ Some (pos 22)) ⊎ (raw_os_error e ≡ Some (pos 36))) }
+{
+    match rt.arg(i, buf) {
+        Ok(size) => Ok(size),
+        Err(FillError::NotPresent) => Err(Error::from_raw_os_error(EINVAL)),
+        Err(FillError::TooLong) => Err(Error::from_raw_os_error(ENAMETOOLONG)),
+    }
+}
+
+// The same of the process's own arguments, for programs. (A function of its own, since by any `Env` a program would
+// reach the contracts of all that an `Env` can do.)
 pub fn process_argument(rt: &HostRuntime, i: usize, buf: &mut [u8]) -> io::Result<usize>
     ensures within { IfOk result (λ n. n ≤ length buf.new) }
     ensures fault { IfErr result (λ e. (raw_os_error e ≡ Some (pos 22)) ⊎ (raw_os_error e ≡ Some (pos 36))) }
@@ -86,4 +98,53 @@ pub fn read_full<R: Read>(input: &mut R, buf: &mut [u8]) -> (usize, io::Result<(
         }
     }
     (at, Ok(()))
+}
+
+#[cfg(test)]
+mod tests {
+    use super::*;
+
+    // An environment with one argument, at place 1.
+    struct OneWord;
+
+    impl Env for OneWord {
+        fn arg(&self, i: usize, buf: &mut [u8]) -> Result<usize, FillError> {
+            if i != 1 {
+                return Err(FillError::NotPresent);
+            }
+            if buf.len() < 2 {
+                return Err(FillError::TooLong);
+            }
+            buf[0] = b'h';
+            buf[1] = b'i';
+            Ok(2)
+        }
+
+        fn var(&self, _name: &str, _buf: &mut [u8]) -> Result<usize, FillError> {
+            Err(FillError::NotPresent)
+        }
+
+        fn var_at(&self, _i: usize, _buf: &mut [u8]) -> Result<usize, FillError> {
+            Err(FillError::NotPresent)
+        }
+    }
+
+    // What no contract says: which argument comes, and which of the two faults.
+    #[test]
+    fn takes_any_env(rt: HostRuntime) -> io::Result<()> {
+        let mut word = [0u8; 4];
+        let n = argument(&OneWord, 1, &mut word)?;
+        assert!(rt; word[..n].starts_with(b"hi"));
+        assert!(rt; n == 2);
+        let missing = argument(&OneWord, 2, &mut word).err();
+        assert!(rt; missing.and_then(|e| e.raw_os_error()) == Some(EINVAL));
+        let long = argument(&OneWord, 1, &mut word[..1]).err();
+        assert!(rt; long.and_then(|e| e.raw_os_error()) == Some(ENAMETOOLONG));
+        let mut any = [0u8; 4096];
+        let mut own = [0u8; 4096];
+        let named = argument(&rt, 0, &mut any)?;
+        assert!(rt; named == process_argument(&rt, 0, &mut own)?);
+        assert!(rt; any == own);
+        Ok(())
+    }
 }
