@@ -9,7 +9,7 @@ use Rattle.reading.proofs.Decoding.{begun, moved, cell-told}
 use Rattle.reading.proofs.step_on.Goals as goal
 
 pub loop-at-init : goal.loop-at-init
-loop-at-init g c = (begun g.D.Decoder.code _ _ _, c.requires)
+loop-at-init g c = (begun g.D.Decoder.code _ _ _, λ h. h, c.requires)
 
 pub returns-in-Give : goal.returns-in-Give
 returns-in-Give g c =
@@ -21,7 +21,7 @@ returns-in-Give g c =
 pub loop-at-preserved : goal.loop-at-preserved
 loop-at-preserved g c =
     let m = moved {code = g.D.Decoder.code} c.feed.ensures c.in-Go.is in
-    (going-go c.loop-at.invariant.0 c.loop-at-test.true m.0, omega arith)
+    (going-go c.loop-at.invariant.0 c.loop-at-test.true m.0, λ h. m.1, omega arith)
 
 pub returns-in-Bad : goal.returns-in-Bad
 returns-in-Bad g c =
